@@ -1,10 +1,11 @@
 -- What is granted of the rights that were asked for.
-use Rattle.std.specs.Prelude.{ℕ, Bool, true, false, ◌==◌, ◌-◌, ◌^◌, Option, None, Some, bit_and, bit_or, if◌then◌else◌}
+use Rattle.std.specs.Prelude.{ℕ, Bool, true, false, Option, None, Some, bit_or, if◌then◌else◌}
 use Rattle.access_mask.specs.declared.granting.Mapping.{Mapping}
 use Rattle.scm_model.specs.declared.flat.Principal.{Principal}
 use Rattle.scm_model.specs.declared.flat.Principal.TheVariants.{Admin, User}
 use Rattle.scm_model.specs.declared.codes.TheConstants.{GENERIC_ALL, GENERIC_EXECUTE, GENERIC_READ, GENERIC_WRITE, MAXIMUM_ALLOWED}
 use Rattle.scm_model.specs.declared.codes.TheConstants.{SC_MANAGER_ALL_ACCESS, SC_MANAGER_CONNECT, SERVICE_ALL_ACCESS, SERVICE_SET_STATUS}
+use Rattle.scm_text.specs.Numbers.{has_bits, without_bits}
 
 -- what the generic rights stand for: of the manager where true, else of a service
 abbrev pub mapping_of : Bool → Mapping
@@ -18,20 +19,13 @@ rights_of Admin false = bit_or SERVICE_ALL_ACCESS SERVICE_SET_STATUS
 rights_of User true = 0x20015
 rights_of User false = 0x2008D
 
--- whether the mask has each of the bits
-abbrev pub has_bits : ℕ → ℕ → Bool
-has_bits mask bits = bit_and mask bits == bits
-
-abbrev pub without : ℕ → ℕ → ℕ
-without mask bits = bit_and mask (2 ^ 32 - 1 - bits)
-
 -- what a generic bit stands for, where it is asked for
 abbrev pub mapped : ℕ → ℕ → ℕ → ℕ
 mapped desired generic mapping = if has_bits desired generic then mapping else 0
 
 abbrev pub map_by : Mapping → ℕ → ℕ
 map_by mapping desired =
-    bit_or (without desired 0xF0000000) (
+    bit_or (without_bits desired 0xF0000000) (
     bit_or (mapped desired GENERIC_READ mapping.read) (
     bit_or (mapped desired GENERIC_WRITE mapping.write) (
     bit_or (mapped desired GENERIC_EXECUTE mapping.execute) (mapped desired GENERIC_ALL mapping.everything))))
@@ -42,7 +36,7 @@ map_generic manager desired = map_by (mapping_of manager) desired
 
 -- whether each bit but that one is among the rights
 abbrev pub is_allowed : ℕ → ℕ → Bool
-is_allowed mask rights = has_bits rights (without mask MAXIMUM_ALLOWED)
+is_allowed mask rights = has_bits rights (without_bits mask MAXIMUM_ALLOWED)
 
 -- all rights where they are asked for, else those that are asked for
 abbrev pub chosen : ℕ → ℕ → ℕ

@@ -416,7 +416,7 @@ pub const REPLIES: [Told; 24] = [
 
 /// Bodies of `RChangeServiceConfig2W`, and the form in which what they ask is written.
 pub const OTHER_FORMS: [(&str, &str); 5] = [
-    // Any bytes behind a level that isn't served.
+    // Any bytes after a level that isn't served.
     (
         "0000 0000 0100 0000 0000 0000 0000 0000 0000 0000 0500 0000 0500 0000 0102 0304 0506",
         "0000 0000 0100 0000 0000 0000 0000 0000 0000 0000 0500 0000 0500 0000",
@@ -442,7 +442,7 @@ pub const OTHER_FORMS: [(&str, &str); 5] = [
         "0000 0000 0100 0000 0000 0000 0000 0000 0000 0000 0800 0000 0800 0000 0000 0200 0000 \
          0000 0000 0000 0000 0000",
     ),
-    // Two bytes behind the text, up to a multiple of 4.
+    // Two bytes after the text, up to a multiple of 4.
     (
         "0000 0000 0100 0000 0000 0000 0000 0000 0000 0000 0100 0000 0100 0000 0000 0200 0400 \
          0200 0300 0000 0000 0000 0300 0000 4100 6200 0000 0101",
@@ -452,7 +452,7 @@ pub const OTHER_FORMS: [(&str, &str); 5] = [
 ];
 
 pub const NO_REQUESTS: [Refused; 17] = [
-    // A unit behind the last 0.
+    // A unit after the last 0.
     (
         16,
         "0000 0000 0100 0000 0000 0000 0000 0000 0000 0000 0300 0000 0000 0000 0300 0000 4400 \
@@ -474,7 +474,7 @@ pub const NO_REQUESTS: [Refused; 17] = [
         "0000 0000 0100 0000 0000 0000 0000 0000 0000 0000 0120 0000",
         BodyFault::BadCount(20),
     ),
-    // Four bytes behind the last item.
+    // Four bytes after the last item.
     (
         0,
         "0000 0000 0100 0000 0000 0000 0000 0000 0000 0000 0000 0000",
@@ -555,7 +555,7 @@ pub const NO_REQUESTS: [Refused; 17] = [
          0001 0203 0405 0607 0809 0a0b",
         BodyFault::Short(68),
     ),
-    // Four bytes behind a null pointer.
+    // Four bytes after a null pointer.
     (
         37,
         "0000 0000 0100 0000 0000 0000 0000 0000 0000 0000 0300 0000 0300 0000 0000 0000 0000 \

@@ -22,7 +22,7 @@ fn word(words: Words, place: usize) -> &'static str {
     words.get(place).copied().unwrap_or("")
 }
 
-/// The words behind the first.
+/// The words after the first.
 fn behind(words: Words) -> Words {
     words.get(1..).unwrap_or(&[])
 }
@@ -128,7 +128,7 @@ fn new_service(alloc: Global, words: Words) -> NewService {
     }
 }
 
-/// Actions, two words each. A `-` is for none that are told of.
+/// Actions, two words each. A `-` is for a null pointer to actions.
 fn actions(alloc: Global, words: Words) -> Option<Items<Action>> {
     if word(words, 0) == "-" {
         return None;
@@ -356,7 +356,7 @@ fn notice(alloc: Global, words: Words) -> Reply {
     }
 }
 
-/// What a reply of the call tells. A configuration stands behind what it needs and the code.
+/// What a reply of the call holds. A configuration comes after the size that it needs and the code.
 pub fn reply(alloc: Global, opnum: u16, words: Words) -> Reply {
     match opnum {
         R_CONTROL_SERVICE | R_QUERY_SERVICE_STATUS => Reply::State {

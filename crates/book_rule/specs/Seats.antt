@@ -98,7 +98,7 @@ module _ {H : Type 0} where
       pub out : s.me.1 ≡ (0, Some content) ∷ []
       pub fits : w.fits b.opening s.me.0.seen (box_value content)
 
-    -- what the holder has stands one entry behind all that the seat has seen
+    -- the history of what the holder has is what the seat has seen, and one entry more
     pub record IsOneMore (b : Identity) (v : View) (h : Box H Global) : Type 0 where
       pub entry : Entry
       pub trail : w.trail (box_value h) ≡ v.seen ++ entry ∷ []

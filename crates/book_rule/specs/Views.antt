@@ -1,4 +1,4 @@
--- What a seat knows behind each of its steps.
+-- What a seat knows after each of its steps.
 use Rattle.std.specs.Prelude.{ℕ, zero, suc, true, false, List, [], ◌∷◌, ◌++◌, length, Some, None, cond, nat_lt}
 use Rattle.scm_model.specs.Entries.{Entry}
 use Rattle.book_rule.specs.declared.view.Opening.{Opening}

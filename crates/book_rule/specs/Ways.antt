@@ -17,8 +17,8 @@ pub record Protocol (X : Type 0) : Type 1 where
   pub run : Opening → List Entry → Type 0  -- a history is legal
   pub lives : Opening → List Entry → ℕ → Type 0  -- a caller has joined and hasn't gone
   pub names : Entry → List Name  -- whom an entry names
-  pub makes : Opening → List Entry → Entry → List Name  -- whom it makes behind a history
-  pub whose : Opening → List Entry → ℕ → Entry → ℕ  -- whose a seat is that made it behind a history
+  pub makes : Opening → List Entry → Entry → List Name  -- whom it makes after a history
+  pub whose : Opening → List Entry → ℕ → Entry → ℕ  -- whose the seat is that made it after a history
 
 module _ {X : Type 0} (w : Protocol X) where
   -- the entry at a place of a history made this one

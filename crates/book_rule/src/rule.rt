@@ -13,7 +13,7 @@ pub trait Guarded: Drop {
     ghost way: { Protocol Self };
 }
 
-/// The slot of the table. It is empty while a call has the content in hand.
+/// The slot of the table. It is empty while a call holds the content.
 pub type Slot<H> = Option<Box<H>>;
 
 /// The rule of the turn. The table's key is the content as it was at the opening.

@@ -1,4 +1,4 @@
--- What many threads leave behind.
+-- What is true after the runs of many threads.
 use Rattle.std.specs.Prelude.{◌≡◌, ◌≢◌, ℕ, zero, suc, ◌+◌, List, [], ◌∷◌, map, All}
 use mathlib.Core.List.{IsPrefix}
 use Rattle.scm_model.specs.Entries.{Entry}

@@ -88,7 +88,7 @@ impl Roll {
         self.callers
     }
 
-    /// Adds a line. Want of memory is told of a roll with as many lines as it may have, too.
+    /// Adds a line. It fails if it is out of memory, or has as many lines as it may have.
     pub fn add(&mut self, line: Line) -> Result<(), AllocError>
         ensures ok { OnOk result ((length self.old < MOST)
             × (self.new ≡ self.old ++ entry_of line ∷ [])) }

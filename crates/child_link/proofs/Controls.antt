@@ -7,7 +7,7 @@ use Rattle.std.proofs.lemmas.List.{length-append}
 use Rattle.std.proofs.lemmas.List.Elements.{All-cons, All-nil, All-from_recursion}
 use Rattle.std.proofs.lemmas.List.Splits.{join_with_byte-slice_split}
 use Rattle.std.proofs.lemmas.Slice.Eq.{bytes_eq-Decides}
-use Rattle.child_link.specs.Words.{words_in, nth_word, code_of}
+use Rattle.child_link.specs.Words.{words_in, nth_word, word_code}
 use Rattle.child_link.specs.Lines.{control_in, control_text, code_in, front_of, handed_on}
 use Rattle.child_link.proofs.Splits.{none_some, split_joined}
 use Rattle.child_link.proofs.Reports.{and_then_some, code_read, front_is, front_on, if_some, if_then, joined_short, number_again}
@@ -17,7 +17,7 @@ use Rattle.child_link.proofs.Reports.{words_clean, words_end}
 code_words : (words : List (List ℕ)) (n : ℕ) → code_in words ≡ Some n → (words ≡ decimal n ∷ []) × (n < 2 ^ 32)
 unfolding code_in
 code_words words n e =
-    let at = and_then_some _ (code_of (nth_word words 0)) n e in
+    let at = and_then_some _ (word_code (nth_word words 0)) n e in
     let end = if_some (is_none (nth_word words 1)) at.0 n at.2 in
     let h = code_read words at.0 at.1 in
     subst (λ m. (words ≡ decimal m ∷ []) × (m < 2 ^ 32)) end.1 (h.0 ∙ ap (λ ws. decimal at.0 ∷ ws) (words_end (drop 1 words) end.0), h.1)

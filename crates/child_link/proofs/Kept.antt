@@ -4,7 +4,7 @@ use Rattle.std.proofs.Common.{◌∙◌}
 use Rattle.std.proofs.lemmas.Bool.{cases_lt, eq-eqb, ne_eqb}
 use Rattle.std.proofs.lemmas.List.{length-append, length-take, take-append-le, take_all}
 use Rattle.child_link.specs.Cutting.{kept, kept_line, kept_with}
-use Rattle.child_link.specs.Lines.{handed_on, reported}
+use Rattle.child_link.specs.Lines.{handed_on, stated}
 use Rattle.child_link.proofs.Controls.{control_only, control_short}
 use Rattle.child_link.proofs.Reports.{read_only}
 
@@ -25,8 +25,8 @@ module _ {A : Type 0} (read : List ℕ → Option A) (short : (line : List ℕ) 
   pub kept_is_read : (front : List ℕ) → read (kept_line front) ≡ read (front ++ 10 ∷ [])
   kept_is_read front = kept_as front (cases_lt 4096 (length front))
 
-pub kept_report : (front : List ℕ) → reported (kept_line front) ≡ reported (front ++ 10 ∷ [])
-kept_report = kept_is_read reported (λ line status e. (read_only line status e).short)
+pub kept_report : (front : List ℕ) → stated (kept_line front) ≡ stated (front ++ 10 ∷ [])
+kept_report = kept_is_read stated (λ line status e. (read_only line status e).short)
 
 pub kept_control : (front : List ℕ) → handed_on (kept_line front) ≡ handed_on (front ++ 10 ∷ [])
 kept_control = kept_is_read handed_on (λ line n e. let h = control_only line n e in omega (arith, ap length h.0, control_short n h.1))

@@ -14,10 +14,10 @@ use Rattle.std.proofs.lemmas.List.Splits.{join_with_byte-slice_split}
 use Rattle.std.proofs.lemmas.Slice.Eq.{bytes_eq-Decides}
 use Rattle.std.proofs.Math.Seq.{take-suc, take-length, take-append_seam, get_or-append_seam}
 use Rattle.scm_model.specs.declared.flat.Status.{Status}
-use Rattle.decimal_words.specs.Numbers.{number_at, below, number_below}
+use Rattle.decimal_words.specs.Numbers.{decimal_number, if_below, number_below}
 use Rattle.decimal_words.proofs.Numbers.{number_is}
-use Rattle.child_link.specs.Words.{words_in, nth_word, code_of}
-use Rattle.child_link.specs.Lines.{numbers_of, report_text, IsReport, front_of, line_text, status_in, report_in, reported}
+use Rattle.child_link.specs.Words.{words_in, nth_word, word_code}
+use Rattle.child_link.specs.Lines.{fields_of, report_text, IsReport, front_of, line_text, status_of_words, report_in, stated}
 use Rattle.child_link.proofs.Splits.{IsOneWord, same_some, none_some, split_joined}
 
 -- ## Options
@@ -47,9 +47,9 @@ both_right false c e = absurd (true≢false (sym e))
 
 -- a word is the decimal form of the number that it is read as
 number_text : (limit : ℕ) (text : List ℕ) (n : ℕ) → number_below limit text ≡ Some n → (text ≡ decimal n) × (n < limit)
-unfolding number_below number_at
+unfolding number_below decimal_number
 number_text limit text n e =
-    let at = and_then_some (below limit) (number_at text) n e in
+    let at = and_then_some (if_below limit) (decimal_number text) n e in
     let low = if_some (nat_lt at.0 limit) at.0 n at.2 in
     let value = digits_value 10 text in
     let read = if_some (nat_lt value (2 ^ 64) && bytes_eq text (decimal value)) value at.0 at.1 in
@@ -60,10 +60,10 @@ number_text limit text n e =
 pub number_again : (n : ℕ) → n < 2 ^ 32 → number_below (2 ^ 32) (decimal n) ≡ Some n
 unfolding number_below
 number_again n small =
-    ap (option_and_then (below (2 ^ 32))) (number_is (decimal n) n (omega (arith, small)) refl)
+    ap (option_and_then (if_below (2 ^ 32))) (number_is (decimal n) n (omega (arith, small)) refl)
     ∙ ap (λ b. cond b (Some n) None) (lt-ltb n (2 ^ 32) small)
 
-pub code_read : (words : List (List ℕ)) (n : ℕ) → code_of (slice_get words 0) ≡ Some n → (words ≡ decimal n ∷ drop 1 words) × (n < 2 ^ 32)
+pub code_read : (words : List (List ℕ)) (n : ℕ) → word_code (slice_get words 0) ≡ Some n → (words ≡ decimal n ∷ drop 1 words) × (n < 2 ^ 32)
 code_read [] n e = absurd (none_some None n refl e)
 code_read (word ∷ words) n e = let h = number_text (2 ^ 32) word n e in (ap (λ text. text ∷ words) h.0, h.1)
 
@@ -119,18 +119,18 @@ joined_short word (n ∷ numbers) small =
 
 -- words that are read as a status are its numbers
 abbrev AreNumbers : List (List ℕ) → Status → Type 0
-AreNumbers words status = (words ≡ map decimal (numbers_of status)) × AreSmall (numbers_of status)
+AreNumbers words status = (words ≡ map decimal (fields_of status)) × AreSmall (fields_of status)
 
-status_read : (words : List (List ℕ)) (status : Status) → status_in words ≡ Some status → AreNumbers words status
-unfolding status_in
+status_read : (words : List (List ℕ)) (status : Status) → status_of_words words ≡ Some status → AreNumbers words status
+unfolding status_of_words
 status_read words status e =
-    let a = and_then_some _ (code_of (nth_word words 0)) status e in
-    let b = and_then_some _ (code_of (nth_word words 1)) status a.2 in
-    let c = and_then_some _ (code_of (nth_word words 2)) status b.2 in
-    let d = and_then_some _ (code_of (nth_word words 3)) status c.2 in
-    let f = and_then_some _ (code_of (nth_word words 4)) status d.2 in
-    let g = and_then_some _ (code_of (nth_word words 5)) status f.2 in
-    let h = and_then_some _ (code_of (nth_word words 6)) status g.2 in
+    let a = and_then_some _ (word_code (nth_word words 0)) status e in
+    let b = and_then_some _ (word_code (nth_word words 1)) status a.2 in
+    let c = and_then_some _ (word_code (nth_word words 2)) status b.2 in
+    let d = and_then_some _ (word_code (nth_word words 3)) status c.2 in
+    let f = and_then_some _ (word_code (nth_word words 4)) status d.2 in
+    let g = and_then_some _ (word_code (nth_word words 5)) status f.2 in
+    let h = and_then_some _ (word_code (nth_word words 6)) status g.2 in
     let made : Status = record { kind = a.0; state = b.0; accepted = c.0; win32 = d.0; specific = f.0; checkpoint = g.0; hint = h.0 } in
     let end = if_some (is_none (nth_word words 7)) made status h.2 in
     let A = code_read words a.0 a.1 in
@@ -145,14 +145,14 @@ status_read words status e =
       A.0 ∙ ap (λ ws. decimal a.0 ∷ ws) (B.0 ∙ ap (λ ws. decimal b.0 ∷ ws) (C.0
           ∙ ap (λ ws. decimal c.0 ∷ ws) (D.0 ∙ ap (λ ws. decimal d.0 ∷ ws)
           (F.0 ∙ ap (λ ws. decimal f.0 ∷ ws) (G.0 ∙ ap (λ ws. decimal g.0 ∷ ws) (H.0 ∙ ap (λ ws. decimal h.0 ∷ ws) L)))))),
-      All-from_recursion (λ n. n < 2 ^ 32) (numbers_of made) (A.1, (B.1, (C.1, (D.1, (F.1, (G.1, (H.1, tt))))))),
+      All-from_recursion (λ n. n < 2 ^ 32) (fields_of made) (A.1, (B.1, (C.1, (D.1, (F.1, (G.1, (H.1, tt))))))),
     )
 
 -- and the numbers of a status are read as it
-status_again : (status : Status) → AreSmall (numbers_of status) → status_in (map decimal (numbers_of status)) ≡ Some status
-unfolding status_in
+status_again : (status : Status) → AreSmall (fields_of status) → status_of_words (map decimal (fields_of status)) ≡ Some status
+unfolding status_of_words
 status_again status small =
-    let h = recursion_from_All (λ n. n < 2 ^ 32) (numbers_of status) small in
+    let h = recursion_from_All (λ n. n < 2 ^ 32) (fields_of status) small in
     rw (
       number_again status.kind h.0,
       number_again status.state h.1.0,
@@ -166,26 +166,26 @@ status_again status small =
 -- ## Texts
 
 report_words : (words : List (List ℕ)) (status : Status) → report_in words ≡ Some status
-    → (words ≡ codes "STATUS" ∷ map decimal (numbers_of status)) × AreSmall (numbers_of status)
+    → (words ≡ codes "STATUS" ∷ map decimal (fields_of status)) × AreSmall (fields_of status)
 unfolding report_in
 report_words [] status e = absurd (none_some None status refl e)
 report_words (name ∷ words) status e =
-    let told = if_then (bytes_eq name (codes "STATUS")) (status_in words) status e in
+    let told = if_then (bytes_eq name (codes "STATUS")) (status_of_words words) status e in
     let read = status_read words status told.1 in
     (ap (λ n. n ∷ words) ((bytes_eq-Decides name (codes "STATUS")).0 told.0) ∙ ap (λ ws. codes "STATUS" ∷ ws) read.0, read.1)
 
 text_read : (text : List ℕ) (status : Status) → report_in (words_in (Some text)) ≡ Some status → (text ≡ report_text status)
-    × AreSmall (numbers_of status)
+    × AreSmall (fields_of status)
 text_read text status e =
     let h = report_words (words_in (Some text)) status e in
     (sym (join_with_byte-slice_split 32 text) ∙ ap (join_with_byte 32) h.0, h.1)
 
-text_again : (status : Status) → AreSmall (numbers_of status) → report_in (words_in (Some (report_text status))) ≡ Some status
+text_again : (status : Status) → AreSmall (fields_of status) → report_in (words_in (Some (report_text status))) ≡ Some status
 unfolding report_in
 text_again status small =
-    ap report_in (split_joined (codes "STATUS") (map decimal (numbers_of status))
+    ap report_in (split_joined (codes "STATUS") (map decimal (fields_of status))
     (All-from_recursion (λ b. (b == 32) ≡ false) (codes "STATUS") (refl, (refl, (refl, (refl, (refl, (refl, tt)))))))
-    (words_clean (numbers_of status) small))
+    (words_clean (fields_of status) small))
     ∙ status_again status small
 
 -- ## Lines
@@ -245,17 +245,17 @@ line_short line text short (inl ends) = omega (arith, short, ap length ends ∙ 
 line_short line text short (inr ends) = omega (arith, short, ap length ends ∙ length-append text (13 ∷ 10 ∷ []))
 
 -- a report is read as its status
-pub read_back : (line : List ℕ) (status : Status) → IsReport line status → reported line ≡ Some status
-unfolding reported
+pub read_back : (line : List ℕ) (status : Status) → IsReport line status → stated line ≡ Some status
+unfolding stated
 read_back line status h =
-    let clean = joined_clean (codes "STATUS") (numbers_of status)
+    let clean = joined_clean (codes "STATUS") (fields_of status)
     (All-from_recursion (λ b. (b == 13) ≡ false) (codes "STATUS") (refl, (refl, (refl, (refl, (refl, (refl, tt))))))) h.small in
     ap (option_and_then (λ text. report_in (words_in (Some text)))) (line_again line (report_text status) clean h.text)
     ∙ text_again status h.small
 
 -- what is read as a status is its report
-pub read_only : (line : List ℕ) (status : Status) → reported line ≡ Some status → IsReport line status
-unfolding reported
+pub read_only : (line : List ℕ) (status : Status) → stated line ≡ Some status → IsReport line status
+unfolding stated
 read_only line status e =
     let at = and_then_some (λ text. report_in (words_in (Some text))) (line_text line) status e in
     let h = text_read at.0 status at.2 in
@@ -263,5 +263,5 @@ read_only line status e =
     record {
       small = h.1;
       text = subst (EndsText line) h.0 ends;
-      short = line_short line at.0 (omega (arith, ap length h.0, joined_short (codes "STATUS") (numbers_of status) h.1)) ends;
+      short = line_short line at.0 (omega (arith, ap length h.0, joined_short (codes "STATUS") (fields_of status) h.1)) ends;
     }

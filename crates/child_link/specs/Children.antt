@@ -1,4 +1,4 @@
--- A child in memory, and what a wait for it comes to.
+-- A child in memory, and the outcome of a wait for it.
 use Rattle.std.specs.Prelude.{ℕ, Bool, IsTrue, IfSome, List, Option}
 use Rattle.outside.specs.InMemory.{GivingMemory}
 

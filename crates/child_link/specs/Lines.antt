@@ -3,24 +3,24 @@ use Rattle.std.specs.Prelude.{ℕ, ◌≡◌, ◌-◌, ◌^◌, ◌<◌, ◌≤�
 use Rattle.std.specs.Prelude.{option_and_then, option_map, slice_index_or, unwrap_or, bytes_eq, codes, decimal, if◌then◌else◌}
 use Rattle.std.specs.List.{All, flat_map, join_with_byte}
 use Rattle.scm_model.specs.declared.flat.Status.{Status}
-use Rattle.child_link.specs.Words.{words_in, nth_word, code_of}
+use Rattle.child_link.specs.Words.{words_in, nth_word, word_code}
 
 -- the numbers of a status, in the order of SERVICE_STATUS
-abbrev pub numbers_of : Status → List ℕ
-numbers_of s = s.kind ∷ s.state ∷ s.accepted ∷ s.win32 ∷ s.specific ∷ s.checkpoint ∷ s.hint ∷ []
+abbrev pub fields_of : Status → List ℕ
+fields_of s = s.kind ∷ s.state ∷ s.accepted ∷ s.win32 ∷ s.specific ∷ s.checkpoint ∷ s.hint ∷ []
 
 -- STATUS and the numbers in decimal form, one space between two words
 abbrev pub report_text : Status → List ℕ
-report_text s = join_with_byte 32 (codes "STATUS" ∷ map decimal (numbers_of s))
+report_text s = join_with_byte 32 (codes "STATUS" ∷ map decimal (fields_of s))
 
--- numbers in decimal form, each behind a space
+-- numbers in decimal form, each after a space
 abbrev pub spaced : List ℕ → List ℕ
 spaced numbers = flat_map (λ n. 32 ∷ decimal n) numbers
 
 -- a line is the report of a status
 pub record IsReport (line : List ℕ) (status : Status) : Type 0 where
   -- the numbers are of 32 bits
-  pub small : All (λ n. n < 2 ^ 32) (numbers_of status)
+  pub small : All (λ n. n < 2 ^ 32) (fields_of status)
   -- a line feed ends the line, and a carriage return may stand before it
   pub text : (line ≡ report_text status ++ 10 ∷ []) ⊎ (line ≡ report_text status ++ 13 ∷ 10 ∷ [])
   pub short : length line ≤ 4096
@@ -40,15 +40,15 @@ abbrev ◌>>=◌ : {A B : Type 0} → Option A → (A → Option B) → Option B
 o >>= f = option_and_then f o
 
 -- the status whose numbers these words are, and no words more
-unfoldable pub status_in : List (List ℕ) → Option Status
-status_in words = do
-  kind ← code_of (nth_word words 0)
-  state ← code_of (nth_word words 1)
-  accepted ← code_of (nth_word words 2)
-  win32 ← code_of (nth_word words 3)
-  specific ← code_of (nth_word words 4)
-  checkpoint ← code_of (nth_word words 5)
-  hint ← code_of (nth_word words 6)
+unfoldable pub status_of_words : List (List ℕ) → Option Status
+status_of_words words = do
+  kind ← word_code (nth_word words 0)
+  state ← word_code (nth_word words 1)
+  accepted ← word_code (nth_word words 2)
+  win32 ← word_code (nth_word words 3)
+  specific ← word_code (nth_word words 4)
+  checkpoint ← word_code (nth_word words 5)
+  hint ← word_code (nth_word words 6)
   if is_none (nth_word words 7)
       then Some (record {
         kind = kind;
@@ -64,11 +64,11 @@ status_in words = do
 -- the status that words report
 unfoldable pub report_in : List (List ℕ) → Option Status
 report_in [] = None
-report_in (name ∷ words) = if bytes_eq name (codes "STATUS") then status_in words else None
+report_in (name ∷ words) = if bytes_eq name (codes "STATUS") then status_of_words words else None
 
 -- the status that a line reports, if it is a report
-unfoldable pub reported : List ℕ → Option Status
-reported line = option_and_then (λ text. report_in (words_in (Some text))) (line_text line)
+unfoldable pub stated : List ℕ → Option Status
+stated line = option_and_then (λ text. report_in (words_in (Some text))) (line_text line)
 
 -- ## What a child is sent
 
@@ -81,7 +81,7 @@ control_text code = codes "CONTROL " ++ decimal code ++ 10 ∷ []
 -- the number that words are, and no words more
 unfoldable pub code_in : List (List ℕ) → Option ℕ
 code_in words = do
-  code ← code_of (nth_word words 0)
+  code ← word_code (nth_word words 0)
   if is_none (nth_word words 1) then Some code else None
 
 -- the control that words hand on

@@ -14,5 +14,5 @@ nth_word words zero = slice_get words 0
 nth_word words (suc place) = nth_word (drop 1 words) place
 
 -- the number below 2^32 of which a word is the decimal form
-abbrev pub code_of : Option (List ℕ) → Option ℕ
-code_of word = option_and_then (number_below (2 ^ 32)) word
+abbrev pub word_code : Option (List ℕ) → Option ℕ
+word_code word = option_and_then (number_below (2 ^ 32)) word

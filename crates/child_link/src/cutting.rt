@@ -1,5 +1,5 @@
 ghost use Rattle.std.specs.Prelude.{◌≡◌, ◌≤◌, ◌==◌, ◌++◌, ◌∷◌, [], IfOk, length, take, List, ℕ};
-ghost use Rattle.child_link.specs.Lines.{handed_on, reported};
+ghost use Rattle.child_link.specs.Lines.{handed_on, stated};
 ghost use Rattle.child_link.specs.Cutting.{kept_line, kept_with};
 
 use scm_text::{Buffer, OutOfMemory};
@@ -69,7 +69,7 @@ impl LineCutter {
 
 /// What is kept of a line is read as the whole line is.
 pub fn kept_lines_are_read()
-    ensures reports { (front : List ℕ) → reported (kept_line front) ≡ reported (front ++ 10 ∷ []) }
+    ensures reports { (front : List ℕ) → stated (kept_line front) ≡ stated (front ++ 10 ∷ []) }
     ensures controls { (front : List ℕ) → handed_on (kept_line front) ≡ handed_on (front
         ++ 10 ∷ []) }
 {}

@@ -3,8 +3,8 @@ ghost use Rattle.std.specs.Prelude.{decimal, option_map};
 ghost use Rattle.scm_model.specs.declared.steps.Step.TheVariants.{Report};
 ghost use Rattle.child_link.specs.Words.{words_in};
 ghost use Rattle.child_link.specs.Lines.{IsReport, code_in, control_in, control_text, front_of};
-ghost use Rattle.child_link.specs.Lines.{handed_on, line_text, report_in, report_text, reported};
-ghost use Rattle.child_link.specs.Lines.{spaced, status_in};
+ghost use Rattle.child_link.specs.Lines.{handed_on, line_text, report_in, report_text, stated};
+ghost use Rattle.child_link.specs.Lines.{spaced, status_of_words};
 
 use super::words::Words;
 use scm_model::{Status, Step};
@@ -32,9 +32,9 @@ fn text_of(line: &[u8]) -> Option<&[u8]>
 }
 
 /// The status whose numbers these words are, and no words more.
-#[tactic(auto, unfolding(crate::specs::Lines::status_in))]
+#[tactic(auto, unfolding(crate::specs::Lines::status_of_words))]
 fn status_in(mut words: Words<'_>) -> Option<Status>
-    ensures { result ≡ status_in words.entry }
+    ensures { result ≡ status_of_words words.entry }
 {
     let status = Status {
         kind: words.next_code()?,
@@ -64,24 +64,28 @@ fn report_in(text: &[u8]) -> Option<Status>
     }
 }
 
-/// The step of a line of a process: the report that it is, `STATUS` and the seven numbers of a
-/// status in decimal form behind one space each, ended by a line feed, before which a carriage
-/// return may stand. Any other line is no step.
-#[tactic(auto, unfolding(crate::specs::Lines::reported))]
+/// The step of a line of a process: the report that it is. A report is `STATUS` and the seven
+/// numbers of a status in decimal form, each after one space. A line feed ends it, and a carriage
+/// return may stand before that. Any other line is no step.
+#[tactic(auto, unfolding(crate::specs::Lines::stated))]
 pub fn read_line_step(line: &[u8], process: u64) -> Option<Step>
-    ensures { result ≡ option_map (Report process) (reported line.now) }
+    ensures { result ≡ option_map (Report process 0) (stated line.now) }
 {
     let status = report_in(text_of(line)?)?;
-    Some(Step::Report { process, status })
+    Some(Step::Report {
+        process,
+        service: 0,
+        status,
+    })
 }
 
 /// Lines are read just as the format has them: a line is read as a status exactly where it is that
 /// status's report.
 pub fn reports_are_read()
     ensures read { (line : List ℕ) (status : Status) →
-        IsReport line status → reported line ≡ Some status }
+        IsReport line status → stated line ≡ Some status }
     ensures only { (line : List ℕ) (status : Status) →
-        reported line ≡ Some status → IsReport line status }
+        stated line ≡ Some status → IsReport line status }
 {}
 
 /// The line that hands a control on to a process.
@@ -94,8 +98,8 @@ pub fn control_line(alloc: Global, code: u32) -> Result<Items<u8>, OutOfMemory>
     Ok(line)
 }
 
-/// The control of a line: the number that `CONTROL` and it in decimal form hand on, behind one
-/// space and ended by a line feed. Any other line is no control.
+/// The control of a line: the number in a line of `CONTROL`, one space and the number in decimal
+/// form, ended by a line feed. Any other line is no control.
 #[tactic(auto, unfolding(crate::specs::Lines::handed_on))]
 pub fn read_control_line(line: &[u8]) -> Option<u32>
     ensures { result ≡ handed_on line.now }
@@ -129,14 +133,14 @@ fn code_in(mut words: Words<'_>) -> Option<u32>
     }
 }
 
-/// Adds a number in decimal form behind a space.
+/// Adds a space and a number in decimal form.
 fn add_number(line: &mut Items<u8>, number: u32) -> Result<(), OutOfMemory>
     ensures { OnOk result (line.new ≡ line.old ++ 32 ∷ decimal number) }
 {
     line.append_pair(b" ", itoa::Buffer::new().format(number).as_bytes())
 }
 
-/// Adds numbers in decimal form, each behind a space.
+/// Adds numbers in decimal form, each after a space.
 fn add_numbers(line: &mut Items<u8>, numbers: &[u32]) -> Result<(), OutOfMemory>
     ensures { OnOk result (line.new ≡ line.old ++ spaced numbers.now) }
 {

@@ -1,6 +1,6 @@
 ghost use Rattle.std.specs.Prelude.{◌≡◌, ◌==◌, ◌<◌, ◌^◌, ◌∷◌, All, IfNone, IfSome, Some, bytes_eq};
 ghost use Rattle.std.specs.Prelude.{drop, length, option_map, slice_get, take, false};
-ghost use Rattle.child_link.specs.Words.{code_of, words_in};
+ghost use Rattle.child_link.specs.Words.{word_code, words_in};
 
 use decimal_words::number_below;
 use std::marker::Model;
@@ -30,7 +30,7 @@ fn first_space(text: &[u8]) -> Option<usize>
     text.iter().position(|b| *b == b' ')
 }
 
-/// The first word of a text, and what stands behind the space after it.
+/// The first word of a text, and what follows the space after it.
 struct FirstWord<'a> {
     word: &'a [u8],
     rest: Option<&'a [u8]>,
@@ -72,7 +72,7 @@ impl<'a> Words<'a> {
 
     /// Takes the next word, and answers the number of 32 bits of which it is the decimal form.
     pub fn next_code(&mut self) -> Option<u32>
-        ensures code { result ≡ code_of (slice_get self.old 0) }
+        ensures code { result ≡ word_code (slice_get self.old 0) }
         ensures rest { self.new ≡ drop 1 self.old }
     {
         let word = self.next()?;

@@ -14,7 +14,7 @@ use Rattle.scm_book.specs.Passes.{Known}
 use Rattle.child_runner.specs.declared.served.ChildServed.{ChildServed}
 use Rattle.child_runner.specs.declared.served.ChildServed.TheVariants as served
 use Rattle.child_runner.specs.Reports.{Chain, GoesOn, HasRead, Stops, reports}
-use Rattle.child_runner.specs.Serving.{CameTo, IsAll, IsReadOut, MakesReports, Reached, ReadsAll, ReadsOn, served_as}
+use Rattle.child_runner.specs.Serving.{CameTo, HowFar, IsAll, IsReadOut, MakesReports, PassLeft, ReadsAll, ReadsOn, child_served_as}
 use Rattle.child_runner.proofs.Reading.{all_told}
 use Rattle.child_runner.proofs.Stretches.{chain_append}
 
@@ -57,7 +57,7 @@ module _ (tells : ℕ → Type 0) (o : Opening) (process : ℕ) (k m : Known) (l
   }
 
   -- the whole output was read
-  pub all_read : Consumes left left_now read → IsAtEnd left_now → length read < 2 ^ 40 → Reached o process m served.Ended left read on.done
+  pub all_read : Consumes left left_now read → IsAtEnd left_now → length read < 2 ^ 40 → HowFar o process m served.Ended left read on.done
   all_read consumed end few = (all_of left left_now read consumed end, few, all_told read on.done line on.has)
 
   -- a report wasn't made
@@ -72,7 +72,7 @@ module _ (tells : ℕ → Type 0) (o : Opening) (process : ℕ) (k m : Known) (l
         (s.follows read on.done on.has more))
 
     came_to : (why : MakeFault) (s : Stops tells o process piece line line' m now why)
-        → CameTo o process s.last now (served_as (fed.Stopped why)) left (read ++ piece) (on.done ++ s.statuses)
+        → CameTo o process s.last now (child_served_as (fed.Stopped why)) left (read ++ piece) (on.done ++ s.statuses)
     came_to lacks.Full s = (s.next, next_is lacks.Full s, s.lacks)
     came_to lacks.OutOfMemory s = (
       s.lacks.learnt,
@@ -81,7 +81,7 @@ module _ (tells : ℕ → Type 0) (o : Opening) (process : ℕ) (k m : Known) (l
     )
 
     pub report_lacks : (why : MakeFault) → Stops tells o process piece line line' m now why
-        → MakesReports tells o process k now left left_now count (served_as (fed.Stopped why))
+        → MakesReports tells o process k now left left_now count (child_served_as (fed.Stopped why))
     report_lacks why s = record {
       read = read ++ piece;
       done = on.done ++ s.statuses;
@@ -112,36 +112,28 @@ out_of left left_now all count more a b c consumed long first (inr (inr rose)) =
 module _ (tells : ℕ → Type 0) (o : Opening) (process : ℕ) (k now : Known) (left mid : Option (List ℕ)) where
   -- the first reports were made, and the rest of the output was read without steps
   module _ (left_now : Option (List ℕ)) (count a b c : ℕ) (first : (b ≡ a) ⊎ Rose a b) (r : ReadsOn mid left_now count b c) where
+    read_on : (how : ChildServed) (m : MakesReports tells o process k now left mid count how) → PassLeft o how m.last now
+        → HowFar o process now how left (m.read ++ r.more) m.done → ReadsAll tells o process k now left left_now a c how
+    read_on how m leaves reached =
+        let long : length (m.read ++ r.more) ≡ count + length r.more = length-append m.read r.more
+        ∙ ap (λ (n : ℕ). n + length r.more) (sym m.counted) in
+        let consumed = Consumes-trans left mid left_now m.read r.more m.consumed r.consumed in record {
+          read = m.read ++ r.more;
+          done = m.done;
+          consumed = consumed;
+          most = (let most = r.most in omega (arith, long, most));
+          out = out_of left left_now (m.read ++ r.more) count r.more a b c consumed long first r.out;
+          last = m.last;
+          chain = m.chain;
+          leaves = leaves;
+          reached = reached;
+        }
+
     pub behind_full : MakesReports tells o process k now left mid count served.Full
         → ReadsAll tells o process k now left left_now a c served.Full
     behind_full m =
-        let long : length (m.read ++ r.more) ≡ count + length r.more = length-append m.read r.more
-        ∙ ap (λ (n : ℕ). n + length r.more) (sym m.counted) in
-        let consumed = Consumes-trans left mid left_now m.read r.more m.consumed r.consumed in record {
-          read = m.read ++ r.more;
-          done = m.done;
-          consumed = consumed;
-          most = (let most = r.most in omega (arith, long, most));
-          out = out_of left left_now (m.read ++ r.more) count r.more a b c consumed long first r.out;
-          last = m.last;
-          chain = m.chain;
-          leaves = m.came.2.learnt;
-          reached = record { next = m.came.0; follows = m.came.1 r.more; full = m.came.2.full };
-        }
+        read_on served.Full m m.came.2.learnt (record { next = m.came.0; follows = m.came.1 r.more; full = m.came.2.full })
 
     pub behind_no_memory : MakesReports tells o process k now left mid count served.OutOfMemory
         → ReadsAll tells o process k now left left_now a c served.OutOfMemory
-    behind_no_memory m =
-        let long : length (m.read ++ r.more) ≡ count + length r.more = length-append m.read r.more
-        ∙ ap (λ (n : ℕ). n + length r.more) (sym m.counted) in
-        let consumed = Consumes-trans left mid left_now m.read r.more m.consumed r.consumed in record {
-          read = m.read ++ r.more;
-          done = m.done;
-          consumed = consumed;
-          most = (let most = r.most in omega (arith, long, most));
-          out = out_of left left_now (m.read ++ r.more) count r.more a b c consumed long first r.out;
-          last = m.last;
-          chain = m.chain;
-          leaves = inr m.came.0;
-          reached = m.came.1 r.more;
-        }
+    behind_no_memory m = read_on served.OutOfMemory m (inr m.came.0) (m.came.1 r.more)

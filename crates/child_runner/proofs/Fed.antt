@@ -3,19 +3,19 @@ use Rattle.std.proofs.Common.{ℕ, ◌≡◌, ◌∙◌, ◌≤◌, ◌^◌, inl
 use Rattle.std.proofs.Common.{arith}
 use Rattle.feed_loop.specs.declared.fed.ReadEnd.{ReadEnd}
 use Rattle.feed_loop.specs.declared.fed.ReadEnd.TheVariants as fed
-use Rattle.feed_loop.specs.Feeding.{Chain as EatenChain, Feeds, IsFedFor, bytes_of}
+use Rattle.feed_loop.specs.Feeding.{FeedChain as EatenChain, Feeds, IsFedFor, bytes_of}
 use Rattle.book_rule.specs.declared.view.Opening.{Opening}
 use Rattle.scm_book.specs.declared.fault.MakeFault.{MakeFault}
 use Rattle.scm_book.specs.declared.fault.MakeFault.TheVariants as lacks
 use Rattle.scm_book.specs.Passes.{Known}
 use Rattle.child_runner.specs.Reports.{GoesOn, Stops}
-use Rattle.child_runner.specs.Serving.{IsReadFor, MakesReports, ReadsOn, served_as}
+use Rattle.child_runner.specs.Serving.{IsReadFor, MakesReports, ReadsOn, child_served_as}
 use Rattle.child_runner.proofs.Coming.{SoFar, all_read, one_piece, read_ends, report_lacks}
 use Rattle.child_runner.proofs.Reading.{all_told, has_none}
 
 -- which end has which cause
 pub read_for : (how : ReadEnd MakeFault) (faults faults_now : ℕ) → IsFedFor how faults faults_now
-    → IsReadFor (served_as how) faults faults_now
+    → IsReadFor (child_served_as how) faults faults_now
 read_for fed.Ended faults faults_now same = same
 read_for fed.ReadFault faults faults_now rose = rose
 read_for fed.Worn faults faults_now same = same
@@ -71,15 +71,15 @@ module _ {E X : Type 0} (parts : E → X) (line : E → List ℕ) (pass : E → 
         (record { done = []; has = has_none; chain = refl })) chain
 
     pub makes_fed : (how : ReadEnd MakeFault) → Feeds eats stops a e left left_now before count how
-        → MakesReports (tells x) (o x) (process x) (pass a) (pass e) left left_now count (served_as how)
+        → MakesReports (tells x) (o x) (process x) (pass a) (pass e) left left_now count (child_served_as how)
     makes_fed fed.Ended feeds =
         let read = bytes_of feeds.pieces in
         let last = feeds.last in
         let on = far last feeds.pieces feeds.chain in
         let all = feeds.ends.0 in
-        subst (λ (y : E). MakesReports (tells x) (o x) (process x) (pass a) (pass y) left left_now count (served_as fed.Ended))
+        subst (λ (y : E). MakesReports (tells x) (o x) (process x) (pass a) (pass y) left left_now count (child_served_as fed.Ended))
         (sym all.there)
-        (read_ends (tells x) (o x) (process x) (pass a) (pass last) left left_now read (line last) on count (served_as fed.Ended)
+        (read_ends (tells x) (o x) (process x) (pass a) (pass last) left left_now read (line last) on count (child_served_as fed.Ended)
         (pass last) all.consumed (omega (arith, all.counted, zero)) (omega (arith, all.counted, zero, much)) (
           refl,
           all_read (tells x) (o x) (process x) (pass a) (pass last) left left_now read (line last) on all.consumed feeds.ends.1
@@ -90,9 +90,9 @@ module _ {E X : Type 0} (parts : E → X) (line : E → List ℕ) (pass : E → 
         let last = feeds.last in
         let on = far last feeds.pieces feeds.chain in
         let all = feeds.ends.0 in
-        subst (λ (y : E). MakesReports (tells x) (o x) (process x) (pass a) (pass y) left left_now count (served_as fed.ReadFault))
+        subst (λ (y : E). MakesReports (tells x) (o x) (process x) (pass a) (pass y) left left_now count (child_served_as fed.ReadFault))
         (sym all.there)
-        (read_ends (tells x) (o x) (process x) (pass a) (pass last) left left_now read (line last) on count (served_as fed.ReadFault)
+        (read_ends (tells x) (o x) (process x) (pass a) (pass last) left left_now read (line last) on count (child_served_as fed.ReadFault)
         (pass last) all.consumed (omega (arith, all.counted, zero)) (omega (arith, all.counted, zero, much))
         (refl, (omega (arith, all.counted, zero, feeds.ends.1), all_told read on.done (line last) on.has)))
     makes_fed fed.Worn feeds =
@@ -100,9 +100,9 @@ module _ {E X : Type 0} (parts : E → X) (line : E → List ℕ) (pass : E → 
         let last = feeds.last in
         let on = far last feeds.pieces feeds.chain in
         let all = feeds.ends.0 in
-        subst (λ (y : E). MakesReports (tells x) (o x) (process x) (pass a) (pass y) left left_now count (served_as fed.Worn))
+        subst (λ (y : E). MakesReports (tells x) (o x) (process x) (pass a) (pass y) left left_now count (child_served_as fed.Worn))
         (sym all.there)
-        (read_ends (tells x) (o x) (process x) (pass a) (pass last) left left_now read (line last) on count (served_as fed.Worn)
+        (read_ends (tells x) (o x) (process x) (pass a) (pass last) left left_now read (line last) on count (child_served_as fed.Worn)
         (pass last) all.consumed (omega (arith, all.counted, zero)) (omega (arith, all.counted, zero, much))
         (refl, (omega (arith, all.counted, zero, feeds.ends.1), all_told read on.done (line last) on.has)))
     makes_fed (fed.Stopped why) feeds =

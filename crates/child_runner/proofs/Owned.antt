@@ -18,7 +18,7 @@ use Rattle.scm_book.specs.Processes.{EndedSo, told_of_end}
 use Rattle.child_runner.specs.declared.served.ChildServed.{ChildServed}
 use Rattle.child_runner.specs.declared.served.ChildServed.TheVariants as served
 use Rattle.child_runner.specs.Reports.{Chain, IsReported}
-use Rattle.child_runner.specs.Serving.{AreReports, HasReported, Leaves, StandAt}
+use Rattle.child_runner.specs.Serving.{AreReports, HasReported, PassLeft, EntriesStandAt}
 
 -- ## Places
 
@@ -35,8 +35,8 @@ there_behind : (log longer : List Entry) (place : ℕ) (e : Entry) → IsPrefix 
     → slice_get longer place ≡ Some e
 there_behind log longer place e more is = subst (λ (l : List Entry). slice_get l place ≡ Some e) more.1 (there_still log more.0 place e is)
 
-stand_behind : (log longer : List Entry) (places : List ℕ) (entries : List Entry) → IsPrefix log longer → StandAt log places entries
-    → StandAt longer places entries
+stand_behind : (log longer : List Entry) (places : List ℕ) (entries : List Entry) → IsPrefix log longer → EntriesStandAt log places entries
+    → EntriesStandAt longer places entries
 stand_behind log longer [] [] more stand = tt
 stand_behind log longer (place ∷ places) (e ∷ entries) more stand = (
   there_behind log longer place e more stand.0,
@@ -45,8 +45,8 @@ stand_behind log longer (place ∷ places) (e ∷ entries) more stand = (
 stand_behind log longer [] (e ∷ entries) more stand = absurd stand
 stand_behind log longer (place ∷ places) [] more stand = absurd stand
 
-stand_more : (log : List Entry) (places : List ℕ) (entries : List Entry) (place : ℕ) (e : Entry) → StandAt log places entries
-    → slice_get log place ≡ Some e → StandAt log (places ++ place ∷ []) (entries ++ e ∷ [])
+stand_more : (log : List Entry) (places : List ℕ) (entries : List Entry) (place : ℕ) (e : Entry) → EntriesStandAt log places entries
+    → slice_get log place ≡ Some e → EntriesStandAt log (places ++ place ∷ []) (entries ++ e ∷ [])
 stand_more log [] [] place e stand is = (is, tt)
 stand_more log (first ∷ places) (other ∷ entries) place e stand is = (stand.0, stand_more log places entries place e stand.1 is)
 stand_more log [] (other ∷ entries) place e stand is = absurd stand
@@ -71,7 +71,7 @@ module _ (o : Opening) (process : ℕ) where
       pub reports : AreReports tells process statuses entries
       pub places : List ℕ
       pub own : k'.own ≡ k.own ++ places
-      pub stand : StandAt k'.seen places entries
+      pub stand : EntriesStandAt k'.seen places entries
       pub longer : IsPrefix k.seen k'.seen
       pub caller : k'.caller ≡ k.caller
 
@@ -90,20 +90,21 @@ module _ (o : Opening) (process : ℕ) where
         → Left k k' (status ∷ more)
     left_more k m k' status more first rest =
         let made = first.made.made in
-        let e : Entry = (first.moment, Report process status) in
+        let e : Entry = (first.moment, Report process 0 status) in
         let place : ℕ = length made.before in record {
           entries = e ∷ rest.entries;
           reports = record {
-            steps = ap (λ (ss : List Step). Report process status ∷ ss) rest.reports.steps;
+            steps = ap (λ (ss : List Step). Report process 0 status ∷ ss) rest.reports.steps;
             told = All-cons (λ (e : Entry). tells e.0) e rest.entries first.told rest.reports.told;
           };
           places = place ∷ rest.places;
           own = rest.own ∙ (ap (λ (ps : List ℕ). ps ++ rest.places) made.own ∙ append_assoc k.own (place ∷ []) rest.places);
           stand = (
-            there_behind m.seen k'.seen place e rest.longer (made_there k m first.moment (Report process status) first.answer made),
+            there_behind m.seen k'.seen place e rest.longer (made_there k m first.moment (Report process 0 status) first.answer made),
             rest.stand,
           );
-          longer = prefix_trans k.seen m.seen k'.seen (longer_made k m first.moment (Report process status) first.answer made) rest.longer;
+          longer = prefix_trans k.seen m.seen k'.seen (longer_made k m first.moment (Report process 0 status) first.answer made)
+              rest.longer;
           caller = rest.caller ∙ made.caller;
         }
 
@@ -126,7 +127,7 @@ module _ (o : Opening) (process : ℕ) where
     left_same : (k last stood : Known) (statuses : List Status) → Left k last statuses → stood ≡ last → Left k stood statuses
     left_same k last stood statuses left same = subst (λ (x : Known). Left k x statuses) (sym same) left
 
-    pub left_stood : (how : ChildServed) (k last stood : Known) (statuses : List Status) → Left k last statuses → Leaves o how last stood
+    pub left_stood : (how : ChildServed) (k last stood : Known) (statuses : List Status) → Left k last statuses → PassLeft o how last stood
         → Left k stood statuses
     left_stood served.Full k last stood statuses left leaves = left_learnt k last stood statuses left leaves
     left_stood served.OutOfMemory k last stood statuses left (inl same) = left_same k last stood statuses left same

@@ -9,14 +9,14 @@ use Rattle.std.proofs.lemmas.List.Elements.{All-append, All-cons, All-nil}
 use Rattle.std.proofs.lemmas.List.Splits.{length-slice_split, slice_split_at, slice_split_none}
 use Rattle.scm_model.specs.declared.flat.Status.{Status}
 use Rattle.child_link.specs.Cutting.{kept, kept_with}
-use Rattle.child_link.specs.Lines.{reported}
+use Rattle.child_link.specs.Lines.{stated}
 use Rattle.child_link.proofs.Kept.{kept_report}
 use Rattle.child_runner.specs.Reports.{HasRead, reports, reports_in}
 
 -- ## Lines
 
 more_lines : (line : List ℕ) (pieces : List (List ℕ)) → 0 < length pieces
-    → reports_in (line ∷ pieces) ≡ cons_option (reported (line ++ 10 ∷ [])) (reports_in pieces)
+    → reports_in (line ∷ pieces) ≡ cons_option (stated (line ++ 10 ∷ [])) (reports_in pieces)
 unfolding reports_in
 more_lines line [] some = absurd (omega (arith, some))
 more_lines line (next ∷ more) some = refl
@@ -24,7 +24,7 @@ more_lines line (next ∷ more) some = refl
 abbrev IsOneLine : List ℕ → Type 0
 IsOneLine line = All (λ (b : ℕ). (b == 10) ≡ false) line
 
-whole_line : (line more : List ℕ) → IsOneLine line → reports (line ++ 10 ∷ more) ≡ cons_option (reported (line ++ 10 ∷ [])) (reports more)
+whole_line : (line more : List ℕ) → IsOneLine line → reports (line ++ 10 ∷ more) ≡ cons_option (stated (line ++ 10 ∷ [])) (reports more)
 unfolding reports
 whole_line line more one =
     ap reports_in (slice_split_at (λ b. b == 10) line 10 more one refl)
@@ -94,11 +94,11 @@ one_byte read before line line' byte other is has = record {
 }
 
 -- a line feed, behind which this follows
-pub feed_told : (read : List ℕ) (before : List Status) (line : List ℕ) (found : Option Status) → found ≡ reported (line ++ 10 ∷ [])
+pub feed_told : (read : List ℕ) (before : List Status) (line : List ℕ) (found : Option Status) → found ≡ stated (line ++ 10 ∷ [])
     → HasRead read before line → (more : List ℕ)
     → reports (read ++ 10 ∷ more) ≡ (before ++ option_to_list found) ++ reports more
 feed_told read before line found is has more =
-    let same : found ≡ reported (has.rest ++ 10 ∷ []) = is ∙ (ap (λ (front : List ℕ). reported (front ++ 10 ∷ [])) has.is_kept
+    let same : found ≡ stated (has.rest ++ 10 ∷ []) = is ∙ (ap (λ (front : List ℕ). stated (front ++ 10 ∷ [])) has.is_kept
     ∙ kept_report has.rest) in
     ap (λ (bs : List ℕ). reports (bs ++ 10 ∷ more)) has.parts
     ∙ (ap reports (append_assoc has.lines has.rest (10 ∷ more))
@@ -107,7 +107,7 @@ feed_told read before line found is has more =
     ∙ (ap (λ (o : Option Status). cons_option o (reports more)) (sym same) ∙ cons_as_append found (reports more)))
     ∙ sym (append_assoc before (option_to_list found) (reports more)))))
 
-pub line_ends : (read : List ℕ) (before : List Status) (line : List ℕ) (found : Option Status) → found ≡ reported (line ++ 10 ∷ [])
+pub line_ends : (read : List ℕ) (before : List Status) (line : List ℕ) (found : Option Status) → found ≡ stated (line ++ 10 ∷ [])
     → HasRead read before line
     → HasRead (read ++ 10 ∷ []) (before ++ option_to_list found) []
 line_ends read before line found is has = record {

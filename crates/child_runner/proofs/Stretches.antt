@@ -6,7 +6,7 @@ use Rattle.outside.specs.Written.{Begins}
 use Rattle.scm_model.specs.declared.flat.Status.{Status}
 use Rattle.book_rule.specs.declared.view.Opening.{Opening}
 use Rattle.child_link.specs.Cutting.{kept_with}
-use Rattle.child_link.specs.Lines.{reported}
+use Rattle.child_link.specs.Lines.{stated}
 use Rattle.scm_book.specs.declared.fault.MakeFault.{MakeFault}
 use Rattle.scm_book.specs.Passes.{Known}
 use Rattle.child_runner.specs.Reports.{Chain, Fed, GoesOn, HasRead, IsNotMade, IsReported, Reports, Stops, reports}
@@ -34,8 +34,8 @@ module _ (tells : ℕ → Type 0) (o : Opening) (process : ℕ) where
   }
 
   module _ (line line' : List ℕ) (byte : ℕ) (k k' : Known) (feed : (byte == 10) ≡ true) (empty : line' ≡ []) where
-    at_feed : (found : Option Status) → found ≡ reported (kept_with line byte) → found ≡ reported (line ++ 10 ∷ [])
-    at_feed found is = is ∙ ap reported (ended_line line byte feed)
+    at_feed : (found : Option Status) → found ≡ stated (kept_with line byte) → found ≡ stated (line ++ 10 ∷ [])
+    at_feed found is = is ∙ ap stated (ended_line line byte feed)
 
     ends : (read : List ℕ) (before : List Status) (found : Option Status) → HasRead (read ++ 10 ∷ []) before []
         → HasRead (read ++ byte ∷ []) before line'
@@ -44,7 +44,7 @@ module _ (tells : ℕ → Type 0) (o : Opening) (process : ℕ) where
         (subst (HasRead (read ++ 10 ∷ []) before) (sym empty) has)
 
     -- a line that is no report ends
-    pub no_report : (found : Option Status) → found ≡ None → found ≡ reported (kept_with line byte) → k' ≡ k
+    pub no_report : (found : Option Status) → found ≡ None → found ≡ stated (kept_with line byte) → k' ≡ k
         → GoesOn tells o process (byte ∷ []) line line' k k'
     no_report found none is same = record {
       statuses = [];
@@ -53,7 +53,7 @@ module _ (tells : ℕ → Type 0) (o : Opening) (process : ℕ) where
     }
 
     -- a report was made of the line that ends
-    one_report : (found : Option Status) (status : Status) → found ≡ Some status → found ≡ reported (kept_with line byte)
+    one_report : (found : Option Status) (status : Status) → found ≡ Some status → found ≡ stated (kept_with line byte)
         → IsReported tells o process k status k' → GoesOn tells o process (byte ∷ []) line line' k k'
     one_report found status some is made = record {
       statuses = status ∷ [];
@@ -64,7 +64,7 @@ module _ (tells : ℕ → Type 0) (o : Opening) (process : ℕ) where
 
     -- or it wasn't
     lacks_report : (found : Option Status) (status : Status) (why : MakeFault) → found ≡ Some status
-        → found ≡ reported (kept_with line byte) → IsNotMade tells o process k status k' why
+        → found ≡ stated (kept_with line byte) → IsNotMade tells o process k status k' why
         → Stops tells o process (byte ∷ []) line line' k k' why
     lacks_report found status why some is lacks = record {
       statuses = [];
@@ -81,7 +81,7 @@ module _ (tells : ℕ → Type 0) (o : Opening) (process : ℕ) where
 
     -- whatever became of it
     pub report_fed : {T : Type 0} (found : Option Status) (status : Status) (result : Result T MakeFault) → found ≡ Some status
-        → found ≡ reported (kept_with line byte) → Reports tells o process k status k' result
+        → found ≡ stated (kept_with line byte) → Reports tells o process k status k' result
         → Fed tells o process (byte ∷ []) line line' k k' result
     report_fed found status (Ok done) some is made = one_report found status some is made
     report_fed found status (Err why) some is lacks = lacks_report found status why some is lacks

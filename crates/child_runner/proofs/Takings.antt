@@ -6,6 +6,7 @@ use Rattle.std.specs.Io.KnownBytes.{Appends}
 use Rattle.std.proofs.KnownBytes.{Appends-nil, Appends-trans}
 use Rattle.std.proofs.lemmas.Grind.{flat_map-append}
 use mathlib.Core.List.{IsPrefix}
+use Rattle.scm_model.specs.declared.flat.Order.{Order}
 use Rattle.scm_model.specs.declared.steps.Answer.TheVariants as answers
 use Rattle.scm_model.specs.declared.steps.Step.TheVariants.{ControlTaken}
 use Rattle.scm_model.specs.Entries.{Entry}
@@ -16,46 +17,46 @@ use Rattle.book_rule.specs.declared.view.Opening.{Opening}
 use Rattle.book_rule.proofs.Prefixes.{prefix_length, prefix_self, prefix_snoc, prefix_trans}
 use Rattle.scm_book.specs.Passes.{FindsNoMemory, FindsNoRoom, KeepsAll, Known, Learnt, Made, MadeSo, may_behind, room_behind}
 use Rattle.scm_book.specs.Reporting.{waiting_behind}
-use Rattle.child_link.specs.Lines.{control_text}
 use Rattle.child_runner.specs.declared.sending.ControlsSent.{ControlsSent}
 use Rattle.child_runner.specs.declared.sending.ControlsSent.TheVariants as sent
 use Rattle.child_runner.specs.Sending.{AreLines, AreRisingFrom, FeedCause, GoesOn, HasReason, IsBehindOwn, MayEnd, Sends, Takes, TookAt}
-use Rattle.child_runner.specs.Sending.{WritesLine, control_lines}
+use Rattle.child_runner.specs.Sending.{WritesLine, control_lines, order_line}
 
 -- ## Lines
 
-lines_append : (codes more : List ℕ) → control_lines (codes ++ more) ≡ control_lines codes ++ control_lines more
-lines_append codes more = flat_map-append control_text codes more
+lines_append : (orders more : List Order) → control_lines (orders ++ more) ≡ control_lines orders ++ control_lines more
+lines_append orders more = flat_map-append order_line orders more
 
-line_of_one : (code : ℕ) → control_lines (code ∷ []) ≡ control_text code
-line_of_one code = append-nil (control_text code)
+line_of_one : (order : Order) → control_lines (order ∷ []) ≡ order_line order
+line_of_one order = append-nil (order_line order)
 
-whole_behind : (codes more text : List ℕ) → text ≡ control_lines more → control_lines codes ++ text ≡ control_lines (codes ++ more)
-whole_behind codes more text is = ap (λ t. control_lines codes ++ t) is ∙ sym (lines_append codes more)
+whole_behind : (orders more : List Order) (text : List ℕ) → text ≡ control_lines more → control_lines orders
+    ++ text ≡ control_lines (orders ++ more)
+whole_behind orders more text is = ap (λ t. control_lines orders ++ t) is ∙ sym (lines_append orders more)
 
 -- lines behind those of controls that came before
-lines_behind : (how : ControlsSent) (codes more text : List ℕ) → AreLines how more text
-    → AreLines how (codes ++ more) (control_lines codes ++ text)
-lines_behind sent.WriteFault codes more text lines = record {
-  whole = codes ++ lines.whole;
+lines_behind : (how : ControlsSent) (orders more : List Order) (text : List ℕ) → AreLines how more text
+    → AreLines how (orders ++ more) (control_lines orders ++ text)
+lines_behind sent.WriteFault orders more text lines = record {
+  whole = orders ++ lines.whole;
   last = lines.last;
   front = lines.front;
-  codes_are = ap (λ cs. codes ++ cs) lines.codes_are ∙ sym (append_assoc codes lines.whole (lines.last ∷ []));
+  orders_are = ap (λ cs. orders ++ cs) lines.orders_are ∙ sym (append_assoc orders lines.whole (lines.last ∷ []));
   begins = lines.begins;
-  text_is = ap (λ t. control_lines codes ++ t) lines.text_is
-      ∙ (sym (append_assoc (control_lines codes) (control_lines lines.whole) lines.front)
-      ∙ ap (λ t. t ++ lines.front) (sym (lines_append codes lines.whole)));
+  text_is = ap (λ t. control_lines orders ++ t) lines.text_is
+      ∙ (sym (append_assoc (control_lines orders) (control_lines lines.whole) lines.front)
+      ∙ ap (λ t. t ++ lines.front) (sym (lines_append orders lines.whole)));
 }
-lines_behind sent.OutOfMemory codes more text (inl is) = inl (whole_behind codes more text is)
-lines_behind sent.OutOfMemory codes more text (inr lacks) = inr (record {
-  whole = codes ++ lacks.whole;
+lines_behind sent.OutOfMemory orders more text (inl is) = inl (whole_behind orders more text is)
+lines_behind sent.OutOfMemory orders more text (inr lacks) = inr (record {
+  whole = orders ++ lacks.whole;
   last = lacks.last;
-  codes_are = ap (λ cs. codes ++ cs) lacks.codes_are ∙ sym (append_assoc codes lacks.whole (lacks.last ∷ []));
-  text_is = whole_behind codes lacks.whole text lacks.text_is;
+  orders_are = ap (λ cs. orders ++ cs) lacks.orders_are ∙ sym (append_assoc orders lacks.whole (lacks.last ∷ []));
+  text_is = whole_behind orders lacks.whole text lacks.text_is;
 })
-lines_behind sent.Over codes more text is = whole_behind codes more text is
-lines_behind sent.Shut codes more text is = whole_behind codes more text is
-lines_behind sent.Full codes more text is = whole_behind codes more text is
+lines_behind sent.Over orders more text is = whole_behind orders more text is
+lines_behind sent.Shut orders more text is = whole_behind orders more text is
+lines_behind sent.Full orders more text is = whole_behind orders more text is
 
 -- ## What a pass has in hand
 
@@ -68,7 +69,8 @@ keeps_then o k m k' first then = record {
   plans = λ plan has. then.plans plan (first.plans plan has);
 }
 
-zip_append : (R : ℕ → ℕ → Type 0) (xs ys vs ws : List ℕ) → AllZip R xs vs → AllZip R ys ws → AllZip R (xs ++ ys) (vs ++ ws)
+zip_append : (R : ℕ → Order → Type 0) (xs ys : List ℕ) (vs ws : List Order) → AllZip R xs vs → AllZip R ys ws
+    → AllZip R (xs ++ ys) (vs ++ ws)
 zip_append R [] ys [] ws first then = then
 zip_append R (x ∷ xs) ys (v ∷ vs) ws first then = (first.0, zip_append R xs ys vs ws first.1 then)
 zip_append R [] ys (v ∷ vs) ws first then = absurd first
@@ -83,9 +85,9 @@ rises_from least more (place ∷ places) few rising = (let from : more ≤ place
 -- ## Controls that are taken
 
 module _ (tells : ℕ → Type 0) (o : Opening) (process : ℕ) where
-  took_still : (log more : List Entry) (place code : ℕ) → TookAt tells o process log place code
-      → TookAt tells o process (log ++ more) place code
-  took_still log more place code took =
+  took_still : (log more : List Entry) (place : ℕ) (order : Order) → TookAt tells o process log place order
+      → TookAt tells o process (log ++ more) place order
+  took_still log more place order took =
       let l = o.limits in
       let f = o.first in
       let e : Entry = (took.moment, ControlTaken process) in
@@ -107,20 +109,21 @@ module _ (tells : ℕ → Type 0) (o : Opening) (process : ℕ) where
         room = took.room;
       }
 
-  all_still : (log more : List Entry) (places codes : List ℕ) → AllZip (TookAt tells o process log) places codes
-      → AllZip (TookAt tells o process (log ++ more)) places codes
+  all_still : (log more : List Entry) (places : List ℕ) (orders : List Order) → AllZip (TookAt tells o process log) places orders
+      → AllZip (TookAt tells o process (log ++ more)) places orders
   all_still log more [] [] all = tt
-  all_still log more (place ∷ places) (code ∷ codes) all = (took_still log more place code all.0, all_still log more places codes all.1)
-  all_still log more [] (code ∷ codes) all = absurd all
+  all_still log more (place ∷ places) (order ∷ orders) all = (took_still log more place order all.0, all_still log more places orders all.1)
+  all_still log more [] (order ∷ orders) all = absurd all
   all_still log more (place ∷ places) [] all = absurd all
 
-  all_behind : (log longer : List Entry) (places codes : List ℕ) → IsPrefix log longer → AllZip (TookAt tells o process log) places codes
-      → AllZip (TookAt tells o process longer) places codes
-  all_behind log longer places codes is all = subst (λ (es : List Entry). AllZip (TookAt tells o process es) places codes) is.1
-      (all_still log is.0 places codes all)
+  all_behind : (log longer : List Entry) (places : List ℕ) (orders : List Order) → IsPrefix log longer
+      → AllZip (TookAt tells o process log) places orders
+      → AllZip (TookAt tells o process longer) places orders
+  all_behind log longer places orders is all = subst (λ (es : List Entry). AllZip (TookAt tells o process es) places orders) is.1
+      (all_still log is.0 places orders all)
 
-  took_within : (log : List Entry) (place code : ℕ) → TookAt tells o process log place code → place + 1 ≤ length log
-  took_within log place code took =
+  took_within : (log : List Entry) (place : ℕ) (order : Order) → TookAt tells o process log place order → place + 1 ≤ length log
+  took_within log place order took =
       let e : Entry = (took.moment, ControlTaken process) in
       let all : length log ≡ length (took.front ++ e ∷ took.rest) = ap length took.is in
       let parts : length (took.front ++ e ∷ took.rest) ≡ length took.front + length (e ∷ took.rest) =
@@ -128,13 +131,13 @@ module _ (tells : ℕ → Type 0) (o : Opening) (process : ℕ) where
       let at : place ≡ length took.front = took.at in omega arith
 
   -- places of what was seen before, and then places behind that
-  rises_then : (log : List Entry) (least : ℕ) (places codes more : List ℕ) → least ≤ length log
-      → AllZip (TookAt tells o process log) places codes
+  rises_then : (log : List Entry) (least : ℕ) (places : List ℕ) (orders : List Order) (more : List ℕ) → least ≤ length log
+      → AllZip (TookAt tells o process log) places orders
       → AreRisingFrom least places → AreRisingFrom (length log) more → AreRisingFrom least (places ++ more)
   rises_then log least [] [] more few all first then = rises_from least (length log) more few then
-  rises_then log least (place ∷ places) (code ∷ codes) more few all first then =
-      (first.0, rises_then log (place + 1) places codes more (took_within log place code all.0) all.1 first.1 then)
-  rises_then log least [] (code ∷ codes) more few all first then = absurd all
+  rises_then log least (place ∷ places) (order ∷ orders) more few all first then =
+      (first.0, rises_then log (place + 1) places orders more (took_within log place order all.0) all.1 first.1 then)
+  rises_then log least [] (order ∷ orders) more few all first then = absurd all
   rises_then log least (place ∷ places) [] more few all first then = absurd all
 
   pub takes_none : (k : Known) → Takes tells o process k [] k
@@ -167,10 +170,11 @@ module _ (tells : ℕ → Type 0) (o : Opening) (process : ℕ) where
     same = learnt.same;
   }
 
-  made_takes : (k k' : Known) (moment code : ℕ) → tells moment → (made : Made o k moment (ControlTaken process) (answers.Control code) k')
+  made_takes : (k k' : Known) (moment : ℕ) (order : Order) → tells moment
+      → (made : Made o k moment (ControlTaken process) (answers.Control order) k')
       → room_behind o made.before (ControlTaken process) ≡ true
-      → Takes tells o process k (code ∷ []) k'
-  made_takes k k' moment code told made room = record {
+      → Takes tells o process k (order ∷ []) k'
+  made_takes k k' moment order told made room = record {
     longer = subst (IsPrefix k.seen) (sym made.seen) (prefix_snoc k.seen made.before (moment, ControlTaken process) made.longer);
     legal = λ legal. made.legal;
     places = length made.before ∷ [];
@@ -200,28 +204,29 @@ module _ (tells : ℕ → Type 0) (o : Opening) (process : ℕ) where
     same = made.same;
   }
 
-  pub takes_one : (k k' : Known) (moment code : ℕ) → tells moment → MadeSo o k moment (ControlTaken process) (answers.Control code) k'
-      → Takes tells o process k (code ∷ []) k'
-  takes_one k k' moment code told so = made_takes k k' moment code told so.made so.room
+  pub takes_one : (k k' : Known) (moment : ℕ) (order : Order) → tells moment
+      → MadeSo o k moment (ControlTaken process) (answers.Control order) k'
+      → Takes tells o process k (order ∷ []) k'
+  takes_one k k' moment order told so = made_takes k k' moment order told so.made so.room
 
-  takes_then : (k m k' : Known) (codes more : List ℕ) → Takes tells o process k codes m → Takes tells o process m more k'
-      → Takes tells o process k (codes ++ more) k'
-  takes_then k m k' codes more first then = record {
+  takes_then : (k m k' : Known) (orders more : List Order) → Takes tells o process k orders m → Takes tells o process m more k'
+      → Takes tells o process k (orders ++ more) k'
+  takes_then k m k' orders more first then = record {
     longer = prefix_trans k.seen m.seen k'.seen first.longer then.longer;
     legal = λ legal. then.legal (first.legal legal);
     places = first.places ++ then.places;
     own = then.own ∙ (ap (λ (own : List ℕ). own ++ then.places) first.own ∙ append_assoc k.own first.places then.places);
-    rising = rises_then m.seen (length k.seen) first.places codes then.places (prefix_length k.seen m.seen first.longer) first.took
+    rising = rises_then m.seen (length k.seen) first.places orders then.places (prefix_length k.seen m.seen first.longer) first.took
         first.rising then.rising;
-    took = zip_append (TookAt tells o process k'.seen) first.places then.places codes more
-        (all_behind m.seen k'.seen first.places codes then.longer first.took) then.took;
+    took = zip_append (TookAt tells o process k'.seen) first.places then.places orders more
+        (all_behind m.seen k'.seen first.places orders then.longer first.took) then.took;
     names = then.names ∙ first.names;
     caller = then.caller ∙ first.caller;
     claims = λ claims. then.claims (first.claims claims);
     alone = λ alone.
-        let one : length m.seen ≡ length k.seen + length codes = first.alone alone in
+        let one : length m.seen ≡ length k.seen + length orders = first.alone alone in
         let two : length k'.seen ≡ length m.seen + length more = then.alone (first.same.alone ∙ alone) in
-        let both : length (codes ++ more) ≡ length codes + length more = length-append codes more in omega arith;
+        let both : length (orders ++ more) ≡ length orders + length more = length-append orders more in omega arith;
     same = record {
       table = then.same.table ∙ first.same.table;
       opening = then.same.opening ∙ first.same.opening;
@@ -232,35 +237,36 @@ module _ (tells : ℕ → Type 0) (o : Opening) (process : ℕ) where
   -- ## Turns, one behind another
 
   pub goes_none : (k : Known) (held : Option (List ℕ)) (faults : ℕ) → GoesOn tells o process k held held faults faults k
-  goes_none k held faults = record { codes = []; takes = takes_none k; appended = Appends-nil held; kept = refl }
+  goes_none k held faults = record { orders = []; takes = takes_none k; appended = Appends-nil held; kept = refl }
 
   pub goes_learnt : (k k' : Known) (held : Option (List ℕ)) (faults : ℕ) → Learnt o k k'
       → GoesOn tells o process k held held faults faults k'
-  goes_learnt k k' held faults learnt = record { codes = []; takes = takes_learnt k k' learnt; appended = Appends-nil held; kept = refl }
+  goes_learnt k k' held faults learnt = record { orders = []; takes = takes_learnt k k' learnt; appended = Appends-nil held; kept = refl }
 
-  appends_lines : (held mid now : Option (List ℕ)) (codes text : List ℕ) → Appends held mid (control_lines codes) → Appends mid now text
-      → Appends held now (control_lines codes ++ text)
-  appends_lines held mid now codes text first then = Appends-trans held mid now (control_lines codes) text first then
+  appends_lines : (held mid now : Option (List ℕ)) (orders : List Order) (text : List ℕ) → Appends held mid (control_lines orders)
+      → Appends mid now text
+      → Appends held now (control_lines orders ++ text)
+  appends_lines held mid now orders text first then = Appends-trans held mid now (control_lines orders) text first then
 
   module _ (k m k' : Known) (held mid now : Option (List ℕ)) (faults faults_mid faults_now : ℕ)
       (first : GoesOn tells o process k held mid faults faults_mid m) where
     pub goes_then : GoesOn tells o process m mid now faults_mid faults_now k' → GoesOn tells o process k held now faults faults_now k'
     goes_then then = record {
-      codes = first.codes ++ then.codes;
-      takes = takes_then k m k' first.codes then.codes first.takes then.takes;
-      appended = subst (Appends held now) (sym (lines_append first.codes then.codes))
-          (appends_lines held mid now first.codes (control_lines then.codes) first.appended then.appended);
+      orders = first.orders ++ then.orders;
+      takes = takes_then k m k' first.orders then.orders first.takes then.takes;
+      appended = subst (Appends held now) (sym (lines_append first.orders then.orders))
+          (appends_lines held mid now first.orders (control_lines then.orders) first.appended then.appended);
       kept = then.kept ∙ first.kept;
     }
 
     pub sends_then : (may_ask : Type 0) (how : ControlsSent) → Sends tells o process may_ask m mid now faults_mid faults_now how k'
         → Sends tells o process may_ask k held now faults faults_now how k'
     sends_then may_ask how then = record {
-      codes = first.codes ++ then.codes;
-      takes = takes_then k m k' first.codes then.codes first.takes then.takes;
-      text = control_lines first.codes ++ then.text;
-      lines = lines_behind how first.codes then.codes then.text then.lines;
-      appended = appends_lines held mid now first.codes then.text first.appended then.appended;
+      orders = first.orders ++ then.orders;
+      takes = takes_then k m k' first.orders then.orders first.takes then.takes;
+      text = control_lines first.orders ++ then.text;
+      lines = lines_behind how first.orders then.orders then.text then.lines;
+      appended = appends_lines held mid now first.orders then.text first.appended then.appended;
       reason = then.reason;
       cause = subst (λ (count : ℕ). FeedCause how count faults_now) first.kept then.cause;
     }
@@ -275,7 +281,7 @@ module _ (tells : ℕ → Type 0) (o : Opening) (process : ℕ) where
     ends_so : (how : ControlsSent) → Takes tells o process k [] k' → AreLines how [] [] → HasReason tells o process may_ask how k'
         → FeedCause how faults faults → Ends how
     ends_so how takes lines reason cause = record {
-      codes = [];
+      orders = [];
       takes = takes;
       text = [];
       lines = lines;
@@ -305,30 +311,30 @@ module _ (tells : ℕ → Type 0) (o : Opening) (process : ℕ) where
     no_memory finds = ends_so sent.OutOfMemory (takes_learnt k k' finds.learnt) (inl refl) tt refl
 
   -- a control was taken, and this became of its line
-  module _ (may_ask : Type 0) (k k' : Known) (code : ℕ) (held held_now : Option (List ℕ)) (faults faults_now : ℕ)
-      (takes : Takes tells o process k (code ∷ []) k') where
-    pub line_ends : (end : Option ControlsSent) → WritesLine code held held_now faults faults_now end
+  module _ (may_ask : Type 0) (k k' : Known) (order : Order) (held held_now : Option (List ℕ)) (faults faults_now : ℕ)
+      (takes : Takes tells o process k (order ∷ []) k') where
+    pub line_ends : (end : Option ControlsSent) → WritesLine order held held_now faults faults_now end
         → MayEnd tells o process may_ask k held held_now faults faults_now end k'
     line_ends None line = record {
-      codes = code ∷ [];
+      orders = order ∷ [];
       takes = takes;
-      appended = subst (Appends held held_now) (sym (line_of_one code)) line.0;
+      appended = subst (Appends held held_now) (sym (line_of_one order)) line.0;
       kept = line.1;
     }
     line_ends (Some sent.WriteFault) line = record {
-      codes = code ∷ [];
+      orders = order ∷ [];
       takes = takes;
       text = line.0.front;
-      lines = record { whole = []; last = code; front = line.0.front; codes_are = refl; begins = line.0.begins; text_is = refl };
+      lines = record { whole = []; last = order; front = line.0.front; orders_are = refl; begins = line.0.begins; text_is = refl };
       appended = line.0.held;
       reason = tt;
       cause = (line.1, line.2);
     }
     line_ends (Some sent.OutOfMemory) line = record {
-      codes = code ∷ [];
+      orders = order ∷ [];
       takes = takes;
       text = [];
-      lines = inr (record { whole = []; last = code; codes_are = refl; text_is = refl });
+      lines = inr (record { whole = []; last = order; orders_are = refl; text_is = refl });
       appended = subst (λ (now : Option (List ℕ)). Appends held now []) (sym line.0) (Appends-nil held);
       reason = tt;
       cause = line.1;

@@ -14,8 +14,8 @@ use Rattle.scm_book.specs.Processes.{EndedSo}
 use Rattle.child_runner.specs.declared.served.ChildServed.{ChildServed}
 use Rattle.child_runner.specs.declared.served.ChildServed.TheVariants as served
 use Rattle.child_runner.specs.Reports.{reports}
-use Rattle.child_runner.specs.Serving.{HasNoRoom, HasRoomFor, HasReported, IsAll, IsComplete, IsReadFor, IsReadOut, IsServedFor, Leaves}
-use Rattle.child_runner.specs.Serving.{Reached, ReadsAll, ServesChild, Waits, waited_in_vain}
+use Rattle.child_runner.specs.Serving.{HasNoRoom, HadRoomFor, HasReported, IsAll, IsWhole, IsReadFor, IsReadOut, IsEndedFor, PassLeft}
+use Rattle.child_runner.specs.Serving.{HowFar, ReadsAll, ServesChild, Awaits, waited_in_vain}
 use Rattle.child_runner.proofs.Coming.{rose_behind}
 use Rattle.child_runner.proofs.Owned.{Left, end_caller, has_reported, left_behind, left_stood, longer_end}
 
@@ -34,7 +34,7 @@ module _ (tells : ℕ → Type 0) (o : Opening) (process : ℕ) (k stood : Known
 
   -- a wait changes nothing of what was read
   still : (how how' : ChildServed) → (c ≡ b) ⊎ Rose b c → (r : ReadsAll tells o process k stood left mid a b how)
-      → Leaves o how' r.last stood → Reached o process stood how' left r.read r.done
+      → PassLeft o how' r.last stood → HowFar o process stood how' left r.read r.done
       → ReadsAll tells o process k stood left left_now a c how'
   still how how' more r leaves reached = record {
     read = r.read;
@@ -56,7 +56,8 @@ module _ (tells : ℕ → Type 0) (o : Opening) (process : ℕ) (k stood : Known
   in_vain served.Worn rose r = still served.Worn served.Worn (inr rose) r r.leaves r.reached
   in_vain served.OutOfMemory rose r = still served.OutOfMemory served.OutOfMemory (inr rose) r r.leaves r.reached
 
-  pub waited : (how how' : ChildServed) (ended : Option Bool) → Waits how ended b c how' → ReadsAll tells o process k stood left mid a b how
+  pub waited : (how how' : ChildServed) (ended : Option Bool) → Awaits how ended b c how'
+      → ReadsAll tells o process k stood left mid a b how
       → ReadsAll tells o process k stood left left_now a c how'
   waited how how' ended (inl so) r = subst (ReadsAll tells o process k stood left left_now a c) (sym so.0)
       (still how how (inl so.2) r r.leaves r.reached)
@@ -66,25 +67,25 @@ ended_or : (a b c : ℕ) (ended : Option Bool) → HasEnded ended → c ≡ b �
 ended_or a b c ended has same (inl kept) = inl (has, same ∙ kept)
 ended_or a b c ended has same (inr rose) = inr (rose_then a b c rose (inl same))
 
-ended_for : (a b c : ℕ) (ended : Option Bool) (how : ChildServed) → HasEnded ended → c ≡ b → IsReadFor how a b → IsServedFor how ended a c
+ended_for : (a b c : ℕ) (ended : Option Bool) (how : ChildServed) → HasEnded ended → c ≡ b → IsReadFor how a b → IsEndedFor how ended a c
 ended_for a b c ended served.Ended has same for = (has, same ∙ for)
 ended_for a b c ended served.ReadFault has same for = rose_then a b c for (inl same)
 ended_for a b c ended served.Worn has same for = inl (has, same ∙ for)
 ended_for a b c ended served.Full has same for = ended_or a b c ended has same for
 ended_for a b c ended served.OutOfMemory has same for = ended_or a b c ended has same for
 
-vain_for : (a b c : ℕ) (ended : Option Bool) (how : ChildServed) → Rose b c → IsReadFor how a b → IsServedFor (waited_in_vain how) ended a c
+vain_for : (a b c : ℕ) (ended : Option Bool) (how : ChildServed) → Rose b c → IsReadFor how a b → IsEndedFor (waited_in_vain how) ended a c
 vain_for a b c ended served.Ended rose for = rose_behind a b c (inl for) rose
 vain_for a b c ended served.ReadFault rose for = rose_behind a b c (inr for) rose
 vain_for a b c ended served.Worn rose for = inr (rose_behind a b c (inl for) rose)
 vain_for a b c ended served.Full rose for = inr (rose_behind a b c for rose)
 vain_for a b c ended served.OutOfMemory rose for = inr (rose_behind a b c for rose)
 
-pub waited_for : (a b c : ℕ) (ended : Option Bool) (how how' : ChildServed) → Waits how ended b c how' → IsReadFor how a b
-    → IsServedFor how' ended a c
-waited_for a b c ended how how' (inl so) for = subst (λ (h : ChildServed). IsServedFor h ended a c) (sym so.0)
+pub waited_for : (a b c : ℕ) (ended : Option Bool) (how how' : ChildServed) → Awaits how ended b c how' → IsReadFor how a b
+    → IsEndedFor how' ended a c
+waited_for a b c ended how how' (inl so) for = subst (λ (h : ChildServed). IsEndedFor h ended a c) (sym so.0)
     (ended_for a b c ended how so.1 so.2 for)
-waited_for a b c ended how how' (inr so) for = subst (λ (h : ChildServed). IsServedFor h ended a c) (sym so.0)
+waited_for a b c ended how how' (inr so) for = subst (λ (h : ChildServed). IsEndedFor h ended a c) (sym so.0)
     (vain_for a b c ended how so.1 for)
 
 -- ## The whole
@@ -117,7 +118,7 @@ module _ (tells : ℕ → Type 0) (o : Opening) (process : ℕ) (k stood k' : Kn
   -- ## Completeness
 
   module _ (bytes : List ℕ) (is : left ≡ Some bytes) (few : length bytes < 2 ^ 40) (unrisen : Rose a c → ⊥)
-      (room : HasRoomFor o process k k' (reports bytes)) where
+      (room : HadRoomFor o process k k' (reports bytes)) where
     all_bytes : IsAll left r.read → r.read ≡ bytes
     all_bytes all = subst (λ (told : Option (List ℕ)). IsAll told r.read) is all
 
@@ -145,8 +146,8 @@ module _ (tells : ℕ → Type 0) (o : Opening) (process : ℕ) (k stood k' : Kn
         let free = room stood.seen none.next all_left.longer (longer_end o process tells stood k' moment ended so) among in
         let full = none.full in absurd cc
 
-  complete_for : (h : ChildServed) (ended_now : Option Bool) → Reached o process stood h left r.read r.done → IsServedFor h ended_now a c
-      → IsComplete tells o process k k' left a c h
+  complete_for : (h : ChildServed) (ended_now : Option Bool) → HowFar o process stood h left r.read r.done → IsEndedFor h ended_now a c
+      → IsWhole tells o process k k' left a c h
   complete_for served.Ended ended_now reached for = λ bytes is few unrisen room. inr
       (refl, reported bytes is few unrisen room reached.2 reached.0)
   complete_for served.ReadFault ended_now reached for = λ bytes is few unrisen room. absurd (unrisen for)
@@ -154,7 +155,7 @@ module _ (tells : ℕ → Type 0) (o : Opening) (process : ℕ) (k stood k' : Kn
   complete_for served.Full ended_now reached for = λ bytes is few unrisen room. absurd (has_next bytes is few unrisen room reached)
   complete_for served.OutOfMemory ended_now reached for = λ bytes is few unrisen room. inl refl
 
-  pub complete : (spent : Known) → spent ≡ k' → (ended_now : Option Bool) → IsServedFor how ended_now a c
-      → IsComplete tells o process k spent left a c how
-  complete spent same ended_now for = subst (λ (x : Known). IsComplete tells o process k x left a c how) (sym same)
+  pub complete : (spent : Known) → spent ≡ k' → (ended_now : Option Bool) → IsEndedFor how ended_now a c
+      → IsWhole tells o process k spent left a c how
+  complete spent same ended_now for = subst (λ (x : Known). IsWhole tells o process k x left a c how) (sym same)
       (complete_for how ended_now r.reached for)

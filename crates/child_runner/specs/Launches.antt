@@ -21,7 +21,7 @@ use Rattle.child_runner.specs.declared.launching.LaunchEnd.TheVariants as ends
 
 -- ## What is started
 
--- the words of a launch's line: those of its path, and behind them those of its start
+-- the words of a launch's line: those of its path, followed by those of its start
 abbrev pub started_words : List ℕ × List (List ℕ) → List (List ℕ)
 started_words line = map utf8_of (command_words line.0) ++ map utf8_of line.1
 
@@ -45,8 +45,8 @@ pub record IsIdle (s : Spawning) : Type 0 where
   pub started : s.started_now ≡ s.started
   pub faults : s.faults_now ≡ s.faults
 
--- what a start of some words comes to: a child that the spawner started of them, or its fault, which is counted once; for want of
--- memory it isn't asked
+-- the outcome of a start of some words: a child that the spawner started from them, or its fault, which is counted once; if out of memory
+-- the spawner isn't asked
 abbrev pub SpawnComesTo : {C : Type 0} → Spawning → Result C LaunchFault → List (List ℕ) → Type 0
 SpawnComesTo {C} s (Ok child) words = Starts {C = C} s.started s.started_now (Ok child) words × (s.faults_now ≡ s.faults)
 SpawnComesTo {C} s (Err (faults.Spawn fault)) words = Starts {C = C} s.started s.started_now (Err fault) words
@@ -55,7 +55,7 @@ SpawnComesTo s (Err faults.OutOfMemory) words = IsIdle s
 
 -- ## Why a launch failed
 
--- the error of the system (MS-ERREF) that the manager is told
+-- the error of the system (MS-ERREF) that is reported to the manager
 abbrev pub fault_code : LaunchFault → ℕ
 fault_code (faults.Spawn spawn.NotFound) = ERROR_FILE_NOT_FOUND
 fault_code (faults.Spawn spawn.NoPath) = ERROR_PATH_NOT_FOUND
@@ -66,8 +66,8 @@ fault_code faults.OutOfMemory = ERROR_NOT_ENOUGH_MEMORY
 -- ## launch_one
 
 module _ (o : Opening) (tells : ℕ → Type 0) where
-  -- The pass took the process in hand whose launch was wanted first, this being its line, and then told what became of it, each at a
-  -- moment of the clock. These are the last two of its own entries.
+  -- The pass took the launch that was wanted first, whose line this is, and then reported its outcome, each at a moment of the clock. These
+  -- are the last two of its own entries.
   pub record TakesAndTells (k : Known) (process : ℕ) (line : List ℕ × List (List ℕ)) (became : Step) (k' : Known) : Type 0 where
     pub between : Known
     pub taken_at : ℕ

@@ -8,7 +8,7 @@ use Rattle.scm_model.specs.declared.steps.Step.{Step}
 use Rattle.scm_model.specs.declared.steps.Step.TheVariants.{Report}
 use Rattle.book_rule.specs.declared.view.Opening.{Opening}
 use Rattle.child_link.specs.Cutting.{kept}
-use Rattle.child_link.specs.Lines.{reported}
+use Rattle.child_link.specs.Lines.{stated}
 use Rattle.scm_book.specs.Passes.{FindsNoMemory, FindsNoRoom, Known, MadeSo}
 use Rattle.scm_book.specs.declared.fault.MakeFault.{MakeFault}
 use Rattle.scm_book.specs.declared.fault.MakeFault.TheVariants as lacks
@@ -16,9 +16,9 @@ use Rattle.scm_book.specs.declared.fault.MakeFault.TheVariants as lacks
 -- ## A step
 
 -- the status that a step reports
-abbrev pub status_told : Step → Option Status
-status_told (Report process status) = Some status
-status_told step = None
+abbrev pub step_status : Step → Option Status
+step_status (Report process service status) = Some status
+step_status step = None
 
 -- ## What is reported
 
@@ -26,7 +26,7 @@ status_told step = None
 unfoldable pub reports_in : List (List ℕ) → List Status
 reports_in [] = []
 reports_in (rest ∷ []) = []
-reports_in (line ∷ next ∷ more) = cons_option (reported (line ++ 10 ∷ [])) (reports_in (next ∷ more))
+reports_in (line ∷ next ∷ more) = cons_option (stated (line ++ 10 ∷ [])) (reports_in (next ∷ more))
 
 -- the statuses that bytes report
 unfoldable pub reports : List ℕ → List Status
@@ -40,7 +40,7 @@ module _ (tells : ℕ → Type 0) (o : Opening) (process : ℕ) where
     pub moment : ℕ
     pub told : tells moment
     pub answer : Answer
-    pub made : MadeSo o k moment (Report process status) answer k'
+    pub made : MadeSo o k moment (Report process 0 status) answer k'
 
   -- reports of these statuses lead from k to k', one after another
   abbrev pub Chain : Known → Known → List Status → Type 0
@@ -49,8 +49,8 @@ module _ (tells : ℕ → Type 0) (o : Opening) (process : ℕ) where
 
   -- why no report was made of a status
   abbrev pub IsNotMade : Known → Status → Known → MakeFault → Type 0
-  IsNotMade k status k' lacks.Full = FindsNoRoom o k (Report process status) k'
-  IsNotMade k status k' lacks.OutOfMemory = FindsNoMemory o k (Report process status) k'
+  IsNotMade k status k' lacks.Full = FindsNoRoom o k (Report process 0 status) k'
+  IsNotMade k status k' lacks.OutOfMemory = FindsNoMemory o k (Report process 0 status) k'
 
   -- what one report came to
   abbrev pub Reports : {T : Type 0} → Known → Status → Known → Result T MakeFault → Type 0
@@ -59,7 +59,7 @@ module _ (tells : ℕ → Type 0) (o : Opening) (process : ℕ) where
 
 -- ## A stretch of bytes
 
--- The whole lines of what was read report these statuses, whatever follows, and this is kept of the line that was begun behind them.
+-- The whole lines of what was read report these statuses, whatever follows, and this is kept of the line that was begun after them.
 pub record HasRead (read : List ℕ) (statuses : List Status) (line : List ℕ) : Type 0 where
   pub lines : List ℕ
   pub rest : List ℕ
@@ -69,7 +69,7 @@ pub record HasRead (read : List ℕ) (statuses : List Status) (line : List ℕ) 
   pub is_kept : line ≡ kept rest
 
 module _ (tells : ℕ → Type 0) (o : Opening) (process : ℕ) (piece : List ℕ) (line line' : List ℕ) (k k' : Known) where
-  -- a piece was read behind what had been read, and reports were made of the lines that end in it
+  -- a piece was read after what had been read, and reports were made of the lines that end in it
   pub record GoesOn : Type 0 where
     pub statuses : List Status
     pub reads : (read : List ℕ) (before : List Status) → HasRead read before line → HasRead (read ++ piece) (before ++ statuses) line'
@@ -98,5 +98,5 @@ pub record Parts (B C : Type 0) : Type 0 where
   pub clock : C
   pub process : ℕ
 
-abbrev pub parts_of : {B C : Type 0} → B → C → ℕ → Parts B C
-parts_of book clock process = record { book = book; clock = clock; process = process }
+abbrev pub child_parts : {B C : Type 0} → B → C → ℕ → Parts B C
+child_parts book clock process = record { book = book; clock = clock; process = process }

@@ -5,6 +5,7 @@ use Rattle.std.specs.Io.KnownBytes.{Appends}
 use mathlib.Core.List.{IsPrefix}
 use Rattle.outside.specs.Causes.{Rose}
 use Rattle.outside.specs.Written.{AppendsFront, Begins}
+use Rattle.scm_model.specs.declared.flat.Order.{Order}
 use Rattle.scm_model.specs.declared.steps.Answer.TheVariants as answers
 use Rattle.scm_model.specs.declared.steps.Step.TheVariants.{ControlTaken}
 use Rattle.scm_model.specs.Entries.{Entry}
@@ -19,31 +20,35 @@ use Rattle.child_runner.specs.declared.sending.ControlsSent.TheVariants as sent
 
 -- ## What is written
 
--- the lines of controls, one behind another
-abbrev pub control_lines : List ℕ → List ℕ
-control_lines codes = flat_map control_text codes
+-- the line of an order
+abbrev pub order_line : Order → List ℕ
+order_line order = control_text order.code
+
+-- the lines of orders, one after another
+abbrev pub control_lines : List Order → List ℕ
+control_lines orders = flat_map order_line orders
 
 -- the lines of all but the last control, and a front of its line
-pub record LacksSome (codes text : List ℕ) : Type 0 where
-  pub whole : List ℕ
-  pub last : ℕ
+pub record LacksSome (orders : List Order) (text : List ℕ) : Type 0 where
+  pub whole : List Order
+  pub last : Order
   pub front : List ℕ
-  pub codes_are : codes ≡ whole ++ last ∷ []
-  pub begins : Begins front (control_text last)
+  pub orders_are : orders ≡ whole ++ last ∷ []
+  pub begins : Begins front (order_line last)
   pub text_is : text ≡ control_lines whole ++ front
 
 -- the lines of all but the last control
-pub record LacksLast (codes text : List ℕ) : Type 0 where
-  pub whole : List ℕ
-  pub last : ℕ
-  pub codes_are : codes ≡ whole ++ last ∷ []
+pub record LacksLast (orders : List Order) (text : List ℕ) : Type 0 where
+  pub whole : List Order
+  pub last : Order
+  pub orders_are : orders ≡ whole ++ last ∷ []
   pub text_is : text ≡ control_lines whole
 
 -- what is written of the lines of some controls, by how that ended
-abbrev pub AreLines : ControlsSent → List ℕ → List ℕ → Type 0
-AreLines sent.WriteFault codes text = LacksSome codes text
-AreLines sent.OutOfMemory codes text = (text ≡ control_lines codes) ⊎ LacksLast codes text
-AreLines how codes text = text ≡ control_lines codes
+abbrev pub AreLines : ControlsSent → List Order → List ℕ → Type 0
+AreLines sent.WriteFault orders text = LacksSome orders text
+AreLines sent.OutOfMemory orders text = (text ≡ control_lines orders) ⊎ LacksLast orders text
+AreLines how orders text = text ≡ control_lines orders
 
 -- the feed's count rose at a fault of writing, and is the same at each other end
 abbrev pub FeedCause : ControlsSent → ℕ → ℕ → Type 0
@@ -51,50 +56,50 @@ FeedCause sent.WriteFault faults faults_now = (faults ≤ faults_now) × Rose fa
 FeedCause how faults faults_now = faults_now ≡ faults
 
 -- the line of one control was written, or why it wasn't
-abbrev pub WritesLine : ℕ → (held held_now : Option (List ℕ)) → (faults faults_now : ℕ) → Option ControlsSent → Type 0
-WritesLine code held held_now faults faults_now None = Appends held held_now (control_text code) × (faults_now ≡ faults)
-WritesLine code held held_now faults faults_now (Some sent.WriteFault) =
-    AppendsFront held held_now (control_text code) × (faults ≤ faults_now) × Rose faults faults_now
-WritesLine code held held_now faults faults_now (Some sent.OutOfMemory) = (held_now ≡ held) × (faults_now ≡ faults)
-WritesLine code held held_now faults faults_now (Some how) = ⊥
+abbrev pub WritesLine : Order → (held held_now : Option (List ℕ)) → (faults faults_now : ℕ) → Option ControlsSent → Type 0
+WritesLine order held held_now faults faults_now None = Appends held held_now (order_line order) × (faults_now ≡ faults)
+WritesLine order held held_now faults faults_now (Some sent.WriteFault) =
+    AppendsFront held held_now (order_line order) × (faults ≤ faults_now) × Rose faults faults_now
+WritesLine order held held_now faults faults_now (Some sent.OutOfMemory) = (held_now ≡ held) × (faults_now ≡ faults)
+WritesLine order held held_now faults faults_now (Some how) = ⊥
 
 -- ## What a pass takes
 
--- what a pass has seen stands behind all its own entries
+-- all own entries of a pass lie within what it has seen
 abbrev pub IsBehindOwn : Known → Type 0
 IsBehindOwn k = (place : ℕ) → Has place k.own → place < length k.seen
 
--- places one behind another, from this one on
+-- places one after another, from this one on
 abbrev pub AreRisingFrom : ℕ → List ℕ → Type 0
 AreRisingFrom least [] = Unit {0}
 AreRisingFrom least (place ∷ places) = (least ≤ place) × AreRisingFrom (place + 1) places
 
 module _ (tells : ℕ → Type 0) (o : Opening) (process : ℕ) where
-  -- the entry at a place of a history took this control for the process, at a moment of the clock, and found room for that in the state
+  -- the entry at a place of a history took this order for the process, at a moment of the clock, and found room for that in the state
   -- before it
-  pub record TookAt (log : List Entry) (place code : ℕ) : Type 0 where
+  pub record TookAt (log : List Entry) (place : ℕ) (order : Order) : Type 0 where
     pub front : List Entry
     pub moment : ℕ
     pub rest : List Entry
     pub is : log ≡ front ++ (moment, ControlTaken process) ∷ rest
     pub at : place ≡ length front
     pub told : tells moment
-    pub answered : answer o.limits o.first log place ≡ Some (answers.Control code)
+    pub answered : answer o.limits o.first log place ≡ Some (answers.Control order)
     pub room : room_behind o front (ControlTaken process) ≡ true
 
-  -- the pass took these controls, one after another, behind all that it had seen, and has no other own entry more; where it is alone nobody
-  -- made any
-  pub record Takes (k : Known) (codes : List ℕ) (k' : Known) : Type 0 where
+  -- the pass took these orders, one after another, after all that it had seen, and has no further own entry; if it is alone, no other pass
+  -- made an entry
+  pub record Takes (k : Known) (orders : List Order) (k' : Known) : Type 0 where
     pub longer : IsPrefix k.seen k'.seen
     pub legal : Legal o.limits o.first k.seen → Legal o.limits o.first k'.seen
     pub places : List ℕ
     pub own : k'.own ≡ k.own ++ places
     pub rising : AreRisingFrom (length k.seen) places
-    pub took : AllZip (TookAt k'.seen) places codes
+    pub took : AllZip (TookAt k'.seen) places orders
     pub names : k'.names ≡ k.names
     pub caller : k'.caller ≡ k.caller
     pub claims : ClaimsIn o k.seen k → ClaimsIn o k'.seen k'
-    pub alone : k.alone ≡ true → length k'.seen ≡ length k.seen + length codes
+    pub alone : k.alone ≡ true → length k'.seen ≡ length k.seen + length orders
     pub same : IsSame k k'
 
   -- ## How it ends
@@ -116,19 +121,19 @@ module _ (tells : ℕ → Type 0) (o : Opening) (process : ℕ) where
   -- controls were taken and their lines written, until this ended it
   pub record Sends (may_ask : Type 0) (k : Known) (held held_now : Option (List ℕ)) (faults faults_now : ℕ) (how : ControlsSent)
       (k' : Known) : Type 0 where
-    pub codes : List ℕ
-    pub takes : Takes k codes k'
+    pub orders : List Order
+    pub takes : Takes k orders k'
     pub text : List ℕ
-    pub lines : AreLines how codes text
+    pub lines : AreLines how orders text
     pub appended : Appends held held_now text
     pub reason : HasReason may_ask how k'
     pub cause : FeedCause how faults faults_now
 
   -- the same, and nothing ended it
   pub record GoesOn (k : Known) (held held_now : Option (List ℕ)) (faults faults_now : ℕ) (k' : Known) : Type 0 where
-    pub codes : List ℕ
-    pub takes : Takes k codes k'
-    pub appended : Appends held held_now (control_lines codes)
+    pub orders : List Order
+    pub takes : Takes k orders k'
+    pub appended : Appends held held_now (control_lines orders)
     pub kept : faults_now ≡ faults
 
   abbrev pub MayEnd : (may_ask : Type 0) → Known → (held held_now : Option (List ℕ)) → (faults faults_now : ℕ) → Option ControlsSent → Known

@@ -25,12 +25,12 @@ use Rattle.child_runner.specs.Reports.{Chain, reports}
 -- ## All reads
 
 -- how it ends that a child's output was fed so
-abbrev pub served_as : ReadEnd MakeFault → ChildServed
-served_as fed.Ended = served.Ended
-served_as fed.ReadFault = served.ReadFault
-served_as fed.Worn = served.Worn
-served_as (fed.Stopped lacks.Full) = served.Full
-served_as (fed.Stopped lacks.OutOfMemory) = served.OutOfMemory
+abbrev pub child_served_as : ReadEnd MakeFault → ChildServed
+child_served_as fed.Ended = served.Ended
+child_served_as fed.ReadFault = served.ReadFault
+child_served_as fed.Worn = served.Worn
+child_served_as (fed.Stopped lacks.Full) = served.Full
+child_served_as (fed.Stopped lacks.OutOfMemory) = served.OutOfMemory
 
 -- all of the link's bytes were read, where it tells them
 abbrev pub IsAll : (left : Option (List ℕ)) → (read : List ℕ) → Type 0
@@ -40,7 +40,7 @@ IsAll left read = IfSome left (λ bytes. read ≡ bytes)
 abbrev pub IsReadOut : (left : Option (List ℕ)) → (read : List ℕ) → (faults faults_now : ℕ) → Type 0
 IsReadOut left read faults faults_now = IsAll left read ⊎ (length read ≡ 2 ^ 40) ⊎ Rose faults faults_now
 
--- what is left was read, behind so many bytes
+-- what is left was read, after so many bytes
 pub record ReadsOn (left left_now : Option (List ℕ)) (count faults faults_now : ℕ) : Type 0 where
   pub more : List ℕ
   pub consumed : Consumes left left_now more
@@ -48,33 +48,33 @@ pub record ReadsOn (left left_now : Option (List ℕ)) (count faults faults_now 
   pub out : IsAtEnd left_now ⊎ (count + length more ≡ 2 ^ 40) ⊎ Rose faults faults_now
   pub caused : (faults_now ≡ faults) ⊎ Rose faults faults_now
 
--- the limits have no room for the report that comes next, behind what the pass has seen
+-- the limits have no room for the report that comes next, after what the pass has seen
 pub record HasNoRoom (o : Opening) (process : ℕ) (k : Known) (read : List ℕ) (done : List Status) : Type 0 where
   pub next : Status
   pub follows : Begins (done ++ next ∷ []) (reports read)
-  pub full : room_behind o k.seen (steps.Report process next) ≡ false
+  pub full : room_behind o k.seen (steps.Report process 0 next) ≡ false
 
 -- How far the reports of what was read came, by what is answered.
-abbrev pub Reached : Opening → ℕ → Known → ChildServed → (left : Option (List ℕ)) → (read : List ℕ) → List Status → Type 0
-Reached o process k served.Ended left read done = IsAll left read × (length read < 2 ^ 40) × (done ≡ reports read)
-Reached o process k served.ReadFault left read done = (length read < 2 ^ 40) × (done ≡ reports read)
-Reached o process k served.Worn left read done = (length read ≡ 2 ^ 40) × (done ≡ reports read)
-Reached o process k served.Full left read done = HasNoRoom o process k read done
-Reached o process k served.OutOfMemory left read done = Begins done (reports read)
+abbrev pub HowFar : Opening → ℕ → Known → ChildServed → (left : Option (List ℕ)) → (read : List ℕ) → List Status → Type 0
+HowFar o process k served.Ended left read done = IsAll left read × (length read < 2 ^ 40) × (done ≡ reports read)
+HowFar o process k served.ReadFault left read done = (length read < 2 ^ 40) × (done ≡ reports read)
+HowFar o process k served.Worn left read done = (length read ≡ 2 ^ 40) × (done ≡ reports read)
+HowFar o process k served.Full left read done = HasNoRoom o process k read done
+HowFar o process k served.OutOfMemory left read done = Begins done (reports read)
 
 -- How far they came where reading ended or a report wasn't made, whatever follows what was read.
 abbrev pub CameTo : Opening → ℕ → (last now : Known) → ChildServed → (left : Option (List ℕ)) → (read : List ℕ) → List Status → Type 0
 CameTo o process last now served.Full left read done =
     (next : Status) × ((more : List ℕ) → Begins (done ++ next ∷ []) (reports (read ++ more)))
-    × FindsNoRoom o last (steps.Report process next) now
+    × FindsNoRoom o last (steps.Report process 0 next) now
 CameTo o process last now served.OutOfMemory left read done = Learnt o last now × ((more : List ℕ) → Begins done (reports (read ++ more)))
-CameTo o process last now how left read done = (now ≡ last) × Reached o process now how left read done
+CameTo o process last now how left read done = (now ≡ last) × HowFar o process now how left read done
 
 -- the pass is as the last report made it, but where the next one had no room or no memory
-abbrev pub Leaves : Opening → ChildServed → (last now : Known) → Type 0
-Leaves o served.Full last now = Learnt o last now
-Leaves o served.OutOfMemory last now = (now ≡ last) ⊎ Learnt o last now
-Leaves o how last now = now ≡ last
+abbrev pub PassLeft : Opening → ChildServed → (last now : Known) → Type 0
+PassLeft o served.Full last now = Learnt o last now
+PassLeft o served.OutOfMemory last now = (now ≡ last) ⊎ Learnt o last now
+PassLeft o how last now = now ≡ last
 
 -- the link's count of faults rose where reading failed, and is the same where it ended or enough was read
 abbrev pub IsReadFor : ChildServed → (faults faults_now : ℕ) → Type 0
@@ -104,8 +104,8 @@ module _ (tells : ℕ → Type 0) (o : Opening) (process : ℕ) where
     pub out : IsReadOut left read faults faults_now
     pub last : Known
     pub chain : Chain tells o process k last done
-    pub leaves : Leaves o how last stood
-    pub reached : Reached o process stood how left read done
+    pub leaves : PassLeft o how last stood
+    pub reached : HowFar o process stood how left read done
 
 -- ## The whole
 
@@ -115,26 +115,26 @@ waited_in_vain served.Ended = served.ReadFault
 waited_in_vain how = how
 
 -- the child has ended, where the link tells that; or the wait failed, and the count rose
-abbrev pub Waits : ChildServed → (ended_now : Option Bool) → (faults faults_now : ℕ) → ChildServed → Type 0
-Waits how ended_now faults faults_now how' =
+abbrev pub Awaits : ChildServed → (ended_now : Option Bool) → (faults faults_now : ℕ) → ChildServed → Type 0
+Awaits how ended_now faults faults_now how' =
     ((how' ≡ how) × HasEnded ended_now × (faults_now ≡ faults)) ⊎ ((how' ≡ waited_in_vain how) × Rose faults faults_now)
 
 -- The link's count of faults rose in a read or a wait that failed; where it is the same, the child has ended, where the link tells that.
-abbrev pub IsServedFor : ChildServed → (ended_now : Option Bool) → (faults faults_now : ℕ) → Type 0
-IsServedFor served.Ended ended_now faults faults_now = HasEnded ended_now × (faults_now ≡ faults)
-IsServedFor served.ReadFault ended_now faults faults_now = Rose faults faults_now
-IsServedFor how ended_now faults faults_now = (HasEnded ended_now × (faults_now ≡ faults)) ⊎ Rose faults faults_now
+abbrev pub IsEndedFor : ChildServed → (ended_now : Option Bool) → (faults faults_now : ℕ) → Type 0
+IsEndedFor served.Ended ended_now faults faults_now = HasEnded ended_now × (faults_now ≡ faults)
+IsEndedFor served.ReadFault ended_now faults faults_now = Rose faults faults_now
+IsEndedFor how ended_now faults faults_now = (HasEnded ended_now × (faults_now ≡ faults)) ⊎ Rose faults faults_now
 
 -- these entries stand at these places of a history
-abbrev pub StandAt : List Entry → List ℕ → List Entry → Type 0
-StandAt log [] [] = Unit {0}
-StandAt log (place ∷ places) (e ∷ entries) = (slice_get log place ≡ Some e) × StandAt log places entries
-StandAt log [] (e ∷ entries) = ⊥
-StandAt log (place ∷ places) [] = ⊥
+abbrev pub EntriesStandAt : List Entry → List ℕ → List Entry → Type 0
+EntriesStandAt log [] [] = Unit {0}
+EntriesStandAt log (place ∷ places) (e ∷ entries) = (slice_get log place ≡ Some e) × EntriesStandAt log places entries
+EntriesStandAt log [] (e ∷ entries) = ⊥
+EntriesStandAt log (place ∷ places) [] = ⊥
 
 -- these are reports of the statuses, in order, at moments that the clock tells
 pub record AreReports (tells : ℕ → Type 0) (process : ℕ) (statuses : List Status) (entries : List Entry) : Type 0 where
-  pub steps : map (λ (e : Entry). e.1) entries ≡ map (steps.Report process) statuses
+  pub steps : map (λ (e : Entry). e.1) entries ≡ map (steps.Report process 0) statuses
   pub told : All (λ (e : Entry). tells e.0) entries
 
 module _ (tells : ℕ → Type 0) (o : Opening) (process : ℕ) where
@@ -146,7 +146,7 @@ module _ (tells : ℕ → Type 0) (o : Opening) (process : ℕ) where
     pub told : tells moment
     pub places : List ℕ
     pub own : k'.own ≡ k.own ++ places
-    pub stand : StandAt k'.seen places (entries ++ (moment, steps.Ended process) ∷ [])
+    pub stand : EntriesStandAt k'.seen places (entries ++ (moment, steps.Ended process) ∷ [])
 
   -- All was read, and the reports that were made of it lead to stood. Then the process ended.
   pub record ServesChild (k k' : Known) (left left_now : Option (List ℕ)) (faults faults_now : ℕ) (how : ChildServed) : Type 0 where
@@ -160,17 +160,17 @@ module _ (tells : ℕ → Type 0) (o : Opening) (process : ℕ) where
 
 -- ## Completeness
 
--- the limits had room for each of these reports behind all that the pass then saw
-abbrev pub HasRoomFor : Opening → ℕ → Known → Known → List Status → Type 0
-HasRoomFor o process k k' statuses =
+-- the limits had room for each of these reports after all that the pass then saw
+abbrev pub HadRoomFor : Opening → ℕ → Known → Known → List Status → Type 0
+HadRoomFor o process k k' statuses =
     (log : List Entry) (status : Status) → IsPrefix k.seen log → IsPrefix log k'.seen → Has status statuses
-    → room_behind o log (steps.Report process status) ≡ true
+    → room_behind o log (steps.Report process 0 status) ≡ true
 
 -- Where the link tells its bytes, fewer than a child may have, its count didn't rise, and there was room, all reports were made and the
 -- answer is
 -- Ended, or there was no memory.
-abbrev pub IsComplete : (tells : ℕ → Type 0) → Opening → ℕ → (k k' : Known) → (left : Option (List ℕ)) → (faults faults_now : ℕ)
+abbrev pub IsWhole : (tells : ℕ → Type 0) → Opening → ℕ → (k k' : Known) → (left : Option (List ℕ)) → (faults faults_now : ℕ)
     → ChildServed → Type 0
-IsComplete tells o process k k' left faults faults_now how =
-    (bytes : List ℕ) → left ≡ Some bytes → length bytes < 2 ^ 40 → (Rose faults faults_now → ⊥) → HasRoomFor o process k k' (reports bytes)
+IsWhole tells o process k k' left faults faults_now how =
+    (bytes : List ℕ) → left ≡ Some bytes → length bytes < 2 ^ 40 → (Rose faults faults_now → ⊥) → HadRoomFor o process k k' (reports bytes)
     → (how ≡ served.OutOfMemory) ⊎ ((how ≡ served.Ended) × HasReported tells o process k k' (reports bytes))

@@ -7,7 +7,7 @@ use scm_model::codes::{
     ERROR_PATH_NOT_FOUND,
 };
 
-/// Why a process that was taken in hand wasn't launched.
+/// Why a process whose launch was taken wasn't launched.
 #[derive(Clone, Copy)]
 pub enum LaunchFault {
     /// The spawner failed so.
@@ -17,7 +17,7 @@ pub enum LaunchFault {
 }
 
 impl LaunchFault {
-    /// The error that the manager is told.
+    /// The error that is reported to the manager.
     pub fn code(self) -> u32
         ensures code { result ≡ fault_code self }
         ensures error { result ≢ 0 }

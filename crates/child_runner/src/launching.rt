@@ -17,9 +17,9 @@ use std::sync::Wait;
 pub enum LaunchEnd<L, F> {
     /// The process was launched. These are its ends.
     Started { process: u64, link: L, feed: F },
-    /// It couldn't be launched, and the manager was told this error of the system (MS-ERREF): 2
-    /// where no program is there, 3 where a part of its path is no folder, 5 where it may not be
-    /// run, 8 for want of memory, 31 for any other fault.
+    /// It couldn't be launched, and this error of the system (MS-ERREF) was reported to the
+    /// manager: 2 if no program is there, 3 if a part of its path is no folder, 5 if it may not be
+    /// run, 8 if out of memory, 31 for any other fault.
     Failed { process: u64, code: u32 },
     /// No launch is wanted.
     Empty,
@@ -47,9 +47,9 @@ fn start<P: Spawner>(
     }
 }
 
-/// Takes the launch that is wanted first in hand, starts the words of its line, and tells the
-/// manager what came of it: that the process was launched, or that it couldn't be. `room` is where
-/// the line lies meanwhile.
+/// Takes the launch that is wanted first, starts the words of its line, and reports the outcome to
+/// the manager: that the process was launched, or that it couldn't be. `room` holds the line
+/// meanwhile.
 pub fn launch_one<R: Wait, K: Keeper, P: Spawner, C: Clock>(
     rt: &R,
     alloc: Global,

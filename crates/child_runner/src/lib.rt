@@ -1,5 +1,5 @@
-//! How a child runs over the book: its launch, what the manager is told of it, and the controls
-//! that it is sent.
+//! How a child runs over the book: its launch, what is reported of it to the manager, and the
+//! controls that it is sent.
 #![tactic(auto)]
 
 mod fault;

@@ -35,7 +35,7 @@ impl<'a, R: Wait, K: Keeper, C: Clock> ByteConsumer<Pass, ()> for Reporter<'a, R
     ghost use Rattle.std.specs.Prelude.{◌≡◌, ◌≤◌, length};
     ghost use Rattle.scm_model.specs.declared.flat.Phase.TheVariants as phases;
     ghost use Rattle.scm_book.specs.Passes.{HoldsProcess, IsOf};
-    ghost use Rattle.child_runner.specs.Reports.{GoesOn, Stops, parts_of};
+    ghost use Rattle.child_runner.specs.Reports.{GoesOn, Stops, child_parts};
 
     type Stop = MakeFault;
 
@@ -43,13 +43,13 @@ impl<'a, R: Wait, K: Keeper, C: Clock> ByteConsumer<Pass, ()> for Reporter<'a, R
         × HoldsProcess a.eater.book.now.opening a.place a.eater.process phases.Launched
         × (length a.eater.line ≤ 4096) };
 
-    ghost eats = { λ a b piece. (parts_of b.eater.book.now b.eater.clock.now b.eater.process
-        ≡ parts_of a.eater.book.now a.eater.clock.now a.eater.process)
+    ghost eats = { λ a b piece. (child_parts b.eater.book.now b.eater.clock.now b.eater.process
+        ≡ child_parts a.eater.book.now a.eater.clock.now a.eater.process)
         × GoesOn (C.tells a.eater.clock.now) a.eater.book.now.opening a.eater.process piece
         a.eater.line b.eater.line a.place b.place };
 
-    ghost stops = { λ a b piece why. (parts_of b.eater.book.now b.eater.clock.now b.eater.process
-        ≡ parts_of a.eater.book.now a.eater.clock.now a.eater.process)
+    ghost stops = { λ a b piece why. (child_parts b.eater.book.now b.eater.clock.now b.eater.process
+        ≡ child_parts a.eater.book.now a.eater.clock.now a.eater.process)
         × Stops (C.tells a.eater.clock.now) a.eater.book.now.opening a.eater.process piece
         a.eater.line b.eater.line a.place b.place why };
 

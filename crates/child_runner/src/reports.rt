@@ -2,8 +2,8 @@
 ghost use Rattle.std.specs.Prelude.{◌≡◌, ◌≤◌, ◌∷◌, [], length};
 ghost use Rattle.scm_model.specs.declared.flat.Phase.TheVariants as phases;
 ghost use Rattle.scm_book.specs.Passes.{HoldsProcess, IsOf};
-ghost use Rattle.child_link.specs.Lines.{reported};
-ghost use Rattle.child_runner.specs.Reports.{Fed, Reports, status_told};
+ghost use Rattle.child_link.specs.Lines.{stated};
+ghost use Rattle.child_runner.specs.Reports.{Fed, Reports, step_status};
 
 use child_link::{LineCutter, read_line_step};
 use outside::Clock;
@@ -14,7 +14,7 @@ use std::sync::Wait;
 
 /// The status that a step reports, if it is a report.
 fn status_of(step: &Step) -> Option<Status>
-    ensures { result ≡ status_told step.now }
+    ensures { result ≡ step_status step.now }
 {
     match step {
         Step::Report { status, .. } => Some(*status),
@@ -24,7 +24,7 @@ fn status_of(step: &Step) -> Option<Status>
 
 /// The status that a line of a process reports, if it is a report.
 fn status_in(line: &[u8], process: u64) -> Option<Status>
-    ensures { result ≡ reported line.now }
+    ensures { result ≡ stated line.now }
 {
     let step = read_line_step(line, process)?;
     let status = status_of(&step);

@@ -7,6 +7,7 @@ use outside::{Clock, write_all};
 use process_runner::Quit;
 use record_journal::Keeper;
 use scm_book::{Book, ControlLook, Pass, Spent};
+use scm_model::Order;
 use std::alloc::Global;
 use std::sync::Wait;
 
@@ -34,11 +35,11 @@ pub struct ControlsEnded {
 }
 
 /// Writes the line of a control, and tells what ended the sending there, if something did.
-fn send_line<F: Feed>(alloc: Global, feed: &mut F, code: u32) -> Option<ControlsSent>
-    ensures { WritesLine code (F.held feed.old) (F.held feed.new)
+fn send_line<F: Feed>(alloc: Global, feed: &mut F, order: Order) -> Option<ControlsSent>
+    ensures { WritesLine order (F.held feed.old) (F.held feed.new)
         (F.faults feed.old) (F.faults feed.new) result }
 {
-    let Ok(line) = control_line(alloc, code) else {
+    let Ok(line) = control_line(alloc, order.code) else {
         return Some(ControlsSent::OutOfMemory);
     };
     let written = write_all(feed, line.as_slice());
@@ -75,7 +76,7 @@ fn send_next<R: Wait, K: Keeper, F: Feed, C: Clock, Q: Quit>(
     let bell = book.child_bell(process);
     let seen = bell.count();
     match book.take_control(rt, pass, clock.now(), process) {
-        ControlLook::Control(code) => send_line(alloc, feed, code),
+        ControlLook::Control(order) => send_line(alloc, feed, order),
         ControlLook::Empty => {
             bell.wait(rt, seen);
             None

@@ -3,9 +3,9 @@ ghost use Rattle.std.specs.Prelude.{◌≡◌, ◌≤◌, ◌^◌, []};
 ghost use Rattle.std.specs.Io.KnownBytes.{Keeps};
 ghost use Rattle.scm_model.specs.declared.flat.Phase.TheVariants as phases;
 ghost use Rattle.scm_book.specs.Passes.{HoldsProcess, IsOf};
-ghost use Rattle.child_runner.specs.Serving.{IsComplete, IsReadFor, IsServedFor, MakesReports};
-ghost use Rattle.child_runner.specs.Serving.{ReadsAll, ReadsOn, ServesChild, Waits};
-ghost use Rattle.child_runner.specs.Serving.{served_as, waited_in_vain};
+ghost use Rattle.child_runner.specs.Serving.{IsWhole, IsReadFor, IsEndedFor, MakesReports};
+ghost use Rattle.child_runner.specs.Serving.{ReadsAll, ReadsOn, ServesChild, Awaits};
+ghost use Rattle.child_runner.specs.Serving.{child_served_as, waited_in_vain};
 
 use crate::reporter::{Reporter, Unread};
 use crate::served::{ChildEnded, ChildServed};
@@ -19,7 +19,7 @@ use std::sync::Wait;
 
 /// How it ends that a child's output was fed so.
 fn served_as(fed: ReadEnd<MakeFault>) -> ChildServed
-    ensures { result ≡ served_as fed }
+    ensures { result ≡ child_served_as fed }
 {
     match fed {
         ReadEnd::Ended => ChildServed::Ended,
@@ -120,7 +120,7 @@ fn waited_in_vain(how: ChildServed) -> ChildServed
 /// Waits for a child's end.
 fn wait<L: Link>(link: &mut L, how: ChildServed) -> ChildServed
     ensures bytes { Keeps (L.left link.old) (L.left link.new) }
-    ensures waits { Waits how (L.ended link.new) (L.faults link.old) (L.faults link.new) result }
+    ensures waits { Awaits how (L.ended link.new) (L.faults link.old) (L.faults link.new) result }
 {
     match link.wait() {
         Ok(()) => how,
@@ -147,9 +147,9 @@ pub fn serve_child<R: Wait, K: Keeper, L: Link, C: Clock>(
     ensures serves { ServesChild (C.tells clock.now) book.now.opening process pass
         result.spent (L.left link.old) (L.left link.new)
         (L.faults link.old) (L.faults link.new) result.how }
-    ensures cause { IsServedFor result.how (L.ended link.new)
+    ensures cause { IsEndedFor result.how (L.ended link.new)
         (L.faults link.old) (L.faults link.new) }
-    ensures complete { IsComplete (C.tells clock.now) book.now.opening process pass
+    ensures complete { IsWhole (C.tells clock.now) book.now.opening process pass
         result.spent (L.left link.old) (L.faults link.old) (L.faults link.new) result.how }
 {
     let how = read_all(rt, alloc, book, &mut pass, process, link, clock);

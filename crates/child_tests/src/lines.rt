@@ -8,7 +8,13 @@ const PROCESS: u64 = 7;
 /// The seven numbers of the status that a step reports of the process.
 fn reported(step: &Option<Step>) -> Option<[u32; 7]> {
     match step {
-        Some(Step::Report { process, status: s }) if *process == PROCESS => Some([
+        Some(
+            Step::Report {
+                process,
+                service: 0,
+                status: s,
+            },
+        ) if *process == PROCESS => Some([
             s.kind,
             s.state,
             s.accepted,

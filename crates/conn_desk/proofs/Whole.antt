@@ -3,7 +3,7 @@ use Rattle.std.proofs.Common.{ℕ, ◌≡◌, ◌≤◌, ◌^◌, Bool, List, []
 use Rattle.std.proofs.Common.{append_assoc, append-nil, arith}
 use Rattle.feed_loop.specs.declared.fed.ReadEnd.{ReadEnd}
 use Rattle.feed_loop.specs.declared.fed.ReadEnd.TheVariants as fed_to
-use Rattle.feed_loop.specs.Feeding.{AllEaten, At, Chain as EatenChain, Feeds, IsFedFor, bytes_of}
+use Rattle.feed_loop.specs.Feeding.{AllEaten, At, FeedChain as EatenChain, Feeds, IsFedFor, bytes_of}
 use Rattle.conn_desk.specs.declared.asked.DecodedRequest.{DecodedRequest}
 use Rattle.scm_model.specs.declared.calls.Reply.{Reply}
 use Rattle.rpc_session.specs.Items.{is_at_rest}

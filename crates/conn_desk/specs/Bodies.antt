@@ -58,14 +58,14 @@ asked items = filter_map asked_by items
 -- ## Replies
 
 -- what is asked, refused with a code
-abbrev pub refusal_of : DecodedRequest → ℕ → Reply
-refusal_of (asks.Call request) code = refused request code
-refusal_of (asks.Raise subtype) code = reply.Code code
+abbrev pub refusal_with : DecodedRequest → ℕ → Reply
+refusal_with (asks.Call request) code = refused request code
+refusal_with (asks.Raise subtype) code = reply.Code code
 
 -- what a request was told: a reply, or that there was no memory for it
 abbrev pub reply_to : DecodedRequest → Option Reply → Reply
 reply_to request (Some told) = told
-reply_to request None = refusal_of request ERROR_NOT_ENOUGH_MEMORY
+reply_to request None = refusal_with request ERROR_NOT_ENOUGH_MEMORY
 
 -- the response to a request
 abbrev pub response : RequestItem → Reply → List ℕ
@@ -86,7 +86,7 @@ abbrev pub answer_of : Incoming → List (Option Reply) → List ℕ
 answer_of (Local bytes) replies = bytes
 answer_of (Request r) replies = answer_to r (asked_of r) replies
 
--- the replies that are left behind a request
+-- the replies that are left after a request
 abbrev pub replies_behind : Option DecodedRequest → List (Option Reply) → List (Option Reply)
 replies_behind None replies = replies
 replies_behind (Some request) replies = drop 1 replies

@@ -23,7 +23,7 @@ pub record AllServed (read : List ℕ) (done : List Incoming) (ending : StreamEn
 abbrev pub piece_size : ℕ
 piece_size = 4096
 
--- at most one piece was read behind bytes whose items are all answered
+-- at most one piece was read after bytes whose items are all answered
 pub record IsAhead (read : List ℕ) (answered : List Incoming) : Type 0 where
   pub front : List ℕ
   pub piece : List ℕ
@@ -75,7 +75,7 @@ pub record HasNoRoom {D : Type 0} (full : D → DecodedRequest → Type 0) (desk
   pub asks : asked_by next ≡ Some request
   pub met : full desk request
 
--- How far a connection came, by what it answered, with its desk behind it.
+-- How far a connection came, by what it answered, with its desk as it was afterwards.
 abbrev pub Reached : {D : Type 0} → (full : D → DecodedRequest → Type 0) → (desk : D) → Served → (read : List ℕ) → (left : Option (List ℕ))
     → List Incoming → List (Option Reply) → (written : List ℕ) → Type 0
 Reached full desk served.Ended read left done told written = IsAtEnd left × (length read < 2 ^ 40) × AllServed read done AtRest told written
@@ -91,8 +91,7 @@ Reached full desk served.OutOfMemory read left done told written = FirstServed r
 
 -- ## Causes
 
--- the count of the source or the sink rose where it is said to have failed; at each other end, as at want of memory, both are
--- the same
+-- the count of the source or the sink rose if it is said to have failed; at each other end, also when memory ran out, both are the same
 abbrev pub IsServedFor : Served → (source source_now sink sink_now : ℕ) → Type 0
 IsServedFor served.ReadFault source source_now sink sink_now = ReadFailed source source_now sink sink_now
 IsServedFor served.WriteFault source source_now sink sink_now = WriteFailed source source_now sink sink_now

@@ -39,7 +39,7 @@ pub record Serves {D : Type 0} (called : D → D → DecodedRequest → Option R
 
 -- ## One read
 
--- behind what was fed before comes what was read
+-- what was fed before, followed by what was read
 abbrev pub fed : List ℕ → List ℕ → List ℕ
 fed read stream = stream ++ read
 

@@ -73,7 +73,8 @@ fn replied<D: RequestHandler>(
     requires ready { D.ready desk.old }
     requires ranged { IsTrue (in_range request) }
     ensures ready { D.ready desk.new }
-    ensures ok { IfOk result (λ body. Replied D.called desk.old desk.new (Call request) body.items) }
+    ensures ok { IfOk result (λ body.
+        Replied D.called desk.old desk.new (Call request) body.items) }
     ensures err { IfErr result (Unanswered D.rests D.full desk.old desk.new (Call request)) }
 {
     let Ok(out) = room_for(alloc, reply_bound(&request) as usize) else {
@@ -113,7 +114,8 @@ fn raised<D: RequestHandler>(
 ) -> Result<Buffer<u8>, HandlerError>
     requires { D.ready desk.old }
     ensures ready { D.ready desk.new }
-    ensures ok { IfOk result (λ body. Replied D.called desk.old desk.new (Raise subtype) body.items) }
+    ensures ok { IfOk result (λ body.
+        Replied D.called desk.old desk.new (Raise subtype) body.items) }
     ensures err { IfErr result (Unanswered D.rests D.full desk.old desk.new (Raise subtype)) }
 {
     let out = room_for(alloc, RAISE_REPLY_BYTES)?;

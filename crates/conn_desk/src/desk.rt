@@ -18,7 +18,7 @@ pub enum HandlerError {
 
 /// Answers the requests of one caller.
 pub trait RequestHandler {
-    /// What it has to be for a request, and is behind each.
+    /// What it has to be before a request, and is after each.
     ghost ready: { Self → Type 0 };
 
     /// What an answered request makes of it, by what was heard of the request: a reply, or that

@@ -1,5 +1,6 @@
 -- What a pass's requests are told answers them.
-use Rattle.std.proofs.Common.{◌≡◌, ◌∙◌, ◌⊎◌, ℕ, Bool, List, [], Option, None, Some, true, false, inl, inr, refl, sym, subst}
+use Rattle.std.proofs.Common.{◌≡◌, ◌∙◌, ◌⊎◌, ℕ, Bool, IsTrue, List, [], Option, None, Some, true, false, inl, inr, refl, sym, subst}
+use Rattle.scm_model.specs.Ranges.{in_range}
 use Rattle.scm_model.specs.declared.calls.Reply.{Reply}
 use Rattle.scm_model.specs.declared.calls.Reply.TheVariants as replies
 use Rattle.scm_model.specs.declared.calls.Request.{Request}
@@ -10,11 +11,12 @@ use Rattle.scm_model.specs.declared.steps.Kept.TheVariants as appended
 use Rattle.scm_model.specs.declared.steps.Step.{Step}
 use Rattle.scm_model.specs.declared.steps.Step.TheVariants.{Call, EndStart, Raised}
 use Rattle.scm_bodies.specs.Replies.{Answers}
+use Rattle.scm_bodies.proofs.Codecs.{has_call}
 use Rattle.scm_runs.proofs.Along.{along}
 use Rattle.scm_runs.proofs.Calls.{keeps}
 use Rattle.scm_runs.proofs.Histories.{at_entry, legal_made}
 use Rattle.scm_runs.proofs.Sound.{Sound, begun}
-use Rattle.scm_answers.specs.Answering.{LawOfAnswering, RepliesRightly}
+use Rattle.scm_answers.specs.Answering.{LawOfAnswering, RepliesRightly, IsCode}
 use Rattle.scm_answers.proofs.Calls.{of_refused}
 use Rattle.scm_answers.proofs.Steps.{gives}
 use Rattle.book_rule.specs.declared.view.Opening.{Opening}
@@ -23,7 +25,7 @@ use Rattle.scm_book.specs.Holds.{Opens}
 use Rattle.scm_book.specs.Passes.{FindsNoRoom, Known, Made, MadeSo, room_behind}
 use Rattle.conn_desk.specs.declared.asked.DecodedRequest.TheVariants as asks
 use Rattle.conn_desk.specs.Desks.{CallAnswered}
-use Rattle.conn_worker.specs.Serving.{IsCode, IsServed}
+use Rattle.conn_worker.specs.Serving.{IsServed}
 use Rattle.conn_worker.specs.Waiting.{WaitsAndEnds}
 use Rattle.conn_worker.proofs.Waiting.{waits_caller}
 
@@ -51,19 +53,19 @@ module _ (o : Opening) (opens : Opens o) where
 
   module _ (silent : Bool) (tells : ℕ → Type 0) (k : Known) (moment : ℕ) (told : tells moment) (asked : Request) where
     -- a request that was answered at once
-    pub at_once : (k' : Known) (reply : Reply) → AnsweredSo o k moment asked reply k'
+    pub at_once : IsTrue (in_range asked) → (k' : Known) (reply : Reply) → AnsweredSo o k moment asked reply k'
         → CallAnswered (IsServed silent tells o) k k' (asks.Call asked) reply
-    at_once k' reply (inl made) = record {
+    at_once range k' reply (inl made) = record {
       heard = Some reply;
       made = inl (record { moment = moment; told = told; made = made });
       told = refl;
       answers = of_reply k k' moment asked reply made;
     }
-    at_once k' reply (inr wants) = record {
+    at_once range k' reply (inr wants) = record {
       heard = None;
       made = record { moment = moment; told = told; wants = subst (λ (r : Reply). WantsMemory o k moment asked r k') wants.refused wants };
       told = sym wants.refused;
-      answers = subst (Answers asked) (sym wants.refused) (of_refused asked 8);
+      answers = subst (Answers asked) (sym wants.refused) (of_refused asked 8 (has_call asked range));
     }
 
     -- a start that waited

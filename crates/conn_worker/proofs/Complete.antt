@@ -14,7 +14,7 @@ use Rattle.conn_desk.specs.declared.asked.DecodedRequest.{DecodedRequest}
 use Rattle.conn_desk.specs.declared.served.Served.{Served}
 use Rattle.conn_desk.specs.declared.served.Served.TheVariants as served
 use Rattle.conn_desk.specs.Connection.{AllBefore, AllServed, FirstServed, HasNoRoom, IsOpenEnd, IsServedFor, Reached}
-use Rattle.conn_worker.specs.Complete.{AnswersAll, EndsAs, FindsRoom, HasRoomForAll, IsComplete, end_of}
+use Rattle.conn_worker.specs.Complete.{AnswersAll, EndsAs, FindsRoom, HasRoomThroughout, IsComplete, end_as}
 use Rattle.conn_desk.specs.Bodies.{asked, spoken}
 use Rattle.conn_desk.specs.Desks.{Chain}
 use Rattle.conn_desk.specs.Serves.{Leaves}
@@ -28,7 +28,7 @@ pub rest_of : (bytes read : List ℕ) (left : Option (List ℕ)) → Consumes (S
 rest_of bytes read None h = absurd h
 rest_of bytes read (Some rest) h = (rest, h)
 
-all_of : (bytes read : List ℕ) (left : Option (List ℕ)) → Consumes (Some bytes) left read → IsAtEnd left → bytes ≡ read
+pub all_of : (bytes read : List ℕ) (left : Option (List ℕ)) → Consumes (Some bytes) left read → IsAtEnd left → bytes ≡ read
 all_of bytes read None h e = absurd h
 all_of bytes read (Some rest) h e = h ∙ ap (λ x. read ++ x) e ∙ append-nil read
 
@@ -44,7 +44,7 @@ same_head : (x y : ℕ) (xs ys : List ℕ) → x ∷ xs ≡ y ∷ ys → x ≡ y
 same_head x y xs ys e = cc
 
 -- the shorter of two fronts is a front of the longer
-shorter : (a x b y : List ℕ) → a ++ x ≡ b ++ y → length a ≤ length b → Begins a b
+pub shorter : (a x b y : List ℕ) → a ++ x ≡ b ++ y → length a ≤ length b → Begins a b
 shorter [] x b y e h = (b, refl)
 shorter (p ∷ a) x [] y e h = absurd (omega (arith, h))
 shorter (p ∷ a) x (q ∷ b) y e h =
@@ -52,25 +52,25 @@ shorter (p ∷ a) x (q ∷ b) y e h =
     (more.0, ap (λ t. t ∷ b) (sym (same_head p q _ _ e)) ∙ ap (λ t. p ∷ t) more.1)
 
 -- a long front doesn't fit in little input
-too_long : (bytes front : List ℕ) → Begins front bytes → length front ≡ 2 ^ 40 → length bytes < 2 ^ 40 → ⊥
+pub too_long : (bytes front : List ℕ) → Begins front bytes → length front ≡ 2 ^ 40 → length bytes < 2 ^ 40 → ⊥
 too_long bytes front b e small = omega (arith, e, small, ap length b.1, length-append front b.0)
 
 -- ## Ends
 
 -- what was read ends so, and it was all
 ends_so : (bytes read : List ℕ) (done : List Incoming) (ending : StreamEnd) → bytes ≡ read → length read < 2 ^ 40
-    → items read ≡ record { items = done; ending = ending } → EndsAs bytes (end_of ending)
+    → items read ≡ record { items = done; ending = ending } → EndsAs bytes (end_as ending)
 ends_so bytes read done ending same small is = record {
-  whole = λ _. inl (ap (λ (t : Told). end_of t.ending) (sym is ∙ ap items (sym same)));
+  whole = λ _. inl (ap (λ (t : Told). end_as t.ending) (sym is ∙ ap items (sym same)));
   worn = λ front b e _. absurd (too_long bytes front b e (omega (arith, small, ap length same)));
 }
 
 -- a bad end is that of all that begins so
 ends_bad : (bytes read : List ℕ) (done : List Incoming) (ending : StreamEnd) → Begins read bytes → length read ≤ 2 ^ 40
     → ((more : List ℕ) → items (read ++ more) ≡ record { items = done; ending = ending }) → (IsOpenEnd ending → ⊥)
-    → EndsAs bytes (end_of ending)
+    → EndsAs bytes (end_as ending)
 ends_bad bytes read done ending begins most all bad = record {
-  whole = λ _. inl (ap (λ (t : Told). end_of t.ending) (sym (all begins.0) ∙ ap items (sym begins.1)));
+  whole = λ _. inl (ap (λ (t : Told). end_as t.ending) (sym (all begins.0) ∙ ap items (sym begins.1)));
   worn = λ front b same goes_on.
       let z = shorter read begins.0 front b.0 (sym begins.1 ∙ b.1) (omega (arith, most, same)) in
       absurd (bad (subst IsOpenEnd (ap (λ (t : Told). t.ending) (ap items z.1 ∙ all z.0)) goes_on));
@@ -121,7 +121,7 @@ module _ {D : Type 0} (full : D → DecodedRequest → Type 0) (at : D) (bytes r
       let begins = rest_of bytes read left_now consumed in
       (ap (λ (t : Told). t.items) (sym (served.all begins.0) ∙ ap items (sym begins.1)), served.text)
 
-  pub all_at : (ending : StreamEnd) → Reached full at (end_of ending) read left_now done heard written → AreAll
+  pub all_at : (ending : StreamEnd) → Reached full at (end_as ending) read left_now done heard written → AreAll
   all_at AtRest reached = all_at_end AtRest reached.0 reached.2
   all_at Unfinished reached = all_at_end Unfinished reached.0 reached.2
   all_at (BadPdu place kind) reached = all_at_bad (BadPdu place kind) reached
@@ -140,7 +140,7 @@ where_full full at read left_now done heard written how reached is =
 module _ (silent : Bool) (tells : ℕ → Type 0) (o : Opening) (k k' : Known) (left_now held held_now : Option (List ℕ)) where
   -- there was room for the next request
   not_full : (bytes : List ℕ) (how : Served) (c : Connects silent tells o k k' (Some bytes) left_now held held_now how)
-      → HasRoomForAll silent tells o k bytes
+      → HasRoomThroughout silent tells o k bytes
       → how ≡ served.Full → HasNoRoom (HasNoRoomFor o) c.stood c.read c.done → ⊥
   not_full bytes how c room is none =
       let learnt : Learnt o c.last c.stood = subst (λ (h : Served). Leaves (Learnt o) h c.last c.stood) is c.leaves in
@@ -163,7 +163,7 @@ module _ (silent : Bool) (tells : ℕ → Type 0) (o : Opening) (k k' : Known) (
       }
 
   pub finds_room : (left : Option (List ℕ)) (how : Served) → Connects silent tells o k k' left left_now held held_now how
-      → FindsRoom (HasRoomForAll silent tells o k) left how
+      → FindsRoom (HasRoomThroughout silent tells o k) left how
   finds_room None how c = tt
   finds_room (Some bytes) how c = λ room is.
       not_full bytes how c room is

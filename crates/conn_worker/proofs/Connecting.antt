@@ -21,6 +21,7 @@ use Rattle.conn_worker.specs.Connecting.{Connects, HasNoRoomFor}
 use Rattle.conn_worker.specs.Owning.{Adds, unowed_places}
 use Rattle.conn_worker.specs.Serving.{IsServed, step_for}
 use Rattle.conn_worker.proofs.Owning.{DidAll, Makes, adds_made, adds_then, found_behind, makes_learnt, makes_none, makes_then, of_chain}
+use Rattle.conn_worker.proofs.Reaching.{reached_as}
 
 -- a desk that has a pass, a book and a clock
 module _ {D Ck : Type 0} (silent : Bool) (pass : D → Known) (book : D → Identity) (clock : D → Ck) (tells_at : Ck → ℕ → Type 0) where
@@ -78,17 +79,9 @@ module _ {D Ck : Type 0} (silent : Bool) (pass : D → Known) (book : D → Iden
         (written : List ℕ)
         → Is d → Reached full d how read left_now done heard written → Reached (HasNoRoomFor b.opening)
         (pass d) how read left_now done heard written
-    reached_on served.Full d read left_now done heard written is reached = (
-      reached.0,
-      record {
-        next = reached.1.next;
-        follows = reached.1.follows;
-        request = reached.1.request;
-        asks = reached.1.asks;
-        met = fills d reached.1.request is reached.1.met;
-      },
-    )
-    reached_on how d read left_now done heard written is reached = reached
+    reached_on how d read left_now done heard written is reached =
+        reached_as full (HasNoRoomFor b.opening) d (pass d) (λ request none. fills d request is none) how read left_now done heard written
+        reached
 
 makes_left : (tells : ℕ → Type 0) (o : Opening) (how : Served) (k k' : Known) → Leaves (Learnt o) how k k' → Makes tells o k [] [] k'
 makes_left tells o served.Full k k' leaves = makes_learnt tells o k k' leaves

@@ -22,14 +22,15 @@ use Rattle.scm_book.specs.Passes.{Known, Learnt, Made, MadeSo, room_behind}
 use Rattle.conn_desk.specs.declared.asked.DecodedRequest.{DecodedRequest}
 use Rattle.conn_desk.specs.declared.asked.DecodedRequest.TheVariants as asks
 use Rattle.conn_desk.specs.Desks.{Chain}
-use Rattle.conn_worker.specs.Owning.{Adds, AreFailures, AreOf, AreOfAll, AreOfTurns, AreTold, FoundRoom, HadRoom, Owns, StandAt, StandsAt}
+use Rattle.conn_worker.specs.Owning.{Adds, AreFailures, AreOf, AreOfAll, AreOfTurns, AreTold, StepsHadRoom, HadRoom, Owns, StandAt}
+use Rattle.conn_worker.specs.Owning.{StandsAt}
 use Rattle.conn_worker.specs.Owning.{unowed_places}
 use Rattle.conn_worker.specs.Serving.{IsServed, Wants, step_for}
 use Rattle.conn_worker.specs.Waiting.{FailsLaunch, Turns, Waits, WaitsOnce}
 
 -- ## Places stay
 
-stays_at : (o : Opening) (log more : List Entry) (place : ℕ) (one : Told) → StandsAt o log place one → StandsAt o (log ++ more) place one
+pub stays_at : (o : Opening) (log more : List Entry) (place : ℕ) (one : Told) → StandsAt o log place one → StandsAt o (log ++ more) place one
 stays_at o log more place one stands =
     let l = o.limits in
     let f = o.first in
@@ -42,7 +43,7 @@ stays_at o log more place one stands =
     (λ i. answer l f (whole i) (stands.at i)) ∙ told l f stands.front e (stands.rest ++ more) in
     record { front = stands.front; rest = stands.rest ++ more; is = whole; at = stands.at; told = then ∙ (sym first ∙ stands.told) }
 
-stay_at : (o : Opening) (log more : List Entry) (places : List ℕ) (own : List Told) → StandAt o log places own
+pub stay_at : (o : Opening) (log more : List Entry) (places : List ℕ) (own : List Told) → StandAt o log places own
     → StandAt o (log ++ more) places own
 stay_at o log more [] [] stand = tt
 stay_at o log more (place ∷ places) (one ∷ own) stand = (stays_at o log more place one stand.0, stay_at o log more places own stand.1)
@@ -155,7 +156,7 @@ had_behind o log longer place step is had = record {
 }
 
 pub found_behind : (o : Opening) (log longer : List Entry) (places : List ℕ) (steps : List Step) → IsPrefix log longer
-    → FoundRoom o log places steps → FoundRoom o longer places steps
+    → StepsHadRoom o log places steps → StepsHadRoom o longer places steps
 found_behind o log longer [] [] is found = tt
 found_behind o log longer (place ∷ places) (step ∷ steps) is found = (
   had_behind o log longer place step is found.0,
@@ -164,9 +165,9 @@ found_behind o log longer (place ∷ places) (step ∷ steps) is found = (
 found_behind o log longer [] (step ∷ steps) is found = absurd found
 found_behind o log longer (place ∷ places) [] is found = absurd found
 
-found_then : (o : Opening) (log : List Entry) (places more : List ℕ) (steps others : List Step) → FoundRoom o log places steps
-    → FoundRoom o log more others
-    → FoundRoom o log (places ++ more) (steps ++ others)
+found_then : (o : Opening) (log : List Entry) (places more : List ℕ) (steps others : List Step) → StepsHadRoom o log places steps
+    → StepsHadRoom o log more others
+    → StepsHadRoom o log (places ++ more) (steps ++ others)
 found_then o log [] more [] others first then = then
 found_then o log (place ∷ places) more (step ∷ steps) others first then = (first.0, found_then o log places more steps others first.1 then)
 found_then o log [] more (step ∷ steps) others first then = absurd first
@@ -282,21 +283,13 @@ module _ (tells : ℕ → Type 0) (o : Opening) where
       pub of_turns : AreOfTurns silent entries
       pub owed : All IsOwed entries
 
+    -- without a step
+    turned_none : (k k' : Known) → Makes tells o k [] [] k' → Turned k k'
+    turned_none k k' makes = record { entries = []; places = []; makes = makes; of_turns = no_turns silent; owed = All-nil IsOwed }
+
     of_turn : (k k' : Known) (moment : ℕ) → tells moment → Turns silent o k moment k' → Turned k k'
-    of_turn k k' moment so (inl (inl same)) = record {
-      entries = [];
-      places = [];
-      makes = makes_none k k' same;
-      of_turns = no_turns silent;
-      owed = All-nil IsOwed;
-    }
-    of_turn k k' moment so (inl (inr learnt)) = record {
-      entries = [];
-      places = [];
-      makes = makes_learnt k k' learnt;
-      of_turns = no_turns silent;
-      owed = All-nil IsOwed;
-    }
+    of_turn k k' moment so (inl (inl same)) = turned_none k k' (makes_none k k' same)
+    of_turn k k' moment so (inl (inr learnt)) = turned_none k k' (makes_learnt k k' learnt)
     of_turn k k' moment so (inr may) =
         let fails : FailsLaunch o k moment k' = may.1 in
         let taken : Told = made_of (moment, LaunchTaken) (answers.Launch fails.process) in
@@ -319,13 +312,7 @@ module _ (tells : ℕ → Type 0) (o : Opening) where
         }
 
     of_waits : (plan : ℕ) (moments : List ℕ) (k k' : Known) → All tells moments → Waits silent o plan moments k k' → Turned k k'
-    of_waits plan [] k k' all same = record {
-      entries = [];
-      places = [];
-      makes = makes_none k k' same;
-      of_turns = no_turns silent;
-      owed = All-nil IsOwed;
-    }
+    of_waits plan [] k k' all same = turned_none k k' (makes_none k k' same)
     of_waits plan (moment ∷ moments) k k' all waits =
         let once : WaitsOnce silent o plan k moment waits.0 = waits.1 in
         let first : Turned once.looked waits.0 = of_turn once.looked waits.0 moment (All-head tells moment moments all) once.turns in
@@ -346,7 +333,7 @@ module _ (tells : ℕ → Type 0) (o : Opening) where
       pub places : List ℕ
       pub makes : Makes tells o k entries places k'
       pub of : AreOf silent k.caller asked heard entries
-      pub found : FoundRoom o k'.seen (unowed_places places entries) (step_for k.caller asked ∷ [])
+      pub found : StepsHadRoom o k'.seen (unowed_places places entries) (step_for k.caller asked ∷ [])
 
     of_served : (k k' : Known) (asked : DecodedRequest) (heard : Option Reply) → IsServed silent tells o k k' asked heard
         → Did k k' asked heard
@@ -412,7 +399,7 @@ module _ (tells : ℕ → Type 0) (o : Opening) where
             moment = last.moment;
             is = refl;
           });
-          found = subst (λ (ps : List ℕ). FoundRoom o k'.seen (length made.made.before ∷ ps) (step_for k.caller (asks.Call asked) ∷ []))
+          found = subst (λ (ps : List ℕ). StepsHadRoom o k'.seen (length made.made.before ∷ ps) (step_for k.caller (asks.Call asked) ∷ []))
               (sym (unowed_none (turns.places ++ length end.before ∷ []) (turns.entries ++ close ∷ [])
               (All-append IsOwed turns.entries (close ∷ []) turns.owed (All-cons IsOwed close [] refl (All-nil IsOwed))))) (
                 had_behind o waited.begun.seen k'.seen (length made.made.before) (step_for k.caller (asks.Call asked))
@@ -429,7 +416,7 @@ module _ (tells : ℕ → Type 0) (o : Opening) where
       pub places : List ℕ
       pub makes : Makes tells o k entries places k'
       pub of : AreOfAll silent k.caller requests heard entries
-      pub found : FoundRoom o k'.seen (unowed_places places entries) (map (step_for k.caller) requests)
+      pub found : StepsHadRoom o k'.seen (unowed_places places entries) (map (step_for k.caller) requests)
 
     pub of_chain : (k k' : Known) (requests : List DecodedRequest) (heard : List (Option Reply))
         → Chain (IsServed silent tells o) k k' requests heard → DidAll k k' requests heard
@@ -451,9 +438,9 @@ module _ (tells : ℕ → Type 0) (o : Opening) where
           found =
               let one : List ℕ = unowed_places first.places first.entries in
               let more : List ℕ = unowed_places rest.places rest.entries in
-              let then : FoundRoom o k'.seen more (map (step_for k.caller) requests) =
-              subst (λ (c : ℕ). FoundRoom o k'.seen more (map (step_for c) requests)) first.makes.caller rest.found in
-              subst (λ (ps : List ℕ). FoundRoom o k'.seen ps (step_for k.caller asked ∷ map (step_for k.caller) requests))
+              let then : StepsHadRoom o k'.seen more (map (step_for k.caller) requests) =
+              subst (λ (c : ℕ). StepsHadRoom o k'.seen more (map (step_for c) requests)) first.makes.caller rest.found in
+              subst (λ (ps : List ℕ). StepsHadRoom o k'.seen ps (step_for k.caller asked ∷ map (step_for k.caller) requests))
               (sym (unowed_more first.places rest.places first.entries rest.entries first.makes.as_many))
               (found_then o k'.seen one more (step_for k.caller asked ∷ []) (map (step_for k.caller) requests)
               (found_behind o chain.0.seen k'.seen one (step_for k.caller asked ∷ []) rest.makes.adds.longer first.found) then);

@@ -19,22 +19,22 @@ use Rattle.conn_worker.specs.Serving.{IsServed, step_for}
 -- ## The input's end
 
 -- how a connection ends whose input ends so
-abbrev pub end_of : StreamEnd → Served
-end_of AtRest = served.Ended
-end_of Unfinished = served.Truncated
-end_of (BadPdu place kind) = served.BadPdu place kind
-end_of (TooLong length) = served.TooLong length
+abbrev pub end_as : StreamEnd → Served
+end_as AtRest = served.Ended
+end_as Unfinished = served.Truncated
+end_as (BadPdu place kind) = served.BadPdu place kind
+end_as (TooLong length) = served.TooLong length
 
 -- it ended as it should, unless memory was wanting
-abbrev pub IsOrLacks : (due how : Served) → Type 0
-IsOrLacks due how = (how ≡ due) ⊎ (how ≡ served.OutOfMemory)
+abbrev pub EndsOrLacks : (due how : Served) → Type 0
+EndsOrLacks due how = (how ≡ due) ⊎ (how ≡ served.OutOfMemory)
 
 -- Each input ends the connection in its way; where more comes than a connection may have and no end before that, it is worn.
 pub record EndsAs (bytes : List ℕ) (how : Served) : Type 0 where
-  pub whole : length bytes < 2 ^ 40 → IsOrLacks (end_of (items bytes).ending) how
-  pub worn : (front : List ℕ) → Begins front bytes → length front ≡ 2 ^ 40 → IsOpenEnd (items front).ending → IsOrLacks served.Worn how
+  pub whole : length bytes < 2 ^ 40 → EndsOrLacks (end_as (items bytes).ending) how
+  pub worn : (front : List ℕ) → Begins front bytes → length front ≡ 2 ^ 40 → IsOpenEnd (items front).ending → EndsOrLacks served.Worn how
 
--- Where no count rose, the input is told, and the connection isn't full, it ends as the input does, whoever else is at the book.
+-- If no count rose, the input is known, and the connection isn't full, it ends as the input does, whatever other callers the book has.
 abbrev pub IsComplete : (left : Option (List ℕ)) → (source source_now sink sink_now : ℕ) → Served → Type 0
 IsComplete left source source_now sink sink_now how =
     IfSome left (λ bytes. (Rose source source_now → ⊥) → (Rose sink sink_now → ⊥) → how ≢ served.Full → EndsAs bytes how)
@@ -49,20 +49,20 @@ pub record AllAnswered (silent : Bool) (tells : ℕ → Type 0) (o : Opening) (k
   pub chain : Chain (IsServed silent tells o) k last (asked (items bytes).items) heard
   pub written : Appends held held_now (spoken (items bytes).items heard)
 
--- where the connection ended as its input does, and that is told, each item of it is answered
+-- if the input is known and the connection ended as it does, each item of the input is answered
 abbrev pub AnswersAll : (silent : Bool) → (tells : ℕ → Type 0) → Opening → Known → (left held held_now : Option (List ℕ)) → Served → Type 0
 AnswersAll silent tells o k left held held_now how =
-    IfSome left (λ bytes. how ≡ end_of (items bytes).ending → AllAnswered silent tells o k bytes held held_now)
+    IfSome left (λ bytes. how ≡ end_as (items bytes).ending → AllAnswered silent tells o k bytes held held_now)
 
 -- ## Room
 
--- where there is room for each request of an input that is told, the connection isn't full
+-- if the input is known and there is room for each of its requests, the connection isn't full
 abbrev pub FindsRoom : (room : List ℕ → Type 0) → (left : Option (List ℕ)) → Served → Type 0
 FindsRoom room left how = IfSome left (λ bytes. room bytes → how ≢ served.Full)
 
--- behind whatever a pass may come to by the first requests of these bytes, the limits have room for the next one
-abbrev pub HasRoomForAll : (silent : Bool) → (tells : ℕ → Type 0) → Opening → Known → List ℕ → Type 0
-HasRoomForAll silent tells o k bytes =
+-- whatever a pass may have seen after the first requests of these bytes, the limits have room for the next one
+abbrev pub HasRoomThroughout : (silent : Bool) → (tells : ℕ → Type 0) → Opening → Known → List ℕ → Type 0
+HasRoomThroughout silent tells o k bytes =
     (done : List Incoming) (next : Incoming) (request : DecodedRequest) → Begins (done ++ next ∷ []) (items bytes).items
     → asked_by next ≡ Some request
     → (heard : List (Option Reply)) (last now : Known) → Chain (IsServed silent tells o) k last (asked done) heard → Learnt o last now

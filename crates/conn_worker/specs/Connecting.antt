@@ -14,10 +14,10 @@ use Rattle.conn_desk.specs.Bodies.{asked}
 use Rattle.conn_desk.specs.Connection.{Reached}
 use Rattle.conn_desk.specs.Desks.{Chain}
 use Rattle.conn_desk.specs.Serves.{Leaves}
-use Rattle.conn_worker.specs.Owning.{Adds, AreOfAll, AreTold, FoundRoom, unowed_places}
+use Rattle.conn_worker.specs.Owning.{Adds, AreOfAll, AreTold, StepsHadRoom, unowed_places}
 use Rattle.conn_worker.specs.Serving.{IsServed, step_for}
 
--- the limits have no room for a request behind what the pass has seen
+-- the limits have no room for a request after what the pass has seen
 abbrev pub HasNoRoomFor : Opening → Known → DecodedRequest → Type 0
 HasNoRoomFor o k asked = room_behind o k.seen (step_for k.caller asked) ≡ false
 
@@ -49,4 +49,4 @@ pub record Connects (silent : Bool) (tells : ℕ → Type 0) (o : Opening) (k k'
   -- each request found room in the state of its place
   pub places : List ℕ
   pub own : stood.own ≡ k.own ++ places
-  pub found : FoundRoom o k'.seen (unowed_places places entries) (map (step_for k.caller) (asked done))
+  pub found : StepsHadRoom o k'.seen (unowed_places places entries) (map (step_for k.caller) (asked done))

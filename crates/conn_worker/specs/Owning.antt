@@ -58,8 +58,8 @@ pub record HadRoom (o : Opening) (log : List Entry) (place : ℕ) (step : Step) 
   pub room : room_behind o front step ≡ true
 
 -- they had room for each of these steps in the state before its place
-abbrev pub FoundRoom : Opening → List Entry → List ℕ → List Step → Type 0
-FoundRoom o log places steps = AllZip (HadRoom o log) places steps
+abbrev pub StepsHadRoom : Opening → List Entry → List ℕ → List Step → Type 0
+StepsHadRoom o log places steps = AllZip (HadRoom o log) places steps
 
 -- the places of those entries that aren't owed: each is what became of a request, or a joining
 abbrev pub unowed_places : List ℕ → List Told → List ℕ
@@ -82,7 +82,7 @@ pub record IsCall (caller : ℕ) (asked : Request) (told : Answer) (one : Told) 
   pub append : Kept
   pub is : one ≡ made_of (moment, Call caller asked append) told
 
--- a launch that was taken in hand, and its failure with 1054
+-- a launch that was taken, and its failure with 1054
 pub record IsFailure (taken failed : Told) : Type 0 where
   pub process : ℕ
   pub moment : ℕ

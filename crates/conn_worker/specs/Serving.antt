@@ -1,5 +1,5 @@
 -- What becomes of a request at the book, at moments that the clock tells.
-use Rattle.std.specs.Prelude.{ℕ, Bool, ◌≡◌, ◌⊎◌, List, Option, None, Some}
+use Rattle.std.specs.Prelude.{ℕ, Bool, ◌⊎◌, List, Option, None, Some}
 use Rattle.scm_model.specs.declared.calls.Reply.{Reply}
 use Rattle.scm_model.specs.declared.calls.Reply.TheVariants as replies
 use Rattle.scm_model.specs.declared.calls.Request.{Request}
@@ -27,7 +27,7 @@ pub record IsTold (tells : ℕ → Type 0) (o : Opening) (k : Known) (asked : Re
   pub told : tells moment
   pub made : MadeSo o k moment (called k asked) (answers.Reply reply) k'
 
--- its call began a start, which waited behind turns and then was told the reply
+-- its call began a start, which waited through turns and then was answered with the reply
 pub record IsWaitedFor (silent : Bool) (tells : ℕ → Type 0) (o : Opening) (k : Known) (asked : Request) (reply : Reply)
     (k' : Known) : Type 0 where
   pub moment : ℕ
@@ -37,10 +37,6 @@ pub record IsWaitedFor (silent : Bool) (tells : ℕ → Type 0) (o : Opening) (k
   pub made : MadeSo o k moment (called k asked) (answers.Begun plan) begun
   pub ends : WaitsAndEnds silent tells o plan begun reply k'
 
--- a reply that is a code
-abbrev pub IsCode : Reply → Type 0
-IsCode reply = (code : ℕ) × (reply ≡ replies.Code code)
-
 -- what has the subtype was raised, and that was told a code, which is the reply
 pub record IsRaised (tells : ℕ → Type 0) (o : Opening) (k : Known) (subtype : List ℕ) (reply : Reply) (k' : Known) : Type 0 where
   pub moment : ℕ
@@ -48,9 +44,9 @@ pub record IsRaised (tells : ℕ → Type 0) (o : Opening) (k : Known) (subtype 
   pub made : RaisedSo o k moment subtype reply k'
 
 -- what became of a request that was told a reply
-abbrev pub IsAnswered : (silent : Bool) → (tells : ℕ → Type 0) → Opening → Known → Known → DecodedRequest → Reply → Type 0
-IsAnswered silent tells o k k' (asks.Call request) reply = IsTold tells o k request reply k' ⊎ IsWaitedFor silent tells o k request reply k'
-IsAnswered silent tells o k k' (asks.Raise subtype) reply = IsRaised tells o k subtype reply k'
+abbrev pub IsReplyTo : (silent : Bool) → (tells : ℕ → Type 0) → Opening → Known → Known → DecodedRequest → Reply → Type 0
+IsReplyTo silent tells o k k' (asks.Call request) reply = IsTold tells o k request reply k' ⊎ IsWaitedFor silent tells o k request reply k'
+IsReplyTo silent tells o k k' (asks.Raise subtype) reply = IsRaised tells o k subtype reply k'
 
 -- there was no memory for it: that stands in its place, and it is refused with 8
 abbrev pub Wants : Opening → Known → (moment : ℕ) → DecodedRequest → Known → Type 0
@@ -64,5 +60,5 @@ pub record IsRefused (tells : ℕ → Type 0) (o : Opening) (k : Known) (asked :
 
 -- what became of a request, by what was heard of it: a reply, or that there was no memory for one
 abbrev pub IsServed : (silent : Bool) → (tells : ℕ → Type 0) → Opening → Known → Known → DecodedRequest → Option Reply → Type 0
-IsServed silent tells o k k' asked (Some reply) = IsAnswered silent tells o k k' asked reply
+IsServed silent tells o k k' asked (Some reply) = IsReplyTo silent tells o k k' asked reply
 IsServed silent tells o k k' asked None = IsRefused tells o k asked k'

@@ -11,7 +11,7 @@ use Rattle.scm_book.specs.Starts.{IsUndecided}
 
 -- ## A turn
 
--- the launch that was wanted first was taken in hand, and failed with 1054, since no process is run
+-- the launch that was wanted first was taken, and failed with 1054, since no process is run
 pub record FailsLaunch (o : Opening) (k : Known) (moment : ℕ) (k' : Known) : Type 0 where
   pub process : ℕ
   pub taken : Known
@@ -34,9 +34,9 @@ FailsWanted o k moment k' = FailsLaunch o k moment k' ⊎ (is_wanted_behind o k'
 abbrev pub KeepsPlans : Opening → Known → Known → Type 0
 KeepsPlans o k k' = (plan : ℕ) → HasPlan o k plan → HasPlan o k' plan
 
--- ## Turns behind looks
+-- ## Turns after looks
 
--- a look that found the plan undecided, and the turn behind it
+-- a look that found the plan undecided, and the turn after it
 pub record WaitsOnce (silent : Bool) (o : Opening) (plan : ℕ) (k : Known) (moment : ℕ) (k' : Known) : Type 0 where
   pub looked : Known
   pub learnt : Learnt o k looked
@@ -56,19 +56,19 @@ pub record Ends (tells : ℕ → Type 0) (o : Opening) (plan : ℕ) (k : Known) 
   pub told : tells moment
   pub made : Made o k moment (EndStart k.caller plan) (answers.Reply reply) k'
 
--- it waits still, behind one turn more
+-- it still waits, after one further turn
 pub record StillWaits (silent : Bool) (tells : ℕ → Type 0) (o : Opening) (plan : ℕ) (k k' : Known) : Type 0 where
   pub moment : ℕ
   pub told : tells moment
   pub waits : WaitsOnce silent o plan k moment k'
   pub has : HasPlan o k' plan
 
--- one look comes to the answer, or to a turn
+-- one look results in the answer, or in a turn
 abbrev pub Looks : (silent : Bool) → (tells : ℕ → Type 0) → Opening → ℕ → Known → Known → Option Reply → Type 0
 Looks silent tells o plan k k' (Some reply) = Ends tells o plan k reply k'
 Looks silent tells o plan k k' None = StillWaits silent tells o plan k k'
 
--- the start waited behind turns, and then was answered
+-- the start waited through turns, and then was answered
 pub record WaitsAndEnds (silent : Bool) (tells : ℕ → Type 0) (o : Opening) (plan : ℕ) (k : Known) (reply : Reply)
     (k' : Known) : Type 0 where
   pub turns : List ℕ

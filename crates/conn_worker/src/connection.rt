@@ -1,7 +1,7 @@
 ghost use Rattle.std.specs.Prelude.{◌≡◌, ◌≢◌, ◌≤◌};
 ghost use Rattle.scm_book.specs.Passes.{IsOf};
 ghost use Rattle.conn_desk.specs.Connection.{IsServedFor};
-ghost use Rattle.conn_worker.specs.Complete.{AnswersAll, FindsRoom, HasRoomForAll, IsComplete};
+ghost use Rattle.conn_worker.specs.Complete.{AnswersAll, FindsRoom, HasRoomThroughout, IsComplete};
 ghost use Rattle.conn_worker.specs.Connecting.{Connects};
 
 use crate::desk::BookDesk;
@@ -48,7 +48,7 @@ pub fn serve_connection<R: Wait, K: Keeper, I: Source, O: Sink, C: Clock, W: Wai
     ensures answers { AnswersAll W.silent (C.tells clock.now) book.now.opening pass
         (I.left input.old) (O.held output.old) (O.held output.new) result.how }
     // Where there is room for each request, it isn't full.
-    ensures room { FindsRoom (HasRoomForAll W.silent (C.tells clock.now) book.now.opening pass)
+    ensures room { FindsRoom (HasRoomThroughout W.silent (C.tells clock.now) book.now.opening pass)
         (I.left input.old) result.how }
 {
     let mut desk = BookDesk {

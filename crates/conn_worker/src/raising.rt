@@ -5,7 +5,8 @@ ghost use Rattle.scm_book.specs.Passes.{IsOf, Learnt};
 ghost use Rattle.conn_desk.specs.declared.asked.DecodedRequest.TheVariants.{Raise};
 ghost use Rattle.conn_desk.specs.Desks.{CallAnswered};
 ghost use Rattle.conn_worker.specs.Connecting.{HasNoRoomFor};
-ghost use Rattle.conn_worker.specs.Serving.{IsCode, IsServed};
+ghost use Rattle.conn_worker.specs.Serving.{IsServed};
+ghost use Rattle.scm_answers.specs.Answering.{IsCode};
 
 use conn_desk::HandlerError;
 use outside::Clock;

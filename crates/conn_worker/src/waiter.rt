@@ -11,7 +11,7 @@ use std::alloc::Global;
 use std::marker::Model;
 use std::sync::Wait;
 
-/// Has a turn behind each look that found a start undecided.
+/// Takes a turn after each look that found a start undecided.
 pub trait Waiter<K: Keeper> {
     /// Whether no turn makes a step.
     ghost silent: { Bool };
@@ -50,7 +50,7 @@ impl<'a, R: Wait> PipeWaiter<'a, R> {
     }
 }
 
-/// Takes the launch that is wanted first in hand, if there is one, and lets it fail.
+/// Takes the launch that is wanted first, if there is one, and lets it fail.
 fn fail_launch<R: Wait, K: Keeper>(
     rt: &R,
     book: &Book<K>,

@@ -2,20 +2,22 @@ ghost use Rattle.std.specs.Prelude.{◌≡◌, ◌<◌, ◌==◌, ◌++◌, ◌�
 ghost use Rattle.std.specs.Prelude.{option_to_list};
 
 use arrayvec::ArrayVec;
+use scm_model::Order;
 use std::marker::Model;
 
-/// The controls that wait for a process, the oldest first: at most 16, in memory of their own.
+/// The orders that wait for a process, the oldest first: at most 16, in memory of their own.
 #[derive(Drop)]
 pub struct Controls {
-    codes: ArrayVec<u32, 16>,
+    orders: ArrayVec<Order, 16>,
 }
 
 impl Model for Controls {
-    ghost use Rattle.std.specs.Prelude.{List, ℕ};
+    ghost use Rattle.std.specs.Prelude.{List};
+    ghost use Rattle.scm_model.specs.declared.flat.Order.{Order};
 
-    ghost Value = { List ℕ };
+    ghost Value = { List Order };
 
-    ghost view = { λ c. c.codes.items };
+    ghost view = { λ c. c.orders.items };
 }
 
 impl Controls {
@@ -24,7 +26,7 @@ impl Controls {
         ensures { result ≡ [] }
     {
         Controls {
-            codes: ArrayVec::new(),
+            orders: ArrayVec::new(),
         }
     }
 
@@ -32,39 +34,39 @@ impl Controls {
     pub fn len(&self) -> u32
         ensures { result ≡ length self.now }
     {
-        self.codes.len() as u32
+        self.orders.len() as u32
     }
 
     /// Whether none waits.
     pub fn is_empty(&self) -> bool
         ensures { result ≡ (length self.now == 0) }
     {
-        self.codes.is_empty()
+        self.orders.is_empty()
     }
 
-    /// The control that waits first.
-    pub fn first(&self) -> Option<u32>
+    /// The order that waits first.
+    pub fn first(&self) -> Option<Order>
         ensures { option_to_list result ≡ take 1 self.now }
     {
-        self.codes.first().copied()
+        self.orders.first().copied()
     }
 
-    /// One control more waits. It takes no memory.
-    pub fn enqueue(&mut self, code: u32)
+    /// One order more waits. It takes no memory.
+    pub fn enqueue(&mut self, order: Order)
         requires { length self.old < 16 }
-        ensures { self.new ≡ self.old ++ code ∷ [] }
+        ensures { self.new ≡ self.old ++ order ∷ [] }
     {
-        self.codes.push(code);
+        self.orders.push(order);
     }
 
-    /// The control that waits first no longer waits; none where none did. It takes no memory.
-    pub fn take_next(&mut self) -> Option<u32>
-        ensures code { option_to_list result ≡ take 1 self.old }
+    /// The order that waits first no longer waits; none where none did. It takes no memory.
+    pub fn take_next(&mut self) -> Option<Order>
+        ensures order { option_to_list result ≡ take 1 self.old }
         ensures others { self.new ≡ drop 1 self.old }
     {
-        if self.codes.is_empty() {
+        if self.orders.is_empty() {
             return None;
         }
-        Some(self.codes.remove(0))
+        Some(self.orders.remove(0))
     }
 }

@@ -10,11 +10,11 @@ use Rattle.std.proofs.lemmas.Int.Digits.{digits_value_more}
 use Rattle.std.proofs.lemmas.Fmt.{decimal_digit, decimal_is_IsNumeral, decimal-digits_value, first_decimal}
 use Rattle.std.proofs.lemmas.Str.{digit_value_digit}
 use Rattle.std.proofs.lemmas.Str.Parse.{digits_value-take-le, numerals_by_value, tells_digits, digit_at}
-use Rattle.decimal_words.specs.Numbers.{number_at}
+use Rattle.decimal_words.specs.Numbers.{decimal_number}
 
 -- a text is the decimal form of its number
-pub number_is : (text : List ℕ) (n : ℕ) → n < 2 ^ 64 → text ≡ decimal n → number_at text ≡ Some n
-unfolding number_at
+pub number_is : (text : List ℕ) (n : ℕ) → n < 2 ^ 64 → text ≡ decimal n → decimal_number text ≡ Some n
+unfolding decimal_number
 number_is text n small e =
     let value : digits_value 10 text ≡ n = ap (digits_value 10) e ∙ (decimal_is_IsNumeral n small).1 in
     rw (value, lt-ltb n (2 ^ 64) small, (bytes_eq-Decides text (decimal n)).1 e) refl
@@ -25,15 +25,15 @@ tested true false x h = refl
 tested false c x h = refl
 
 -- a text that no number has
-number_none : (text : List ℕ) → ((n : ℕ) → n < 2 ^ 64 → text ≡ decimal n → ⊥) → number_at text ≡ None
-unfolding number_at
+number_none : (text : List ℕ) → ((n : ℕ) → n < 2 ^ 64 → text ≡ decimal n → ⊥) → decimal_number text ≡ None
+unfolding decimal_number
 number_none text h =
     let n = digits_value 10 text in
     tested (nat_lt n (2 ^ 64)) (bytes_eq text (decimal n)) n
     (λ small same. h n (ltb-true n (2 ^ 64) small) ((bytes_eq-Decides text (decimal n)).0 same))
 
 -- an empty text is no number, nor is one with a zero before others
-pub number_begun : (text : List ℕ) → (length text ≡ 0) ⊎ ((slice_index text 0 ≡ 48) × (1 < length text)) → number_at text ≡ None
+pub number_begun : (text : List ℕ) → (length text ≡ 0) ⊎ ((slice_index text 0 ≡ 48) × (1 < length text)) → decimal_number text ≡ None
 number_begun text h = number_none text (λ n small e. begun n small (ap length e) (ap (λ l. slice_index l 0) e) h)
   where
     begun : (n : ℕ) → n < 2 ^ 64 → length text ≡ length (decimal n) → slice_index text 0 ≡ slice_index (decimal n) 0
@@ -46,7 +46,7 @@ number_begun text h = number_none text (λ n small e. begun n small (ap length e
 -- digits that no zero leads are the decimal form of what they write; what can't be read so is none
 pub number_told : (text : List ℕ) (read : Option ℕ) → 0 < length text → (slice_index text 0 ≡ 48 → length text ≡ 1)
     → IfSome read (λ n. AllDigits 10 text × (n ≡ digits_value 10 text) × (n < 2 ^ 64))
-    → IfNone read (AllDigits 10 text → 2 ^ 64 ≤ digits_value 10 text) → read ≡ number_at text
+    → IfNone read (AllDigits 10 text → 2 ^ 64 ≤ digits_value 10 text) → read ≡ decimal_number text
 number_told text (Some n) some lead (all, is, small) other =
     sym (number_is text n small
     (sym (decimal-digits_value (numerals_by_value (AllDigits 10) tells_digits) text all some lead (omega (arith, is)))

@@ -5,7 +5,7 @@ ghost use Rattle.std.specs.Prelude.{◌≡◌, ◌*◌, ◌+◌, ◌<◌, ◌≤
 ghost use Rattle.std.specs.Prelude.{IfNone, IfSome, IsTrue};
 ghost use Rattle.std.specs.Char.{digit_value};
 ghost use Rattle.std.specs.Str.Parse.{AllDigits, digits_value};
-ghost use Rattle.decimal_words.specs.Numbers.{number_at, number_below};
+ghost use Rattle.decimal_words.specs.Numbers.{decimal_number, number_below};
 
 /// The number with one digit more, if it is a digit and the number still has 64 bits.
 fn with_digit(number: u64, digit: u8) -> Option<u64>
@@ -50,7 +50,7 @@ fn begins_well(text: &[u8]) -> bool
 
 /// The number of which a word is the decimal form.
 pub fn number_at(text: &[u8]) -> Option<u64>
-    ensures { result ≡ number_at text.now }
+    ensures { result ≡ decimal_number text.now }
 {
     if begins_well(text) {
         digits_at(text)

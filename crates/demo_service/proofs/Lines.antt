@@ -9,7 +9,7 @@ use Rattle.child_link.specs.Cutting.{kept}
 use Rattle.child_link.specs.Lines.{handed_on}
 use Rattle.child_link.proofs.Kept.{kept_control}
 use Rattle.demo_service.specs.declared.fault.DemoFault.{DemoFault}
-use Rattle.demo_service.specs.Doing.{Hears, HearsOne, Point, ReadsLine, answer_to, goes_on}
+use Rattle.demo_service.specs.Doing.{Hears, HearsOne, Point, ReadsLine, report_to, waits_on}
 
 pub kept_short : (front : List ℕ) → length (kept front) ≤ 4096
 kept_short front = omega (arith, length-take 4096 front)
@@ -32,22 +32,22 @@ heard_so false a front b h = inl (front, h)
 
 -- a line that was read is heard as what is kept of it is
 pub heard : (on : Bool) (a b : Point) (line : List ℕ) (control : Option ℕ) → ReadsLine a.left b.left line true → control ≡ handed_on line
-    → on ≡ goes_on control
-    → Appends a.held b.held (answer_to control) → HearsOne a on b
+    → on ≡ waits_on control
+    → Appends a.held b.held (report_to control) → HearsOne a on b
 heard on a b line control reads is goes told =
     let same : handed_on line ≡ handed_on (reads.0 ++ 10 ∷ []) = ap handed_on reads.3 ∙ kept_control reads.0 in
     heard_so on a reads.0 b (record {
       line = reads.1;
       few = reads.4;
       read = reads.2;
-      goes = sym (goes ∙ ap goes_on (is ∙ same));
-      told = subst (λ c. Appends a.held b.held (answer_to c)) (is ∙ same) told;
+      goes = sym (goes ∙ ap waits_on (is ∙ same));
+      told = subst (λ c. Appends a.held b.held (report_to c)) (is ∙ same) told;
     })
 
 -- the same where the answer may have failed
 pub heard_if : (a b : Point) (line : List ℕ) (control : Option ℕ) (result : Result Bool DemoFault) → ReadsLine a.left b.left line true
     → control ≡ handed_on line
-    → IfOk result (λ on. on ≡ goes_on control) → OnOk result (Appends a.held b.held (answer_to control))
+    → IfOk result (λ on. on ≡ waits_on control) → OnOk result (Appends a.held b.held (report_to control))
     → IfOk result (λ on. HearsOne a on b)
 heard_if a b line control (Ok on) reads is goes told = heard on a b line control reads is goes told
 heard_if a b line control (Err fault) reads is goes told = tt

@@ -25,8 +25,8 @@ abbrev pub is_text : List ℕ → List ℕ → Bool
 is_text = pointwise nat_eq
 
 -- the word that a text is
-abbrev pub word_at : List ℕ → Option Word
-word_at text =
+abbrev pub word_of : List ℕ → Option Word
+word_of text =
     if is_text text (codes "pending") then Some (Report SERVICE_START_PENDING)
     else if is_text text (codes "running") then Some (Report SERVICE_RUNNING)
     else if is_text text (codes "paused") then Some (Report SERVICE_PAUSED)
@@ -36,7 +36,7 @@ word_at text =
     else None
 
 abbrev pub is_unknown : List ℕ → Bool
-is_unknown text = is_none (word_at text)
+is_unknown text = is_none (word_of text)
 
 -- ## Reports
 
@@ -45,8 +45,8 @@ abbrev pub accepted_in : ℕ → ℕ
 accepted_in state = if state == SERVICE_RUNNING || state == SERVICE_PAUSED then bit_or SERVICE_ACCEPT_STOP SERVICE_ACCEPT_PAUSE_CONTINUE
     else 0
 
-abbrev pub status_in : ℕ → Status
-status_in state =
+abbrev pub status_as : ℕ → Status
+status_as state =
     record {
       kind = SERVICE_WIN32_OWN_PROCESS;
       state = state;
@@ -59,7 +59,7 @@ status_in state =
 
 -- the line that reports a state
 abbrev pub report_of : ℕ → List ℕ
-report_of state = report_text (status_in state) ++ 10 ∷ []
+report_of state = report_text (status_as state) ++ 10 ∷ []
 
 -- ## Doing
 
@@ -70,18 +70,18 @@ pub record Point : Type 0 where
   -- what was written
   pub held : Option (List ℕ)
 
-abbrev pub point : Option (List ℕ) → Option (List ℕ) → Point
-point left held = record { left = left; held = held }
+abbrev pub point_at : Option (List ℕ) → Option (List ℕ) → Point
+point_at left held = record { left = left; held = held }
 
 -- whether a control, or a line that is none, lets the program wait on
-abbrev pub goes_on : Option ℕ → Bool
-goes_on None = true
-goes_on (Some code) = not (code == SERVICE_CONTROL_STOP)
+abbrev pub waits_on : Option ℕ → Bool
+waits_on None = true
+waits_on (Some code) = not (code == SERVICE_CONTROL_STOP)
 
 -- what is reported of it
-abbrev pub answer_to : Option ℕ → List ℕ
-answer_to None = []
-answer_to (Some code) = if code == SERVICE_CONTROL_PAUSE then report_of SERVICE_PAUSED else if code == SERVICE_CONTROL_CONTINUE
+abbrev pub report_to : Option ℕ → List ℕ
+report_to None = []
+report_to (Some code) = if code == SERVICE_CONTROL_PAUSE then report_of SERVICE_PAUSED else if code == SERVICE_CONTROL_CONTINUE
     then report_of SERVICE_RUNNING else []
 
 -- no line feed stands in it
@@ -97,8 +97,8 @@ pub record Hears (on : Bool) (a : Point) (front : List ℕ) (b : Point) : Type 0
   pub line : IsWholeLine front
   pub few : IsBelowMost front
   pub read : Consumes a.left b.left (front ++ 10 ∷ [])
-  pub goes : goes_on (handed_on (front ++ 10 ∷ [])) ≡ on
-  pub told : Appends a.held b.held (answer_to (handed_on (front ++ 10 ∷ [])))
+  pub goes : waits_on (handed_on (front ++ 10 ∷ [])) ≡ on
+  pub told : Appends a.held b.held (report_to (handed_on (front ++ 10 ∷ [])))
 
 -- the input ended, and no line was there
 pub record Ends (a b : Point) : Type 0 where
@@ -151,11 +151,11 @@ DoesWord a (Some Wait) b = Waits a b
 
 -- the word of a text was done
 abbrev pub Does : Point → List ℕ → Point → Type 0
-Does a text b = DoesWord a (word_at text) b
+Does a text b = DoesWord a (word_of text) b
 
 -- the text is the word that waits, and the program wore out at it
 abbrev pub WearsAt : Point → List ℕ → Point → Type 0
-WearsAt a text b = (word_at text ≡ Some Wait) × WearsOut a b
+WearsAt a text b = (word_of text ≡ Some Wait) × WearsOut a b
 
 -- the texts before one were done, and the program wore out at that one
 pub record WearsIn (a : Point) (texts : List (List ℕ)) (b : Point) : Type 0 where
@@ -200,28 +200,28 @@ IsOfInput input input_now faults.Worn = Unit {0}
 IsOfInput input input_now _ = ⊥
 
 -- a fault of the input or the output comes only where its count of faults rose; a word that isn't known isn't met
-abbrev pub IsCaused : (input input_now output output_now : ℕ) → DemoFault → Type 0
-IsCaused input input_now output output_now faults.Read = Rose input input_now
-IsCaused input input_now output output_now faults.Write = Rose output output_now
-IsCaused input input_now output output_now faults.Words = ⊥
-IsCaused input input_now output output_now faults.OutOfMemory = Unit {0}
-IsCaused input input_now output output_now faults.Worn = Unit {0}
+abbrev pub IsFaultCaused : (input input_now output output_now : ℕ) → DemoFault → Type 0
+IsFaultCaused input input_now output output_now faults.Read = Rose input input_now
+IsFaultCaused input input_now output output_now faults.Write = Rose output output_now
+IsFaultCaused input input_now output output_now faults.Words = ⊥
+IsFaultCaused input input_now output output_now faults.OutOfMemory = Unit {0}
+IsFaultCaused input input_now output output_now faults.Worn = Unit {0}
 
 -- the same where the word of a text is done
 abbrev pub IsCausedAt : (text : List ℕ) → (input input_now output output_now : ℕ) → DemoFault → Type 0
 IsCausedAt text input input_now output output_now faults.Words = is_unknown text ≡ true
-IsCausedAt text input input_now output output_now fault = IsCaused input input_now output output_now fault
+IsCausedAt text input input_now output output_now fault = IsFaultCaused input input_now output output_now fault
 
 -- and where the words of several are: one of them is no word
 abbrev pub IsCausedIn : (texts : List (List ℕ)) → (input input_now output output_now : ℕ) → DemoFault → Type 0
 IsCausedIn texts input input_now output output_now faults.Words = list_any is_unknown texts ≡ true
-IsCausedIn texts input input_now output output_now fault = IsCaused input input_now output output_now fault
+IsCausedIn texts input input_now output output_now fault = IsFaultCaused input input_now output output_now fault
 
 -- the status of the program
-abbrev pub status_of : Result (Unit {0}) DemoFault → ℕ
-status_of (Ok done) = 0
-status_of (Err faults.Read) = 1
-status_of (Err faults.Write) = 2
-status_of (Err faults.Words) = 5
-status_of (Err faults.OutOfMemory) = 8
-status_of (Err faults.Worn) = 12
+abbrev pub exit_status : Result (Unit {0}) DemoFault → ℕ
+exit_status (Ok done) = 0
+exit_status (Err faults.Read) = 1
+exit_status (Err faults.Write) = 2
+exit_status (Err faults.Words) = 5
+exit_status (Err faults.OutOfMemory) = 8
+exit_status (Err faults.Worn) = 12

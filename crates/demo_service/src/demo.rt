@@ -1,7 +1,7 @@
 ghost use Rattle.std.specs.Prelude.{◌≡◌, ◌≤◌, true, Err, IfErr, OnOk, Some};
 ghost use Rattle.std.specs.List.{FoldsTo, list_any};
-ghost use Rattle.demo_service.specs.Doing.{Does, DoesWord, IsCaused, IsCausedAt, IsCausedIn};
-ghost use Rattle.demo_service.specs.Doing.{WearsAt, WearsIn, WearsOut, is_unknown, point};
+ghost use Rattle.demo_service.specs.Doing.{Does, DoesWord, IsFaultCaused, IsCausedAt, IsCausedIn};
+ghost use Rattle.demo_service.specs.Doing.{WearsAt, WearsIn, WearsOut, is_unknown, point_at};
 ghost use Rattle.demo_service.specs.declared.fault.DemoFault.TheVariants as faults;
 ghost use Rattle.demo_service.specs.declared.word.Word.TheVariants as words;
 
@@ -20,12 +20,12 @@ fn do_word<I: Source, O: Sink>(
     input: &mut I,
     output: &mut O,
 ) -> Result<(), DemoFault>
-    ensures does { OnOk result (DoesWord (point (I.left input.old) (O.held output.old)) (Some word)
-        (point (I.left input.new) (O.held output.new))) }
+    ensures does { OnOk result (DoesWord (point_at (I.left input.old) (O.held output.old))
+        (Some word) (point_at (I.left input.new) (O.held output.new))) }
     ensures worn { result ≡ Err faults.Worn → (word ≡ words.Wait)
-        × WearsOut (point (I.left input.old) (O.held output.old))
-        (point (I.left input.new) (O.held output.new)) }
-    ensures cause { IfErr result (IsCaused (I.faults input.old) (I.faults input.new)
+        × WearsOut (point_at (I.left input.old) (O.held output.old))
+        (point_at (I.left input.new) (O.held output.new)) }
+    ensures cause { IfErr result (IsFaultCaused (I.faults input.old) (I.faults input.new)
         (O.faults output.old) (O.faults output.new)) }
     ensures input { I.faults input.old ≤ I.faults input.new }
     ensures output { O.faults output.old ≤ O.faults output.new }
@@ -43,11 +43,11 @@ fn do_text<I: Source, O: Sink>(
     input: &mut I,
     output: &mut O,
 ) -> Result<(), DemoFault>
-    ensures does { OnOk result (Does (point (I.left input.old) (O.held output.old)) text.now
-        (point (I.left input.new) (O.held output.new))) }
+    ensures does { OnOk result (Does (point_at (I.left input.old) (O.held output.old)) text.now
+        (point_at (I.left input.new) (O.held output.new))) }
     ensures worn { result ≡ Err faults.Worn → WearsAt
-        (point (I.left input.old) (O.held output.old)) text.now
-        (point (I.left input.new) (O.held output.new)) }
+        (point_at (I.left input.old) (O.held output.old)) text.now
+        (point_at (I.left input.new) (O.held output.new)) }
     ensures cause { IfErr result (IsCausedAt text.now (I.faults input.old) (I.faults input.new)
         (O.faults output.old) (O.faults output.new)) }
     ensures input { I.faults input.old ≤ I.faults input.new }
@@ -67,12 +67,12 @@ pub fn demo<I: Source, O: Sink>(
     input: &mut I,
     output: &mut O,
 ) -> Result<(), DemoFault>
-    ensures does { OnOk result (FoldsTo Does (point (I.left input.old) (O.held output.old))
+    ensures does { OnOk result (FoldsTo Does (point_at (I.left input.old) (O.held output.old))
         texts.now
-        (point (I.left input.new) (O.held output.new))) }
+        (point_at (I.left input.new) (O.held output.new))) }
     ensures worn { result ≡ Err faults.Worn → WearsIn
-        (point (I.left input.old) (O.held output.old)) texts.now
-        (point (I.left input.new) (O.held output.new)) }
+        (point_at (I.left input.old) (O.held output.old)) texts.now
+        (point_at (I.left input.new) (O.held output.new)) }
     ensures cause { IfErr result (IsCausedIn texts.now (I.faults input.old) (I.faults input.new)
         (O.faults output.old) (O.faults output.new)) }
     ensures unknown { list_any is_unknown texts.now ≡ true → result ≡ Err faults.Words }

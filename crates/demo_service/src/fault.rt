@@ -1,5 +1,5 @@
 ghost use Rattle.std.specs.Prelude.{◌≡◌};
-ghost use Rattle.demo_service.specs.Doing.{status_of};
+ghost use Rattle.demo_service.specs.Doing.{exit_status};
 
 /// Why the program didn't do all of its words.
 #[derive(Clone, Copy, Debug, PartialEq, Eq)]
@@ -17,7 +17,7 @@ pub enum DemoFault {
 
 /// The status of the program.
 pub fn status_of(done: Result<(), DemoFault>) -> u8
-    ensures { result ≡ status_of done }
+    ensures { result ≡ exit_status done }
 {
     match done {
         Ok(()) => 0,

@@ -1,6 +1,6 @@
 ghost use Rattle.std.specs.Prelude.{◌≡◌, ◌≤◌, IfErr, OnOk};
 ghost use Rattle.std.specs.Io.KnownBytes.{Appends};
-ghost use Rattle.demo_service.specs.Doing.{IsOfOutput, accepted_in, report_of, status_in};
+ghost use Rattle.demo_service.specs.Doing.{IsOfOutput, accepted_in, report_of, status_as};
 
 use super::fault::DemoFault;
 use child_link::report_line;
@@ -25,7 +25,7 @@ fn accepted_in(state: u32) -> u32
 
 /// The status in a state.
 fn status_in(state: u32) -> Status
-    ensures { result ≡ status_in state }
+    ensures { result ≡ status_as state }
 {
     Status {
         kind: SERVICE_WIN32_OWN_PROCESS,

@@ -1,8 +1,9 @@
 ghost use Rattle.std.specs.Prelude.{◌≡◌, ◌≤◌, [], Err, IfErr, IfOk, OnOk, length};
 ghost use Rattle.std.specs.Io.KnownBytes.{Appends};
-ghost use Rattle.demo_service.specs.Doing.{HearsOne, IsCaused, IsOfByte, IsOfInput, IsOfOutput};
+ghost use Rattle.demo_service.specs.Doing.{HearsOne, IsFaultCaused, IsOfByte, IsOfInput};
+ghost use Rattle.demo_service.specs.Doing.{IsOfOutput};
 ghost use Rattle.demo_service.specs.Doing.{ReadsByte, ReadsLine, Waits, WearsLine, WearsOut};
-ghost use Rattle.demo_service.specs.Doing.{answer_to, goes_on, point};
+ghost use Rattle.demo_service.specs.Doing.{report_to, waits_on, point_at};
 ghost use Rattle.demo_service.specs.declared.fault.DemoFault.TheVariants as faults;
 
 use super::fault::DemoFault;
@@ -71,8 +72,9 @@ fn read_line<I: Source>(line: &mut LineCutter, input: &mut I) -> Result<bool, De
 
 /// Answers a control, and a line that is none. Whether to wait on.
 fn answer<O: Sink>(alloc: Global, control: Option<u32>, output: &mut O) -> Result<bool, DemoFault>
-    ensures on { IfOk result (λ on. on ≡ goes_on control) }
-    ensures told { OnOk result (Appends (O.held output.old) (O.held output.new) (answer_to control)) }
+    ensures on { IfOk result (λ on. on ≡ waits_on control) }
+    ensures told { OnOk result
+        (Appends (O.held output.old) (O.held output.new) (report_to control)) }
     ensures cause { IfErr result (IsOfOutput (O.faults output.old) (O.faults output.new)) }
     ensures output { O.faults output.old ≤ O.faults output.new }
 {
@@ -97,11 +99,11 @@ fn answer_next<I: Source, O: Sink>(
     input: &mut I,
     output: &mut O,
 ) -> Result<bool, DemoFault>
-    ensures hears { IfOk result (λ on. HearsOne (point (I.left input.old) (O.held output.old))
-        on (point (I.left input.new) (O.held output.new))) }
+    ensures hears { IfOk result (λ on. HearsOne (point_at (I.left input.old) (O.held output.old))
+        on (point_at (I.left input.new) (O.held output.new))) }
     ensures worn { result ≡ Err faults.Worn → WearsLine (I.left input.old) (I.left input.new)
         × (O.held output.new ≡ O.held output.old) }
-    ensures cause { IfErr result (IsCaused (I.faults input.old) (I.faults input.new)
+    ensures cause { IfErr result (IsFaultCaused (I.faults input.old) (I.faults input.new)
         (O.faults output.old) (O.faults output.new)) }
     ensures input { I.faults input.old ≤ I.faults input.new }
     ensures output { O.faults output.old ≤ O.faults output.new }
@@ -119,12 +121,12 @@ pub fn wait<I: Source, O: Sink>(
     input: &mut I,
     output: &mut O,
 ) -> Result<(), DemoFault>
-    ensures waits { OnOk result (Waits (point (I.left input.old) (O.held output.old))
-        (point (I.left input.new) (O.held output.new))) }
+    ensures waits { OnOk result (Waits (point_at (I.left input.old) (O.held output.old))
+        (point_at (I.left input.new) (O.held output.new))) }
     ensures worn { result ≡ Err faults.Worn → WearsOut
-        (point (I.left input.old) (O.held output.old))
-        (point (I.left input.new) (O.held output.new)) }
-    ensures cause { IfErr result (IsCaused (I.faults input.old) (I.faults input.new)
+        (point_at (I.left input.old) (O.held output.old))
+        (point_at (I.left input.new) (O.held output.new)) }
+    ensures cause { IfErr result (IsFaultCaused (I.faults input.old) (I.faults input.new)
         (O.faults output.old) (O.faults output.new)) }
     ensures input { I.faults input.old ≤ I.faults input.new }
     ensures output { O.faults output.old ≤ O.faults output.new }

@@ -1,6 +1,6 @@
 ghost use Rattle.std.specs.Prelude.{◌≡◌};
 ghost use Rattle.std.specs.List.{list_any};
-ghost use Rattle.demo_service.specs.Doing.{is_unknown, word_at};
+ghost use Rattle.demo_service.specs.Doing.{is_unknown, word_of};
 
 use scm_model::codes::{
     SERVICE_PAUSED, SERVICE_RUNNING, SERVICE_START_PENDING, SERVICE_STOP_PENDING, SERVICE_STOPPED,
@@ -18,7 +18,7 @@ pub enum Word {
 
 /// The word that a text is.
 pub fn word_at(text: &str) -> Option<Word>
-    ensures { result ≡ word_at text.now }
+    ensures { result ≡ word_of text.now }
 {
     match text {
         "pending" => Some(Word::Report(SERVICE_START_PENDING)),

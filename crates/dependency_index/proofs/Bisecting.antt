@@ -11,16 +11,17 @@ use Rattle.std.proofs.lemmas.Bool.Decides.{nat_tests}
 use Rattle.std.proofs.lemmas.Cmp.{ranked}
 use Rattle.std.proofs.lemmas.Option.{slice_get-get_or}
 use Rattle.scm_model.specs.declared.flat.NeedRow.{NeedRow}
-use Rattle.scm_model.specs.Needs.{has, numbers_of}
+use Rattle.scm_model.specs.Needs.{numbers_of}
 use Rattle.row_slab.specs.Rowed.{AreRisingBy}
-use Rattle.dependency_index.specs.Kept.{number_of, has_number}
+use Rattle.dependency_index.specs.Kept.{key_of, is_row}
+use Rattle.scm_text.specs.Numbers.{has}
 
 all_at : (P : NeedRow → Type 0) (rows : List NeedRow) (k : ℕ) (d : NeedRow) → AllByRecursion P rows → k < length rows → P (get_or rows k d)
 all_at P [] k d all lt = absurd (omega arith)
 all_at P (row ∷ rows) zero d all lt = all.0
 all_at P (row ∷ rows) (suc k) d all lt = all_at P rows k d all.1 (omega arith)
 
-pub rises : (rows : List NeedRow) (i j : ℕ) (d : NeedRow) → AreRisingBy number_of rows → i < j → j < length rows
+pub rises : (rows : List NeedRow) (i j : ℕ) (d : NeedRow) → AreRisingBy key_of rows → i < j → j < length rows
     → (get_or rows i d).number < (get_or rows j d).number
 rises [] i j d rising lt within = absurd (omega arith)
 rises (row ∷ rows) zero zero d rising lt within = absurd (omega arith)
@@ -49,7 +50,7 @@ none_has (row ∷ rows) n others =
     ap (λ b. b || has (numbers_of rows) n) (ne_eqb n row.number (λ same. others 0 row (omega arith) (sym same)))
     ∙ none_has rows n (λ k d lt. others (suc k) d (omega (arith, lt)))
 
-module _ (rows : List NeedRow) (n : ℕ) (rising : AreRisingBy number_of rows) where
+module _ (rows : List NeedRow) (n : ℕ) (rising : AreRisingBy key_of rows) where
   -- the comparisons with the number rise along the list, as a binary search asks
   comparisons_rise : IsNonDecreasingBy (λ (row : NeedRow). ordering_index (nat_cmp row.number n)) rows
   comparisons_rise i j d le within =
@@ -81,12 +82,12 @@ module _ (rows : List NeedRow) (n : ℕ) (rising : AreRisingBy number_of rows) w
 -- ## What it finds
 
 -- the one at a place is found by its number
-pub found_here : (rows : List NeedRow) (i n : ℕ) (d : NeedRow) → AreRisingBy number_of rows → i < length rows → (get_or rows i d).number ≡ n
-    → find (has_number n) rows ≡ Some (get_or rows i d)
+pub found_here : (rows : List NeedRow) (i n : ℕ) (d : NeedRow) → AreRisingBy key_of rows → i < length rows → (get_or rows i d).number ≡ n
+    → find (is_row n) rows ≡ Some (get_or rows i d)
 found_here [] i n d rising lt is = absurd (omega arith)
-found_here (row ∷ rows) zero n d rising lt is = ap (λ b. cond b (Some row) (find (has_number n) rows)) (eq-eqb row.number n is)
+found_here (row ∷ rows) zero n d rising lt is = ap (λ b. cond b (Some row) (find (is_row n) rows)) (eq-eqb row.number n is)
 found_here (row ∷ rows) (suc i) n d rising lt is =
-    ap (λ b. cond b (Some row) (find (has_number n) rows)) (ne_eqb row.number n
+    ap (λ b. cond b (Some row) (find (is_row n) rows)) (ne_eqb row.number n
     (omega (arith, rises (row ∷ rows) 0 (suc i) d rising (omega arith) lt, is)))
     ∙ found_here rows i n d rising.1 (omega arith) is
 

@@ -5,7 +5,7 @@ use Rattle.std.proofs.lemmas.Bool.{eqb-true, eqb-false, eq-eqb, ne_eqb}
 use Rattle.std.proofs.lemmas.List.Folds.{list_any-append}
 use Rattle.scm_model.specs.declared.flat.Need.{Need}
 use Rattle.scm_model.specs.declared.flat.NeedRow.{NeedRow}
-use Rattle.scm_model.specs.Needs.{added, has, instead, is_met, met_by, met_by_all, row_needs, needs_of, numbers_of, with_row}
+use Rattle.scm_model.specs.Needs.{added, instead, is_met, met_by, met_by_all, row_needs, needs_of, numbers_of, with_row}
 use Rattle.scm_model.specs.Order.{explore, is_cyclic, try_all}
 use Rattle.scm_model.specs.Walks.{IsAcyclic, Needs}
 use Rattle.dependency_index.proofs.Acyclic.{IsGrounded, grounded, cyclic, grounds, no_loop}
@@ -14,6 +14,7 @@ use Rattle.dependency_index.proofs.Grounded.{went, went_all}
 use Rattle.dependency_index.proofs.Lists.{needed_listed, or_right}
 use Rattle.dependency_index.proofs.Once.{numbers_append, numbers_map}
 use Rattle.dependency_index.proofs.Puts.{needs_other}
+use Rattle.scm_text.specs.Numbers.{has}
 
 -- ## Other services need each other as before
 

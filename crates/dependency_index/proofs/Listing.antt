@@ -6,22 +6,22 @@ use Rattle.std.proofs.lemmas.Bool.{ne_eqb, eqb-true, lt-ltb, le-ltb, cases_Bool}
 use Rattle.scm_model.specs.declared.flat.NeedRow.{NeedRow}
 use Rattle.number_lists.specs.Rising.{with_number, without_number}
 use Rattle.row_slab.specs.Rowed.{AreRisingBy}
-use Rattle.dependency_index.specs.Kept.{number_of, has_number}
+use Rattle.dependency_index.specs.Kept.{key_of, is_row}
 
 abbrev pub numbers_if : (NeedRow → Bool) → List NeedRow → List ℕ
-numbers_if p rows = map number_of (filter p rows)
+numbers_if p rows = map key_of (filter p rows)
 
 -- a service more, with a number above all others
 pub pushed : (p : NeedRow → Bool) (rows : List NeedRow) (new : NeedRow) → AllByRecursion (λ (row : NeedRow). row.number < new.number) rows
     → numbers_if p (rows ++ new ∷ []) ≡ cond (p new) (with_number (numbers_if p rows) new.number) (numbers_if p rows)
-pushed p [] new above = elim (p new) as (λ b. map number_of (cond b (new ∷ []) []) ≡ cond b (new.number ∷ []) []) [
+pushed p [] new above = elim (p new) as (λ b. map key_of (cond b (new ∷ []) []) ≡ cond b (new.number ∷ []) []) [
   | true ↦ refl
   | false ↦ refl
 ]
 pushed p (row ∷ rows) new above =
-    elim (p row) as (λ b. map number_of (cond b (row ∷ filter p (rows ++ new ∷ [])) (filter p (rows ++ new ∷ [])))
-    ≡ cond (p new) (with_number (map number_of (cond b (row ∷ filter p rows) (filter p rows))) new.number)
-    (map number_of (cond b (row ∷ filter p rows) (filter p rows)))) [
+    elim (p row) as (λ b. map key_of (cond b (row ∷ filter p (rows ++ new ∷ [])) (filter p (rows ++ new ∷ [])))
+    ≡ cond (p new) (with_number (map key_of (cond b (row ∷ filter p rows) (filter p rows))) new.number)
+    (map key_of (cond b (row ∷ filter p rows) (filter p rows)))) [
       | true ↦
           ap (λ rest. row.number ∷ rest) (pushed p rows new above.1)
           ∙ elim (p new) as (λ b. row.number ∷ cond b (with_number (numbers_if p rows) new.number) (numbers_if p rows) ≡ cond b
@@ -34,20 +34,20 @@ pushed p (row ∷ rows) new above =
 
 -- a service less
 pub removed : (p : NeedRow → Bool) (rows : List NeedRow) (n : ℕ) → numbers_if p
-    (filter (λ (row : NeedRow). not (has_number n row)) rows) ≡ without_number (numbers_if p rows) n
+    (filter (λ (row : NeedRow). not (is_row n row)) rows) ≡ without_number (numbers_if p rows) n
 removed p [] n = refl
 removed p (row ∷ rows) n =
     elim (p row) as (λ b. p row ≡ b → numbers_if p (cond (not (eqb row.number n))
-    (row ∷ filter (λ (r : NeedRow). not (has_number n r)) rows) (filter (λ (r : NeedRow). not (has_number n r)) rows))
-    ≡ without_number (map number_of (cond b (row ∷ filter p rows) (filter p rows))) n) [
-      | true ↦ λ e. elim (eqb row.number n) as (λ b. numbers_if p (cond (not b) (row ∷ filter (λ (r : NeedRow). not (has_number n r)) rows)
-          (filter (λ (r : NeedRow). not (has_number n r)) rows))
+    (row ∷ filter (λ (r : NeedRow). not (is_row n r)) rows) (filter (λ (r : NeedRow). not (is_row n r)) rows))
+    ≡ without_number (map key_of (cond b (row ∷ filter p rows) (filter p rows))) n) [
+      | true ↦ λ e. elim (eqb row.number n) as (λ b. numbers_if p (cond (not b) (row ∷ filter (λ (r : NeedRow). not (is_row n r)) rows)
+          (filter (λ (r : NeedRow). not (is_row n r)) rows))
           ≡ cond (not b) (row.number ∷ without_number (numbers_if p rows) n) (without_number (numbers_if p rows) n)) [
             | true ↦ removed p rows n
             | false ↦ rw e (ap (λ rest. row.number ∷ rest) (removed p rows n))
           ]
-      | false ↦ λ e. elim (eqb row.number n) as (λ b. numbers_if p (cond (not b) (row ∷ filter (λ (r : NeedRow). not (has_number n r)) rows)
-          (filter (λ (r : NeedRow). not (has_number n r)) rows))
+      | false ↦ λ e. elim (eqb row.number n) as (λ b. numbers_if p (cond (not b) (row ∷ filter (λ (r : NeedRow). not (is_row n r)) rows)
+          (filter (λ (r : NeedRow). not (is_row n r)) rows))
           ≡ without_number (numbers_if p rows) n) [
             | true ↦ removed p rows n
             | false ↦ rw e (removed p rows n)
@@ -66,33 +66,33 @@ pub numbers_above : (p : NeedRow → Bool) (n : ℕ) (rows : List NeedRow) → A
     → AllByRecursion (λ x. n < x) (numbers_if p rows)
 numbers_above p n [] all = tt
 numbers_above p n (row ∷ rows) all =
-    elim (p row) as (λ b. AllByRecursion (λ x. n < x) (map number_of (cond b (row ∷ filter p rows) (filter p rows)))) [
+    elim (p row) as (λ b. AllByRecursion (λ x. n < x) (map key_of (cond b (row ∷ filter p rows) (filter p rows)))) [
       | true ↦ (all.0, numbers_above p n rows all.1)
       | false ↦ numbers_above p n rows all.1
     ]
 
 pub found_above : (low n : ℕ) (rows : List NeedRow) (old : NeedRow) → AllByRecursion (λ (row : NeedRow). low < row.number) rows
-    → find (has_number n) rows ≡ Some old → low < n
+    → find (is_row n) rows ≡ Some old → low < n
 found_above low n [] old all found = absurd (cc found)
 found_above low n (row ∷ rows) old all found =
-    elim (cases_Bool (has_number n row)) [
+    elim (cases_Bool (is_row n row)) [
       | inl is ↦ omega (arith, all.0, eqb-true row.number n is)
-      | inr other ↦ found_above low n rows old all.1 (sym (ap (λ b. cond b (Some row) (find (has_number n) rows)) other) ∙ found)
+      | inr other ↦ found_above low n rows old all.1 (sym (ap (λ b. cond b (Some row) (find (is_row n) rows)) other) ∙ found)
     ]
 
 -- a number that doesn't pass isn't listed
-pub unlisted : (p : NeedRow → Bool) (rows : List NeedRow) (old : NeedRow) (n : ℕ) → AreRisingBy number_of rows
-    → find (has_number n) rows ≡ Some old → p old ≡ false → without_number (numbers_if p rows) n ≡ numbers_if p rows
+pub unlisted : (p : NeedRow → Bool) (rows : List NeedRow) (old : NeedRow) (n : ℕ) → AreRisingBy key_of rows
+    → find (is_row n) rows ≡ Some old → p old ≡ false → without_number (numbers_if p rows) n ≡ numbers_if p rows
 unlisted p [] old n rising found fails = refl
 unlisted p (row ∷ rows) old n rising found fails =
-    elim (cases_Bool (has_number n row)) [
+    elim (cases_Bool (is_row n row)) [
       | inl is ↦
-          let here : row ≡ old = cc (sym (ap (λ b. cond b (Some row) (find (has_number n) rows)) is) ∙ found) in
+          let here : row ≡ old = cc (sym (ap (λ b. cond b (Some row) (find (is_row n) rows)) is) ∙ found) in
           let later = subst (λ m. AllByRecursion (λ (other : NeedRow). m < other.number) rows) (eqb-true row.number n is) rising.0 in
           rw (here, fails) (without_above n (numbers_if p rows) (numbers_above p n rows later))
       | inr other ↦
-          let next : find (has_number n) rows ≡ Some old = sym (ap (λ b. cond b (Some row) (find (has_number n) rows)) other) ∙ found in
-          elim (p row) as (λ b. without_number (map number_of (cond b (row ∷ filter p rows) (filter p rows))) n ≡ map number_of
+          let next : find (is_row n) rows ≡ Some old = sym (ap (λ b. cond b (Some row) (find (is_row n) rows)) other) ∙ found in
+          elim (p row) as (λ b. without_number (map key_of (cond b (row ∷ filter p rows) (filter p rows))) n ≡ map key_of
           (cond b (row ∷ filter p rows) (filter p rows))) [
             | true ↦ rw other (ap (λ rest. row.number ∷ rest) (unlisted p rows old n rising.1 next fails))
             | false ↦ unlisted p rows old n rising.1 next fails
@@ -100,44 +100,44 @@ unlisted p (row ∷ rows) old n rising found fails =
     ]
 
 pub unmapped : (n : ℕ) (change : NeedRow → NeedRow) (rows : List NeedRow) → AllByRecursion (λ (row : NeedRow). n < row.number) rows
-    → map (λ (row : NeedRow). cond (has_number n row) (change row) row) rows ≡ rows
+    → map (λ (row : NeedRow). cond (is_row n row) (change row) row) rows ≡ rows
 unmapped n change [] all = refl
 unmapped n change (row ∷ rows) all = rw (ne_eqb row.number n (omega (arith, all.0)))
     (ap (λ rest. row ∷ rest) (unmapped n change rows all.1))
 
 -- a service that changes
 pub replaced : (p : NeedRow → Bool) (rows : List NeedRow) (old : NeedRow) (n : ℕ) (change : NeedRow → NeedRow) (passes : Bool)
-    → ((row : NeedRow) → p (change row) ≡ passes) → ((row : NeedRow) → has_number n row ≡ true → (change row).number ≡ n)
-    → AreRisingBy number_of rows → find (has_number n) rows ≡ Some old
-    → numbers_if p (map (λ (row : NeedRow). cond (has_number n row) (change row) row) rows) ≡ cond passes
+    → ((row : NeedRow) → p (change row) ≡ passes) → ((row : NeedRow) → is_row n row ≡ true → (change row).number ≡ n)
+    → AreRisingBy key_of rows → find (is_row n) rows ≡ Some old
+    → numbers_if p (map (λ (row : NeedRow). cond (is_row n row) (change row) row) rows) ≡ cond passes
     (with_number (without_number (numbers_if p rows) n) n) (without_number (numbers_if p rows) n)
 replaced p [] old n change passes is_passing numbers rising found = absurd (cc found)
 replaced p (row ∷ rows) old n change passes is_passing numbers rising found =
-    elim (cases_Bool (has_number n row)) [
+    elim (cases_Bool (is_row n row)) [
       | inl is ↦
           let number : row.number ≡ n = eqb-true row.number n is in
           let later = subst (λ m. AllByRecursion (λ (other : NeedRow). m < other.number) rows) number rising.0 in
           let above = numbers_above p n rows later in
           let rest : without_number (numbers_if p (row ∷ rows)) n ≡ numbers_if p rows =
-          (elim (p row) as (λ b. without_number (map number_of (cond b (row ∷ filter p rows) (filter p rows))) n ≡ numbers_if p rows) [
+          (elim (p row) as (λ b. without_number (map key_of (cond b (row ∷ filter p rows) (filter p rows))) n ≡ numbers_if p rows) [
             | true ↦ rw is (without_above n (numbers_if p rows) above)
             | false ↦ without_above n (numbers_if p rows) above
           ]) in
           rw (is, unmapped n change rows later, rest, is_passing row, with_first n (numbers_if p rows) above)
-          (elim passes as (λ b. map number_of (cond b (change row ∷ filter p rows) (filter p rows)) ≡ cond b (n ∷ numbers_if p rows)
+          (elim passes as (λ b. map key_of (cond b (change row ∷ filter p rows) (filter p rows)) ≡ cond b (n ∷ numbers_if p rows)
           (numbers_if p rows)) [
             | true ↦ ap (λ m. m ∷ numbers_if p rows) (numbers row is)
             | false ↦ refl
           ])
       | inr other ↦
-          let next : find (has_number n) rows ≡ Some old = sym (ap (λ b. cond b (Some row) (find (has_number n) rows)) other) ∙ found in
+          let next : find (is_row n) rows ≡ Some old = sym (ap (λ b. cond b (Some row) (find (is_row n) rows)) other) ∙ found in
           let less : row.number < n = found_above row.number n rows old rising.0 next in
           let step = replaced p rows old n change passes is_passing numbers rising.1 next in
-          rw other (elim (p row) as (λ b. map number_of (cond b (row ∷ filter p
-          (map (λ (r : NeedRow). cond (has_number n r) (change r) r) rows))
-          (filter p (map (λ (r : NeedRow). cond (has_number n r) (change r) r) rows)))
-          ≡ cond passes (with_number (without_number (map number_of (cond b (row ∷ filter p rows) (filter p rows))) n) n)
-          (without_number (map number_of (cond b (row ∷ filter p rows) (filter p rows))) n)) [
+          rw other (elim (p row) as (λ b. map key_of (cond b (row ∷ filter p
+          (map (λ (r : NeedRow). cond (is_row n r) (change r) r) rows))
+          (filter p (map (λ (r : NeedRow). cond (is_row n r) (change r) r) rows)))
+          ≡ cond passes (with_number (without_number (map key_of (cond b (row ∷ filter p rows) (filter p rows))) n) n)
+          (without_number (map key_of (cond b (row ∷ filter p rows) (filter p rows))) n)) [
             | true ↦
                 rw (other, le-ltb n row.number (omega (arith, less)), ne_eqb n row.number (omega (arith, less)))
                 (ap (λ rest. row.number ∷ rest) step

@@ -7,16 +7,16 @@ use Rattle.std.specs.List.{list_any, AllByRecursion}
 use Rattle.std.proofs.lemmas.Bool.{eq-eqb, ne_eqb, eqb-true, lt-ltb, le-ltb, cases_order, cases_Bool}
 use Rattle.std.proofs.lemmas.List.{append-nil}
 use Rattle.scm_text.specs.Fold.{same_text}
+use Rattle.scm_text.specs.Numbers.{has}
 use Rattle.scm_model.specs.declared.flat.Need.{Need}
 use Rattle.number_lists.specs.Rising.{with_number, without_number}
-use Rattle.number_lists.specs.UnderName.{UnderName, at, room, room_in, has, Changes, HasRoom}
+use Rattle.number_lists.specs.UnderName.{UnderName, at, room, room_in, Changes, HasRoom}
 use Rattle.number_lists.proofs.Same.{same_laws}
 use Rattle.number_lists.proofs.Writes.{lookup_same}
 use Rattle.row_slab.specs.Rowed.{AreRisingBy}
 use Rattle.scm_model.specs.declared.flat.NeedRow.{NeedRow}
 use Rattle.scm_model.specs.Needs.{instead, added, numbers_of, with_row}
-use Rattle.scm_model.specs.Needs as needs
-use Rattle.dependency_index.specs.Kept.{number_of, has_number, AreOf, IsNext, SameNumbers}
+use Rattle.dependency_index.specs.Kept.{key_of, is_row, AreOf, IsNext, SameNumbers}
 use Rattle.dependency_index.specs.declared.keeping.KeptLists.{KeptLists}
 use Rattle.dependency_index.proofs.Listing as listing
 use Rattle.dependency_index.proofs.Listing.{numbers_if}
@@ -102,10 +102,10 @@ on_ok (Err e) P Q h f = h
 
 -- ## A row less
 
-pub left : (p : NeedRow → Bool) (rows : List NeedRow) (row : NeedRow) (n : ℕ) → AreRisingBy number_of rows
-    → find (has_number n) rows ≡ Some row
+pub left : (p : NeedRow → Bool) (rows : List NeedRow) (row : NeedRow) (n : ℕ) → AreRisingBy key_of rows
+    → find (is_row n) rows ≡ Some row
     → cond (p row) (without_number (numbers_if p rows) n) (numbers_if p rows) ≡ numbers_if p
-    (filter (λ (r : NeedRow). not (has_number n r)) rows)
+    (filter (λ (r : NeedRow). not (is_row n r)) rows)
 left p rows row n rising found =
     elim (cases_Bool (p row)) [
       | inl passes ↦ rw passes (sym (listing.removed p rows n))
@@ -120,19 +120,19 @@ none_passes p (row ∷ rows) none =
       | false ↦ λ e h. (e, none_passes p rows h)
     ] refl none
 
-pub none_leaves : (n : ℕ) (rows : List NeedRow) → find (has_number n) rows ≡ None
-    → filter (λ (row : NeedRow). not (has_number n row)) rows ≡ rows
-none_leaves n rows none = by rows (none_passes (has_number n) rows none)
+pub none_leaves : (n : ℕ) (rows : List NeedRow) → find (is_row n) rows ≡ None
+    → filter (λ (row : NeedRow). not (is_row n row)) rows ≡ rows
+none_leaves n rows none = by rows (none_passes (is_row n) rows none)
   where
-    by : (rs : List NeedRow) → AllByRecursion (λ (row : NeedRow). has_number n row ≡ false) rs
-        → filter (λ (row : NeedRow). not (has_number n row)) rs ≡ rs
+    by : (rs : List NeedRow) → AllByRecursion (λ (row : NeedRow). is_row n row ≡ false) rs
+        → filter (λ (row : NeedRow). not (is_row n row)) rs ≡ rs
     by [] all = refl
     by (row ∷ rs) all = rw all.0 (ap (λ rest. row ∷ rest) (by rs all.1))
 
-pub none_instead : (new : NeedRow) (rows : List NeedRow) → find (has_number new.number) rows ≡ None → map (instead new) rows ≡ rows
-none_instead new rows none = by rows (none_passes (has_number new.number) rows none)
+pub none_instead : (new : NeedRow) (rows : List NeedRow) → find (is_row new.number) rows ≡ None → map (instead new) rows ≡ rows
+none_instead new rows none = by rows (none_passes (is_row new.number) rows none)
   where
-    by : (rs : List NeedRow) → AllByRecursion (λ (row : NeedRow). has_number new.number row ≡ false) rs → map (instead new) rs ≡ rs
+    by : (rs : List NeedRow) → AllByRecursion (λ (row : NeedRow). is_row new.number row ≡ false) rs → map (instead new) rs ≡ rs
     by [] all = refl
     by (row ∷ rs) all = rw all.0 (ap (λ rest. row ∷ rest) (by rs all.1))
 
@@ -144,10 +144,10 @@ all_filter P p (row ∷ rows) all =
       | false ↦ all_filter P p rows all.1
     ]
 
-pub rising_filter : (p : NeedRow → Bool) (rows : List NeedRow) → AreRisingBy number_of rows → AreRisingBy number_of (filter p rows)
+pub rising_filter : (p : NeedRow → Bool) (rows : List NeedRow) → AreRisingBy key_of rows → AreRisingBy key_of (filter p rows)
 rising_filter p [] rising = tt
 rising_filter p (row ∷ rows) rising =
-    elim (p row) as (λ b. AreRisingBy number_of (cond b (row ∷ filter p rows) (filter p rows))) [
+    elim (p row) as (λ b. AreRisingBy key_of (cond b (row ∷ filter p rows) (filter p rows))) [
       | true ↦ (all_filter (λ (other : NeedRow). row.number < other.number) p rows rising.0, rising_filter p rows rising.1)
       | false ↦ rising_filter p rows rising.1
     ]
@@ -155,8 +155,8 @@ rising_filter p (row ∷ rows) rising =
 -- ## A row is put in
 
 -- a number is had where a row has it
-pub has_found : (n : ℕ) (rows : List NeedRow) → needs.has (numbers_of rows) n ≡ true → (row : NeedRow)
-    × (find (has_number n) rows ≡ Some row)
+pub has_found : (n : ℕ) (rows : List NeedRow) → has (numbers_of rows) n ≡ true → (row : NeedRow)
+    × (find (is_row n) rows ≡ Some row)
 has_found n [] had = absurd (cc had)
 has_found n (row ∷ rows) had =
     elim (cases_order row.number n) [
@@ -169,7 +169,7 @@ has_found n (row ∷ rows) had =
           (next.0, rw (ne_eqb row.number n (omega arith)) next.1)
     ]
 
-pub had_none : (n : ℕ) (rows : List NeedRow) → needs.has (numbers_of rows) n ≡ false → find (has_number n) rows ≡ None
+pub had_none : (n : ℕ) (rows : List NeedRow) → has (numbers_of rows) n ≡ false → find (is_row n) rows ≡ None
 had_none n [] had = refl
 had_none n (row ∷ rows) had =
     elim (cases_order row.number n) [
@@ -178,12 +178,12 @@ had_none n (row ∷ rows) had =
       | inr (inr more) ↦ rw (ne_eqb row.number n (omega arith)) (had_none n rows (rw (ne_eqb n row.number (omega arith)) at had))
     ]
 
-pub put_lists : (p : NeedRow → Bool) (rows : List NeedRow) (new : NeedRow) → AreRisingBy number_of rows → IsNext rows new.number
+pub put_lists : (p : NeedRow → Bool) (rows : List NeedRow) (new : NeedRow) → AreRisingBy key_of rows → IsNext rows new.number
     → numbers_if p (with_row rows new) ≡ cond (p new) (with_number (numbers_if p
-    (filter (λ (r : NeedRow). not (has_number new.number r)) rows)) new.number)
-    (numbers_if p (filter (λ (r : NeedRow). not (has_number new.number r)) rows))
+    (filter (λ (r : NeedRow). not (is_row new.number r)) rows)) new.number)
+    (numbers_if p (filter (λ (r : NeedRow). not (is_row new.number r)) rows))
 put_lists p rows new rising next =
-    elim (cases_Bool (needs.has (numbers_of rows) new.number)) [
+    elim (cases_Bool (has (numbers_of rows) new.number)) [
       | inl had ↦
           let found = has_found new.number rows had in
           let whole : with_row rows new ≡ map (instead new) rows = ap (λ b. map (instead new) rows ++ cond b [] (new ∷ [])) had
@@ -204,17 +204,17 @@ all_instead : (low : ℕ) (new : NeedRow) (rows : List NeedRow) → AllByRecursi
     → AllByRecursion (λ (row : NeedRow). low < row.number) (map (instead new) rows)
 all_instead low new [] all = tt
 all_instead low new (row ∷ rows) all = (
-  elim (has_number new.number row) as (λ b. has_number new.number row ≡ b → low < (cond b new row).number) [
+  elim (is_row new.number row) as (λ b. is_row new.number row ≡ b → low < (cond b new row).number) [
     | true ↦ λ e. omega (arith, all.0, eqb-true row.number new.number e)
     | false ↦ λ e. all.0
   ] refl,
   all_instead low new rows all.1,
 )
 
-rising_instead : (new : NeedRow) (rows : List NeedRow) → AreRisingBy number_of rows → AreRisingBy number_of (map (instead new) rows)
+rising_instead : (new : NeedRow) (rows : List NeedRow) → AreRisingBy key_of rows → AreRisingBy key_of (map (instead new) rows)
 rising_instead new [] rising = tt
 rising_instead new (row ∷ rows) rising = (
-  elim (has_number new.number row) as (λ b. has_number new.number row ≡ b
+  elim (is_row new.number row) as (λ b. is_row new.number row ≡ b
       → AllByRecursion (λ (other : NeedRow). (cond b new row).number < other.number) (map (instead new) rows)) [
         | true ↦ λ e. subst (λ n. AllByRecursion (λ (other : NeedRow). n < other.number) (map (instead new) rows))
             (eqb-true row.number new.number e) (all_instead row.number new rows rising.0)
@@ -223,8 +223,8 @@ rising_instead new (row ∷ rows) rising = (
   rising_instead new rows rising.1,
 )
 
-rising_pushed : (rows : List NeedRow) (new : NeedRow) → AreRisingBy number_of rows
-    → AllByRecursion (λ (row : NeedRow). row.number < new.number) rows → AreRisingBy number_of (rows ++ new ∷ [])
+rising_pushed : (rows : List NeedRow) (new : NeedRow) → AreRisingBy key_of rows
+    → AllByRecursion (λ (row : NeedRow). row.number < new.number) rows → AreRisingBy key_of (rows ++ new ∷ [])
 rising_pushed [] new rising below = (tt, tt)
 rising_pushed (row ∷ rows) new rising below = (by rows rising.0, rising_pushed rows new rising.1 below.1)
   where
@@ -233,10 +233,10 @@ rising_pushed (row ∷ rows) new rising below = (by rows rising.0, rising_pushed
     by [] all = (below.0, tt)
     by (r ∷ rs) all = (all.0, by rs all.1)
 
-pub rising_put : (rows : List NeedRow) (new : NeedRow) → AreRisingBy number_of rows → IsNext rows new.number
-    → AreRisingBy number_of (with_row rows new)
+pub rising_put : (rows : List NeedRow) (new : NeedRow) → AreRisingBy key_of rows → IsNext rows new.number
+    → AreRisingBy key_of (with_row rows new)
 rising_put rows new rising next =
-    elim (cases_Bool (needs.has (numbers_of rows) new.number)) [
+    elim (cases_Bool (has (numbers_of rows) new.number)) [
       | inl had ↦
           let whole : with_row rows new ≡ map (instead new) rows = ap (λ b. map (instead new) rows ++ cond b [] (new ∷ [])) had
           ∙ append-nil (map (instead new) rows) in
@@ -253,7 +253,7 @@ pub counted : (p : NeedRow → Bool) (q : ℕ → Bool) (rows : List NeedRow)
     → length (filter q (numbers_if p rows)) ≡ length (filter (λ (row : NeedRow). p row && q row.number) rows)
 counted p q [] = refl
 counted p q (row ∷ rows) =
-    elim (p row) as (λ b. length (filter q (map number_of (cond b (row ∷ filter p rows) (filter p rows)))) ≡ length
+    elim (p row) as (λ b. length (filter q (map key_of (cond b (row ∷ filter p rows) (filter p rows)))) ≡ length
     (cond (b && q row.number) (row ∷ filter (λ (r : NeedRow). p r && q r.number) rows)
     (filter (λ (r : NeedRow). p r && q r.number) rows))) [
       | true ↦ elim (q row.number) as (λ b. length (cond b (row.number ∷ filter q (numbers_if p rows)) (filter q (numbers_if p rows))) ≡

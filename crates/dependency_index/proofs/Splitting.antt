@@ -9,11 +9,11 @@ use Rattle.std.proofs.lemmas.List.{append-nil}
 use Rattle.std.proofs.lemmas.List.Sorted.{IsNonDecreasingBy-from_default}
 use Rattle.scm_model.specs.declared.flat.Need.{Need}
 use Rattle.scm_model.specs.declared.flat.NeedRow.{NeedRow}
-use Rattle.scm_model.specs.Needs.{has, instead, is_met, met_by, numbers_of, with_row}
+use Rattle.scm_model.specs.Needs.{instead, is_met, met_by, numbers_of, with_row}
 use Rattle.row_slab.specs.Rowed.{AreRisingBy}
 use Rattle.number_lists.specs.Rising.{AreRising}
 use Rattle.number_lists.proofs.Places.{rises}
-use Rattle.dependency_index.specs.Kept.{number_of, has_number}
+use Rattle.dependency_index.specs.Kept.{key_of, is_row}
 use Rattle.dependency_index.specs.Resolved.{AreListed, above, all_of, below, own_number}
 use Rattle.dependency_index.specs.declared.graph.Resolved.{Resolved}
 use Rattle.dependency_index.specs.Needs.{number_if_met}
@@ -21,6 +21,7 @@ use Rattle.dependency_index.proofs.Lists.{has_kept, or_right, try_append}
 use Rattle.scm_model.specs.Order.{try_all, try_some}
 use Rattle.dependency_index.proofs.Listing.{found_above, numbers_above, numbers_if, unmapped}
 use Rattle.dependency_index.proofs.Shelves.{had_none, has_found, none_instead}
+use Rattle.scm_text.specs.Numbers.{has}
 
 -- ## Parts of rising numbers
 
@@ -66,10 +67,10 @@ rising_up xs rising = IsNonDecreasingBy-from_default (λ (x : ℕ). x) xs 0 (λ 
 
 -- ## Rows in order of number
 
-pub rising_numbers : (p : NeedRow → Bool) (rows : List NeedRow) → AreRisingBy number_of rows → AreRising (numbers_if p rows)
+pub rising_numbers : (p : NeedRow → Bool) (rows : List NeedRow) → AreRisingBy key_of rows → AreRising (numbers_if p rows)
 rising_numbers p [] rising = tt
 rising_numbers p (row ∷ rows) rising =
-    elim (p row) as (λ b. AreRising (map number_of (cond b (row ∷ filter p rows) (filter p rows)))) [
+    elim (p row) as (λ b. AreRising (map key_of (cond b (row ∷ filter p rows) (filter p rows)))) [
       | true ↦ (numbers_above p row.number rows rising.0, rising_numbers p rows rising.1)
       | false ↦ rising_numbers p rows rising.1
     ]
@@ -79,7 +80,7 @@ own_is : (need : Need) (new : NeedRow) (rest : List ℕ) → own_number (number_
 own_is need new rest = elim (is_met need new) as (λ b. own_number (cond b (Some new.number) None) ++ rest ≡ cond b (new.number ∷ rest) rest)
     [ true ↦ refl | false ↦ refl ]
 
-parted : (need : Need) (rows : List NeedRow) (new : NeedRow) → AreRisingBy number_of rows → has (numbers_of rows) new.number ≡ true
+parted : (need : Need) (rows : List NeedRow) (new : NeedRow) → AreRisingBy key_of rows → has (numbers_of rows) new.number ≡ true
     → met_by (map (instead new) rows) need ≡ below new.number (met_by rows need)
     ++ (own_number (number_if_met need new) ++ above new.number (met_by rows need))
 parted need [] new rising had = absurd (cc had)
@@ -88,29 +89,29 @@ parted need (row ∷ rows) new rising had =
     let p = is_met need in
     elim (cases_order row.number n) [
       | inl same ↦
-          let is : has_number n row ≡ true = eq-eqb row.number n same in
+          let is : is_row n row ≡ true = eq-eqb row.number n same in
           let later = subst (λ m. AllByRecursion (λ (other : NeedRow). m < other.number) rows) same rising.0 in
           let over = numbers_above p n rows later in
           let lower : below n (numbers_if p (row ∷ rows)) ≡ [] = (elim (p row) as (λ b. below n
-          (map number_of (cond b (row ∷ filter p rows) (filter p rows))) ≡ []) [
+          (map key_of (cond b (row ∷ filter p rows) (filter p rows))) ≡ []) [
             | true ↦ rw (le-ltb row.number n (omega (arith, same))) (none_below n (numbers_if p rows) over)
             | false ↦ none_below n (numbers_if p rows) over
           ]) in
           let upper : above n (numbers_if p (row ∷ rows)) ≡ numbers_if p rows =
-          (elim (p row) as (λ b. above n (map number_of (cond b (row ∷ filter p rows) (filter p rows))) ≡ numbers_if p rows) [
+          (elim (p row) as (λ b. above n (map key_of (cond b (row ∷ filter p rows) (filter p rows))) ≡ numbers_if p rows) [
             | true ↦ rw (le-ltb n row.number (omega (arith, same))) (all_above n (numbers_if p rows) over)
             | false ↦ all_above n (numbers_if p rows) over
           ]) in
           rw (is, unmapped n (λ (r : NeedRow). new) rows later, lower, upper, own_is need new (numbers_if p rows))
-          (elim (p new) as (λ b. map number_of (cond b (new ∷ filter p rows) (filter p rows)) ≡ cond b (n ∷ numbers_if p rows)
+          (elim (p new) as (λ b. map key_of (cond b (new ∷ filter p rows) (filter p rows)) ≡ cond b (n ∷ numbers_if p rows)
           (numbers_if p rows)) [ true ↦ refl | false ↦ refl ])
       | inr (inl less) ↦
-          let other : has_number n row ≡ false = ne_eqb row.number n (omega (arith, less)) in
+          let other : is_row n row ≡ false = ne_eqb row.number n (omega (arith, less)) in
           let step = parted need rows new rising.1 (rw (ne_eqb n row.number (omega (arith, less))) at had) in
           rw other
-          (elim (p row) as (λ b. map number_of (cond b (row ∷ filter p (map (instead new) rows)) (filter p (map (instead new) rows)))
-          ≡ below n (map number_of (cond b (row ∷ filter p rows) (filter p rows)))
-          ++ (own_number (number_if_met need new) ++ above n (map number_of (cond b (row ∷ filter p rows) (filter p rows))))) [
+          (elim (p row) as (λ b. map key_of (cond b (row ∷ filter p (map (instead new) rows)) (filter p (map (instead new) rows)))
+          ≡ below n (map key_of (cond b (row ∷ filter p rows) (filter p rows)))
+          ++ (own_number (number_if_met need new) ++ above n (map key_of (cond b (row ∷ filter p rows) (filter p rows))))) [
             | true ↦ rw (lt-ltb row.number n less, le-ltb n row.number (omega (arith, less))) (ap (λ rest. row.number ∷ rest) step)
             | false ↦ step
           ])
@@ -120,7 +121,7 @@ parted need (row ∷ rows) new rising had =
           absurd (omega (arith, more, found_above row.number n rows found.0 rising.0 found.1))
     ]
 
-pub split_met : (need : Need) (rows : List NeedRow) (new : NeedRow) → AreRisingBy number_of rows → has (numbers_of rows) new.number ≡ true
+pub split_met : (need : Need) (rows : List NeedRow) (new : NeedRow) → AreRisingBy key_of rows → has (numbers_of rows) new.number ≡ true
     → below new.number (met_by rows need) ++ (own_number (number_if_met need new) ++ above new.number (met_by rows need)) ≡ met_by
     (with_row rows new) need
 split_met need rows new rising had =
@@ -130,12 +131,12 @@ split_met need rows new rising had =
 
 pushed_met : (need : Need) (rows : List NeedRow) (new : NeedRow) → met_by (rows ++ new ∷ []) need ≡ met_by rows need
     ++ (own_number (number_if_met need new) ++ [])
-pushed_met need [] new = elim (is_met need new) as (λ b. map number_of (cond b (new ∷ []) []) ≡ own_number (cond b (Some new.number) None)
+pushed_met need [] new = elim (is_met need new) as (λ b. map key_of (cond b (new ∷ []) []) ≡ own_number (cond b (Some new.number) None)
     ++ []) [ true ↦ refl | false ↦ refl ]
 pushed_met need (row ∷ rows) new =
-    elim (is_met need row) as (λ b. map number_of (cond b (row ∷ filter (is_met need) (rows ++ new ∷ []))
+    elim (is_met need row) as (λ b. map key_of (cond b (row ∷ filter (is_met need) (rows ++ new ∷ []))
     (filter (is_met need) (rows ++ new ∷ [])))
-    ≡ map number_of (cond b (row ∷ filter (is_met need) rows) (filter (is_met need) rows)) ++ (own_number (number_if_met need new) ++ [])) [
+    ≡ map key_of (cond b (row ∷ filter (is_met need) rows) (filter (is_met need) rows)) ++ (own_number (number_if_met need new) ++ [])) [
       | true ↦ ap (λ rest. row.number ∷ rest) (pushed_met need rows new)
       | false ↦ pushed_met need rows new
     ]

@@ -9,13 +9,13 @@ use Rattle.scm_model.specs.declared.flat.Need.TheVariants as kinds
 use Rattle.number_lists.specs.UnderName.{UnderName, room, Changes}
 use Rattle.number_lists.proofs.Same.{same_laws}
 use Rattle.dependency_index.specs.Kept.{HasRoom, HasTexts, KeepsRoom, name_it}
-use Rattle.dependency_index.specs.Naming.{is_named}
+use Rattle.dependency_index.specs.Naming.{is_for}
 use Rattle.dependency_index.specs.declared.index.DependencyIndex.TheInside.{Inside}
 use Rattle.dependency_index.specs.declared.keeping.KeptLists.{KeptLists}
 use Rattle.dependency_index.specs.declared.keeping.Spare.{Spare}
 
 -- a need names each of two texts that are the same, or neither
-named_alike : (a b : List ℕ) → same_text a b ≡ true → (need : Need) → is_named a need ≡ is_named b need
+named_alike : (a b : List ℕ) → same_text a b ≡ true → (need : Need) → is_for a need ≡ is_for b need
 named_alike a b same (kinds.Service needed) = same_laws.congr a b needed same
 named_alike a b same (kinds.Group group) = refl
 

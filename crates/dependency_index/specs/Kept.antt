@@ -3,6 +3,7 @@ use Rattle.std.specs.Prelude.{ℕ, ◌≡◌, ◌≤◌, ◌<◌, Bool, true, fa
 use Rattle.std.specs.List.{list_any, IsDistinct, AllByRecursion}
 use Rattle.std.specs.Prelude.{eqb}
 use Rattle.scm_text.specs.Fold.{same_text}
+use Rattle.scm_text.specs.Numbers.{has}
 use Rattle.scm_model.specs.declared.flat.Need.{Need}
 use Rattle.number_lists.specs.UnderName.{UnderName, at, room}
 use Rattle.row_slab.specs.Rowed.{AreRisingBy}
@@ -10,28 +11,28 @@ use Rattle.scm_model.specs.declared.flat.NeedRow.{NeedRow}
 use Rattle.dependency_index.specs.declared.keeping.KeptLists.{KeptLists}
 use Rattle.dependency_index.specs.declared.keeping.Spare.{Spare}
 use Rattle.dependency_index.specs.declared.index.DependencyIndex.TheInside.{Inside}
-use Rattle.dependency_index.specs.Naming.{is_named, names}
-use Rattle.scm_model.specs.Needs.{has, numbers_of, with_row}
+use Rattle.dependency_index.specs.Naming.{is_for, names}
+use Rattle.scm_model.specs.Needs.{numbers_of, with_row}
 
-abbrev pub number_of : NeedRow → ℕ
-number_of row = row.number
+abbrev pub key_of : NeedRow → ℕ
+key_of row = row.number
 
-abbrev pub has_number : ℕ → NeedRow → Bool
-has_number number row = row.number == number
+abbrev pub is_row : ℕ → NeedRow → Bool
+is_row number row = row.number == number
 
 -- whether needs name the service of this name
 abbrev pub name_it : List ℕ → List Need → Bool
-name_it name needs = list_any (is_named name) needs
+name_it name needs = list_any (is_for name) needs
 
-abbrev pub is_member : List ℕ → NeedRow → Bool
-is_member group row = same_text row.group group
+abbrev pub row_in_group : List ℕ → NeedRow → Bool
+row_in_group group row = same_text row.group group
 
-abbrev pub has_name : List ℕ → NeedRow → Bool
-has_name name row = same_text row.name name
+abbrev pub row_has_name : List ℕ → NeedRow → Bool
+row_has_name name row = same_text row.name name
 
 -- the services of this name
 abbrev pub called_of : List NeedRow → List ℕ → List ℕ
-called_of rows name = numbers_of (filter (has_name name) rows)
+called_of rows name = numbers_of (filter (row_has_name name) rows)
 
 -- the services that name the one of this name
 abbrev pub naming_of : List NeedRow → List ℕ → List ℕ
@@ -39,7 +40,7 @@ naming_of rows name = numbers_of (filter (names name) rows)
 
 -- the services of a group
 abbrev pub members_of : List NeedRow → List ℕ → List ℕ
-members_of rows group = numbers_of (filter (is_member group) rows)
+members_of rows group = numbers_of (filter (row_in_group group) rows)
 
 -- there is room for a number more under each name that the needs have
 abbrev pub IsReady : UnderName → List Need → Type 0
@@ -87,12 +88,12 @@ abbrev pub row_from : Spare → ℕ → NeedRow
 row_from spare number = record { number = number; name = spare.name; group = spare.group; needs = spare.needs }
 
 abbrev pub without_row : List NeedRow → ℕ → List NeedRow
-without_row rows number = filter (λ (row : NeedRow). not (has_number number row)) rows
+without_row rows number = filter (λ (row : NeedRow). not (is_row number row)) rows
 
 -- lists of the other services' rows come to be those of all rows
 abbrev pub Enters : KeptLists → KeptLists → Spare → ℕ → Type 0
 Enters old new spare number =
-    (rows : List NeedRow) → AreRisingBy number_of rows → IsNext rows number → AreOf old (without_row rows number)
+    (rows : List NeedRow) → AreRisingBy key_of rows → IsNext rows number → AreOf old (without_row rows number)
     → AreOf new (with_row rows (row_from spare number))
 
 -- there is room for a row
@@ -103,7 +104,7 @@ pub record HasRoom (index : Inside) (row : Spare) : Type 0 where
 -- rows stand in order of number, and the lists are theirs; there is room for the rows that it was made for
 pub record IsKept (index : Inside) : Type 0 where
   pub once : IsDistinct eqb (numbers_of index.rows.items)
-  pub rising : AreRisingBy number_of index.rows.items
+  pub rising : AreRisingBy key_of index.rows.items
   pub lists : AreOf index.lists index.rows.items
   pub room : IfSome index.spare (HasRoom index)
   pub next : IfSome index.next (HasRoom index)

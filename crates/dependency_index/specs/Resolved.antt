@@ -4,8 +4,9 @@ use Rattle.std.specs.List.{AllByRecursion}
 use Rattle.row_slab.specs.Rowed.{AreRisingBy}
 use Rattle.scm_model.specs.declared.flat.Need.{Need}
 use Rattle.scm_model.specs.declared.flat.NeedRow.{NeedRow}
-use Rattle.scm_model.specs.Needs.{has, met_by, numbers_of}
+use Rattle.scm_model.specs.Needs.{met_by, numbers_of}
 use Rattle.dependency_index.specs.declared.graph.Resolved.{Resolved}
+use Rattle.scm_text.specs.Numbers.{has}
 
 -- a list is what a need leads to, and the rows stand in order of number
 pub record IsListOf (rows : List NeedRow) (need : Need) (numbers : List ℕ) : Type 0 where

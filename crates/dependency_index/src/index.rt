@@ -3,16 +3,18 @@ ghost use Rattle.std.specs.Prelude.{filter, length, slice_get, vec_len, vec_capa
 ghost use Rattle.std.specs.Prelude.{OnOk, OnErr, IsTrue, IsFalse, None, Some, Ok};
 ghost use Rattle.std.specs.List.{AllByRecursion, IsDistinct};
 ghost use Rattle.dependency_index.specs.Dependents.{dependents_in};
-ghost use Rattle.dependency_index.specs.Indexed.{Indexed, committed, discarded, empty, prepared};
-ghost use Rattle.dependency_index.specs.Indexed.{row_with, spare_of, with_needs, without_service};
-ghost use Rattle.dependency_index.specs.Kept.{number_of, HasTexts, IsNext, SameNumbers};
+ghost use Rattle.dependency_index.specs.Indexed.{Indexed, committed, discarded, empty_index};
+ghost use Rattle.dependency_index.specs.Indexed.{prepared};
+ghost use Rattle.dependency_index.specs.Indexed.{row_with, as_spare, with_needs, without_service};
+ghost use Rattle.dependency_index.specs.Kept.{key_of, HasTexts, IsNext, SameNumbers};
 ghost use Rattle.dependency_index.specs.Kept.{called_of, members_of, naming_of};
 ghost use Rattle.dependency_index.specs.Naming.{active_in, naming_in, row_of};
-ghost use Rattle.scm_model.specs.Needs.{has, needs_of, numbers_of, with_row};
+ghost use Rattle.scm_model.specs.Needs.{needs_of, numbers_of, with_row};
 ghost use Rattle.scm_model.specs.Order.{is_cyclic, order_in};
 ghost use Rattle.scm_model.specs.Walks.{IsAcyclic};
 ghost use Rattle.number_lists.specs.Rising.{AreRising};
 ghost use Rattle.row_slab.specs.Rowed.{AreRisingBy};
+ghost use Rattle.scm_text.specs.Numbers.{has};
 
 use super::graph::{NeedRows, NewRow};
 use super::keeping::{
@@ -53,7 +55,7 @@ impl Model for DependencyIndex {
 /// Puts a row in place of the same service's, or at the end.
 fn put(rows: &mut Vec<NeedRow>, row: NeedRow)
     requires once { IsDistinct eqb (numbers_of rows.old.items) }
-    requires rising { AreRisingBy number_of rows.old.items }
+    requires rising { AreRisingBy key_of rows.old.items }
     requires room { vec_len rows.old < vec_capacity rows.old }
     ensures rows { rows.new.items ≡ with_row rows.old.items row }
     ensures once { IsDistinct eqb (numbers_of rows.new.items) }
@@ -111,7 +113,7 @@ fn are_below(rows: &[NeedRow], number: u64) -> bool
 impl DependencyIndex {
     /// An index with no rows, which takes no memory.
     pub fn new(alloc: Global) -> Result<DependencyIndex, OutOfMemory>
-        ensures { result ≡ Ok empty }
+        ensures { result ≡ Ok empty_index }
     {
         Ok(DependencyIndex {
             rows: Vec::new(alloc),
@@ -124,7 +126,7 @@ impl DependencyIndex {
     /// The rows, in order of number.
     pub(crate) fn rows(&self) -> &[NeedRow]
         ensures rows { result.now ≡ self.now.rows }
-        ensures rising { AreRisingBy number_of self.now.rows }
+        ensures rising { AreRisingBy key_of self.now.rows }
     {
         self.rows.as_slice()
     }
@@ -193,7 +195,7 @@ impl DependencyIndex {
     /// Puts a service's row in, for which room was made, in place of the one that it had or at the
     /// end. It takes no memory.
     pub fn set_needs(&mut self, service: u64, name: &WText, group: &WText, needs: &Items<Need>)
-        requires spare { self.old.spare ≡ Some (spare_of name.now group.now needs.now) }
+        requires spare { self.old.spare ≡ Some (as_spare name.now group.now needs.now) }
         requires next { IsNext self.old.rows service }
         ensures { self.new ≡ with_needs self.old (row_with service name.now group.now needs.now) }
     {

@@ -1,7 +1,7 @@
 ghost use Rattle.std.specs.Prelude.{ℕ, ◌≡◌, ◌+◌, ◌-◌, ◌^◌, ◌==◌, Bool, true, false, not, filter};
 ghost use Rattle.std.specs.Prelude.{length, min, if◌then◌else◌};
 ghost use Rattle.dependency_index.specs.Kept.{name_it};
-ghost use Rattle.dependency_index.specs.Naming.{is_named};
+ghost use Rattle.dependency_index.specs.Naming.{is_for};
 ghost use Rattle.scm_model.specs.declared.codes.TheConstants.{SERVICE_STOPPED};
 
 use super::steps::Steps;
@@ -21,7 +21,7 @@ pub trait StateLook {
 
 /// Whether a need names the service of this name.
 pub fn is_named(name: &WText, need: &Need) -> bool
-    ensures { result ≡ is_named name.now need.now }
+    ensures { result ≡ is_for name.now need.now }
 {
     match need {
         Need::Service(needed) => same(name, needed),

@@ -87,8 +87,8 @@ fn pieces_of_any_size_are_answered_alike_until_there_is_no_room(
     Ok(())
 }
 
-/// A bind to svcctl as context 0 and to the trigger interface as context 1, a close, a raise, a raise
-/// one byte short, a method that there is not, a raise one byte long, and a close.
+/// A bind to svcctl as context 0 and to the trigger interface as context 1, a close, a raise, a
+/// raise one byte short, a method that there is not, a raise one byte long, and a close.
 const RAISES: &str = "05000b03 10000000 74000000 01000000 00000000 07000000 02000000 00000100 \
      81bb7a364498f135ad3298f038001003 02000000 045d888aeb1cc9119fe808002b104860 02000000 \
      01000100 100a3f5c4b2e614d9a770d5b1e6f2c01 01000000 \

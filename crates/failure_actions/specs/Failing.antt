@@ -13,18 +13,18 @@ abbrev pub is_forgotten : Config → ℕ → ℕ → Bool
 is_forgotten config last moment = not (config.reset == INFINITE) && nat_le (last + config.reset * 1000) moment
 
 -- the count: 1 where none counts so far, and else one more, in 32 bits
-abbrev pub counted : Config → ℕ → ℕ → ℕ → ℕ
-counted config failures last moment = if failures == 0 || is_forgotten config last moment then 1 else min (failures + 1) 0xFFFFFFFF
+abbrev pub failure_count : Config → ℕ → ℕ → ℕ → ℕ
+failure_count config failures last moment = if failures == 0 || is_forgotten config last moment then 1 else min (failures + 1) 0xFFFFFFFF
 
 -- the action of a number, counted from 1, or the last one where there are fewer
-abbrev pub action_at : List Action → ℕ → Option Action
-action_at actions number = slice_get actions (min number (length actions) - 1)
+abbrev pub nth_action : List Action → ℕ → Option Action
+nth_action actions number = slice_get actions (min number (length actions) - 1)
 
-abbrev pub failure_of : Config → ℕ → Failure
-failure_of config failures = record { failures = failures; action = action_at config.actions failures }
+abbrev pub counted_failure : Config → ℕ → Failure
+counted_failure config failures = record { failures = failures; action = nth_action config.actions failures }
 
 abbrev pub on_failure : Config → ℕ → ℕ → ℕ → Failure
-on_failure config failures last moment = failure_of config (counted config failures last moment)
+on_failure config failures last moment = counted_failure config (failure_count config failures last moment)
 
 -- what becomes due by an action of a service
 abbrev pub due_action : ℕ → Action → Option DueKind

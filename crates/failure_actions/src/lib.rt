@@ -3,13 +3,14 @@
 #![tactic(auto)]
 
 ghost use Rattle.std.specs.Prelude.{◌≡◌, ◌↔◌, IsNone};
-ghost use Rattle.failure_actions.specs.Failing.{action_at, counted, due_action, is_forgotten};
+ghost use Rattle.failure_actions.specs.Failing.{nth_action, failure_count, due_action};
+ghost use Rattle.failure_actions.specs.Failing.{is_forgotten};
 ghost use Rattle.failure_actions.specs.Failing.{on_failure};
 
 use scm_model::codes::{INFINITE, SC_ACTION_NONE, SC_ACTION_REBOOT, SC_ACTION_RESTART};
 use scm_model::{Action, Config, DueKind};
 
-/// What a failure comes to.
+/// What a failure results in.
 #[derive(Clone, Copy, Debug, PartialEq, Eq)]
 pub struct Failure {
     /// How many failures count now.
@@ -30,7 +31,7 @@ fn is_forgotten(config: &Config, last: u64, moment: u64) -> bool
 
 /// How many failures count after one more.
 fn counted(config: &Config, failures: u32, last: u64, moment: u64) -> u32
-    ensures { result ≡ counted config.now failures last moment }
+    ensures { result ≡ failure_count config.now failures last moment }
 {
     if failures == 0 || is_forgotten(config, last, moment) {
         1
@@ -41,7 +42,7 @@ fn counted(config: &Config, failures: u32, last: u64, moment: u64) -> u32
 
 /// The action of a number, counted from 1; the last one where there are fewer.
 fn action_at(actions: &[Action], number: u32) -> Option<Action>
-    ensures { result ≡ action_at actions.now number }
+    ensures { result ≡ nth_action actions.now number }
 {
     let place = actions.len().min(number as usize).saturating_sub(1);
     actions.get(place).copied()

@@ -5,13 +5,13 @@ use Rattle.std.specs.Io.KnownBytes.{Consumes}
 use Rattle.std.proofs.KnownBytes.{Consumes-nil, Consumes-trans}
 use Rattle.feed_loop.specs.declared.fed.ReadEnd.{ReadEnd}
 use Rattle.feed_loop.specs.declared.fed.ReadEnd.TheVariants as fed
-use Rattle.feed_loop.specs.Feeding.{AllEaten, Chain, EndsSo, FedOnce, Feeds, bytes_of}
+use Rattle.feed_loop.specs.Feeding.{AllEaten, FeedChain, EndsSo, FedOnce, Feeds, bytes_of}
 
 -- all that was read so far was eaten
 pub record SoFar {D : Type 0} (eats : D → D → List ℕ → Type 0) (a m : D) (left left_now : Option (List ℕ))
     (count count_now : ℕ) : Type 0 where
   pub pieces : List (List ℕ)
-  pub chain : Chain eats a m pieces
+  pub chain : FeedChain eats a m pieces
   pub consumed : Consumes left left_now (bytes_of pieces)
   pub counted : count_now ≡ count + length (bytes_of pieces)
 
@@ -21,8 +21,8 @@ bytes_more (first ∷ pieces) piece = ap (λ bytes. first ++ bytes) (bytes_more 
     ∙ sym (append_assoc first (bytes_of pieces) piece)
 
 module _ {D : Type 0} (eats : D → D → List ℕ → Type 0) where
-  chain_more : (a m b : D) (pieces : List (List ℕ)) (piece : List ℕ) → Chain eats a m pieces → eats m b piece
-      → Chain eats a b (pieces ++ piece ∷ [])
+  chain_more : (a m b : D) (pieces : List (List ℕ)) (piece : List ℕ) → FeedChain eats a m pieces → eats m b piece
+      → FeedChain eats a b (pieces ++ piece ∷ [])
   chain_more a m b [] piece on eaten = (b, subst (λ x. eats x b piece) on eaten, refl)
   chain_more a m b (first ∷ pieces) piece on eaten = (on.0, on.1, chain_more on.0 m b pieces piece on.2 eaten)
 

@@ -11,21 +11,25 @@ pub record At (E P O : Type 0) : Type 0 where
   pub place : P
   pub output : O
 
+-- a feeding that stands at these
+abbrev pub fed_at : {E P O : Type 0} → E → P → O → At E P O
+fed_at eater place output = record { eater = eater; place = place; output = output }
+
 -- the bytes of pieces
 abbrev pub bytes_of : List (List ℕ) → List ℕ
 bytes_of [] = []
 bytes_of (piece ∷ pieces) = piece ++ bytes_of pieces
 
 -- pieces that were eaten, one after another, lead from a to b
-abbrev pub Chain : {D : Type 0} → (D → D → List ℕ → Type 0) → D → D → List (List ℕ) → Type 0
-Chain eats a b [] = b ≡ a
-Chain {D} eats a b (piece ∷ pieces) = (mid : D) × eats a mid piece × Chain eats mid b pieces
+abbrev pub FeedChain : {D : Type 0} → (D → D → List ℕ → Type 0) → D → D → List (List ℕ) → Type 0
+FeedChain eats a b [] = b ≡ a
+FeedChain {D} eats a b (piece ∷ pieces) = (mid : D) × eats a mid piece × FeedChain eats mid b pieces
 
 -- what has no more than so many bytes may be eaten
 abbrev pub MayEat : {D : Type 0} → (D → ℕ → Type 0) → D → (piece : List ℕ) → Type 0
 MayEat ready a piece = (most : ℕ) × (length piece ≤ most) × ready a most
 
--- so many bytes fewer may be eaten behind a piece
+-- after a piece, as many bytes fewer may be eaten as it has
 abbrev pub MayGoOn : {D : Type 0} → (D → ℕ → Type 0) → D → D → (piece : List ℕ) → Type 0
 MayGoOn ready a b piece = (most : ℕ) → ready a (length piece + most) → ready b most
 
@@ -60,7 +64,7 @@ pub record Feeds {D S : Type 0} (eats : D → D → List ℕ → Type 0) (stops 
     (left left_now : Option (List ℕ)) (count count_now : ℕ) (how : ReadEnd S) : Type 0 where
   pub pieces : List (List ℕ)
   pub last : D
-  pub chain : Chain eats a last pieces
+  pub chain : FeedChain eats a last pieces
   pub ends : EndsSo stops last b left left_now count count_now (bytes_of pieces) how
 
 -- ## One read

@@ -1,5 +1,5 @@
 ghost use Rattle.std.specs.Prelude.{◌≡◌, ◌≤◌, ◌<◌, ◌^◌, ◌+◌, ◌-◌, length, IfErr, OnOk};
-ghost use Rattle.feed_loop.specs.Feeding.{Feeds, FedOnce, IsFedFor};
+ghost use Rattle.feed_loop.specs.Feeding.{Feeds, FedOnce, IsFedFor, fed_at};
 
 use super::eater::ByteConsumer;
 use super::fed::ReadEnd;
@@ -23,14 +23,11 @@ fn feed_once<P, O, E: ByteConsumer<P, O>, I: Source>(
     requires nonempty { 0 < length into.old }
     requires short { length into.old ≤ 4096 }
     requires most { count.old + length into.old ≤ 2 ^ 40 }
-    requires ready { E.ready (record { eater = eater.old; place = place.old; output = output.old })
-        (2 ^ 40 - count.old) }
+    requires ready { E.ready (fed_at eater.old place.old output.old) (2 ^ 40 - count.old) }
     ensures most { count.new ≤ 2 ^ 40 }
-    ensures ready { E.ready (record { eater = eater.new; place = place.new; output = output.new })
-        (2 ^ 40 - count.new) }
+    ensures ready { E.ready (fed_at eater.new place.new output.new) (2 ^ 40 - count.new) }
     ensures fed { FedOnce E.eats E.stops
-        (record { eater = eater.old; place = place.old; output = output.old })
-        (record { eater = eater.new; place = place.new; output = output.new })
+        (fed_at eater.old place.old output.old) (fed_at eater.new place.new output.new)
         (I.left input.old) (I.left input.new) count.old count.new result }
     ensures grows { I.faults input.old ≤ I.faults input.new }
     ensures cause { IfErr result (λ how. IsFedFor how (I.faults input.old) (I.faults input.new)) }

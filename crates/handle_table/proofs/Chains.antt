@@ -5,7 +5,7 @@ use Rattle.std.specs.Prelude.{option_and_then, option_map, is_none, IfSome, IfNo
 use Rattle.std.specs.Map.{lookup}
 use Rattle.std.proofs.lemmas.Bool.{eq-eqb, ne_eqb, eqb-true, cases_Bool, cases_eq}
 use Rattle.handle_table.specs.declared.by_caller.Link.{Link}
-use Rattle.handle_table.specs.Linked.{AreLinked, IsChain, caller_of, has, is_first, is_number, is_of, link_at, newer_of, older_of}
+use Rattle.handle_table.specs.Linked.{AreLinked, IsChain, holder_of, owns, is_first, is_number, is_of, link_at, newer_of, older_of}
 use Rattle.handle_table.specs.Linked.{with_newer, with_older}
 
 clash : {a : ℕ} → None ≡ Some a → ⊥
@@ -40,7 +40,7 @@ module _ (caller older newer newest caller' older' newer' newest' : ℕ → Opti
     (owned : (n m : ℕ) → older m ≡ Some n → (x : ℕ) × (caller m ≡ Some x)) (below : (n x : ℕ) → caller n ≡ Some x → n < k)
     (g : Grows caller older newer newest caller' older' newer' newest' k c) where
   newer_one : (n m : ℕ) → older m ≡ Some n → m < k
-  newer_one n m e = let has = owned n m e in below m has.0 has.1
+  newer_one n m e = let by = owned n m e in below m by.0 by.1
 
   last_one : (n : ℕ) → newest c ≡ Some n → n ≢ k
   last_one n e same = omega (arith, same, below n c (was.first c n e).0)
@@ -218,9 +218,9 @@ module _ (caller older newer newest caller' older' newer' newest' : ℕ → Opti
           (s.caller_n n other ∙ first.0, s.newer_n n other (λ before. clash (sym first.1 ∙ was.forth n k before)) ∙ first.1)
 
   shrunk_is_newest : (x n : ℕ) → caller' n ≡ Some x → newer' n ≡ None → newest' x ≡ Some n
-  shrunk_is_newest x n has none =
-      let other = not_k caller' n x s.caller_k has in
-      let had : caller n ≡ Some x = sym (s.caller_n n other) ∙ has in
+  shrunk_is_newest x n was_its none =
+      let other = not_k caller' n x s.caller_k was_its in
+      let had : caller n ≡ Some x = sym (s.caller_n n other) ∙ was_its in
       elim (is_it (older k) n) [
         | inl before ↦
             let last : newer k ≡ None = sym (s.newer_next n other before) ∙ none in
@@ -258,21 +258,21 @@ bounded (e ∷ links) n some =
       | inr other ↦ omega (arith, bounded links n (rw other at some))
     ]
 
-there : (links : Links) (n c : ℕ) → caller_of links n ≡ Some c → is_some (link_at links n) ≡ true
+there : (links : Links) (n c : ℕ) → holder_of links n ≡ Some c → is_some (link_at links n) ≡ true
 there links n c = by (link_at links n)
   where
     by : (o : Option Link) → option_map (λ (link : Link). link.caller) o ≡ Some c → is_some o ≡ true
     by None e = absurd (cc e)
     by (Some link) e = refl
 
-pub its_caller : (links : Links) (c n : ℕ) → has links c n ≡ true → caller_of links n ≡ Some c
+pub its_caller : (links : Links) (c n : ℕ) → owns links c n ≡ true → holder_of links n ≡ Some c
 its_caller links c n = by (link_at links n)
   where
     by : (o : Option Link) → is_of c o ≡ true → option_map (λ (link : Link). link.caller) o ≡ Some c
     by None e = absurd (cc e)
     by (Some link) e = ap Some (eqb-true link.caller c e)
 
-pub has_its : (links : Links) (c n : ℕ) → caller_of links n ≡ Some c → has links c n ≡ true
+pub has_its : (links : Links) (c n : ℕ) → holder_of links n ≡ Some c → owns links c n ≡ true
 has_its links c n = by (link_at links n)
   where
     by : (o : Option Link) → option_map (λ (link : Link). link.caller) o ≡ Some c → is_of c o ≡ true
@@ -281,11 +281,11 @@ has_its links c n = by (link_at links n)
 
 -- a number that has a newer one leads up to the newest
 climb : (links : Links) (newest : List (ℕ × ℕ)) (c : ℕ) → AreLinked links newest → lookup (eqb c) newest ≡ None → (fuel m : ℕ)
-    → bound links ≤ m + fuel → caller_of links m ≡ Some c → ⊥
+    → bound links ≤ m + fuel → holder_of links m ≡ Some c → ⊥
 climb links newest c kept none zero m le its = omega (arith, le, bounded links m (there links m c its))
 climb links newest c kept none (suc fuel) m le its = by (newer_of links m) refl (λ next up. climb links newest c kept none fuel next up)
   where
-    by : (o : Option ℕ) → newer_of links m ≡ o → ((next : ℕ) → bound links ≤ next + fuel → caller_of links next ≡ Some c → ⊥) → ⊥
+    by : (o : Option ℕ) → newer_of links m ≡ o → ((next : ℕ) → bound links ≤ next + fuel → holder_of links next ≡ Some c → ⊥) → ⊥
     by None e rest = clash (sym none ∙ kept.is_newest c m its e)
     by (Some next) e rest =
         let older = kept.back m next e in
@@ -293,20 +293,20 @@ climb links newest c kept none (suc fuel) m le its = by (newer_of links m) refl 
 
 -- who has a number has a newest one
 pub none_has : (links : Links) (newest : List (ℕ × ℕ)) (c : ℕ) → AreLinked links newest → lookup (eqb c) newest ≡ None → (n : ℕ)
-    → has links c n ≡ false
+    → owns links c n ≡ false
 none_has links newest c kept none n =
-    elim (cases_Bool (has links c n)) [
+    elim (cases_Bool (owns links c n)) [
       | inl is ↦ absurd (climb links newest c kept none (bound links) n (omega arith) (its_caller links c n is))
       | inr isnt ↦ isnt
     ]
 
 pub newest_has : (links : Links) (newest : List (ℕ × ℕ)) (c : ℕ) (o : Option ℕ) → AreLinked links newest → o ≡ lookup (eqb c) newest
-    → IfSome o (λ n. has links c n ≡ true)
+    → IfSome o (λ n. owns links c n ≡ true)
 newest_has links newest c None kept e = tt
 newest_has links newest c (Some n) kept e = has_its links c n (kept.first c n (sym e)).0
 
 pub no_newest_has : (links : Links) (newest : List (ℕ × ℕ)) (c : ℕ) (o : Option ℕ) → AreLinked links newest → o ≡ lookup (eqb c) newest
-    → IfNone o ((n : ℕ) → has links c n ≡ false)
+    → IfNone o ((n : ℕ) → owns links c n ≡ false)
 no_newest_has links newest c None kept e = none_has links newest c kept (sym e)
 no_newest_has links newest c (Some n) kept e = tt
 
@@ -369,7 +369,7 @@ some_newer links n m = by (link_at links n)
     by None e = absurd (cc e)
     by (Some link) e = refl
 
-owned_by : (links : Links) (n m : ℕ) → older_of links m ≡ Some n → (x : ℕ) × (caller_of links m ≡ Some x)
+owned_by : (links : Links) (n m : ℕ) → older_of links m ≡ Some n → (x : ℕ) × (holder_of links m ≡ Some x)
 owned_by links n m = by (link_at links m)
   where
     by : (o : Option Link) → option_and_then (λ (link : Link). link.older) o ≡ Some n → (x : ℕ)
@@ -383,7 +383,7 @@ abbrev newest_in : List (ℕ × ℕ) → ℕ → Option ℕ
 newest_in newest c = lookup (eqb c) newest
 
 abbrev IsAbove : Links → ℕ → Type 0
-IsAbove links k = (x n : ℕ) → has links x n ≡ true → n < k
+IsAbove links k = (x n : ℕ) → owns links x n ≡ true → n < k
 
 module _ (links mid new : Links) (newest newest' : List (ℕ × ℕ)) (c k : ℕ) (last : Option ℕ) (kept : AreLinked links newest)
     (above : IsAbove links k) (is : last ≡ newest_in newest c)
@@ -397,7 +397,7 @@ module _ (links mid new : Links) (newest newest' : List (ℕ × ℕ)) (c k : ℕ
       (ne_eqb k n (λ same. other (sym same))) ∙ set n
 
   added_grows : ((x : ℕ) → newest_in newest' x ≡ cond (eqb c x) (Some k) (newest_in newest x))
-      → Grows (caller_of links) (older_of links) (newer_of links) (newest_in newest) (caller_of new) (older_of new) (newer_of new)
+      → Grows (holder_of links) (older_of links) (newer_of links) (newest_in newest) (holder_of new) (older_of new) (newer_of new)
       (newest_in newest') k c
   added_grows renewed = record {
     caller_k = ap (option_map (λ (link : Link). link.caller)) here;
@@ -422,23 +422,23 @@ module _ (links mid new : Links) (newest newest' : List (ℕ × ℕ)) (c k : ℕ
 
   pub added : ((x : ℕ) → newest_in newest' x ≡ cond (eqb c x) (Some k) (newest_in newest x)) → AreLinked new newest'
   added renewed =
-      grown (caller_of links) (older_of links) (newer_of links) (newest_in newest) (caller_of new) (older_of new) (newer_of new)
+      grown (holder_of links) (older_of links) (newer_of links) (newest_in newest) (holder_of new) (older_of new) (newer_of new)
       (newest_in newest') k c kept (owned_by links)
       (λ n x e. above x n (has_its links x n e)) (added_grows renewed)
 
-  pub has_added : (x n : ℕ) → has new x n ≡ (eqb c x && eqb k n || has links x n)
+  pub has_added : (x n : ℕ) → owns new x n ≡ (eqb c x && eqb k n || owns links x n)
   has_added x n =
       elim (cases_eq n k) [
         | inl same ↦
             rw (same, here, eq-eqb k k refl, gone) (elim (eqb c x) as (λ b. b ≡ (b && true || false)) [ true ↦ refl | false ↦ refl ])
         | inr other ↦
             rw (apart n other, ne_eqb k n (λ same. other (sym same)))
-            (unset (is_number n last) (link_at links n) ∙ elim (eqb c x) as (λ b. has links x n ≡ (b && false || has links x n))
+            (unset (is_number n last) (link_at links n) ∙ elim (eqb c x) as (λ b. owns links x n ≡ (b && false || owns links x n))
             [ true ↦ refl | false ↦ refl ])
       ]
     where
-      gone : has links x k ≡ false
-      gone = elim (cases_Bool (has links x k)) [ inl there ↦ absurd (omega (arith, above x k there)) | inr isnt ↦ isnt ]
+      gone : owns links x k ≡ false
+      gone = elim (cases_Bool (owns links x k)) [ inl there ↦ absurd (omega (arith, above x k there)) | inr isnt ↦ isnt ]
 
       unset : (b : Bool) (o : Option Link) → is_of x (set_to b (with_newer (Some k)) o) ≡ is_of x o
       unset true None = refl
@@ -450,7 +450,7 @@ module _ (links one two new : Links) (newest : List (ℕ × ℕ)) (k : ℕ) (lin
     (cut : (n : ℕ) → link_at one n ≡ cond (eqb k n) None (link_at links n))
     (joined : (n : ℕ) → link_at two n ≡ set_to (is_number n link.older) (with_newer link.newer) (link_at one n))
     (closed : (n : ℕ) → link_at new n ≡ set_to (is_number n link.newer) (with_older link.older) (link_at two n)) where
-  its_link : caller_of links k ≡ Some link.caller
+  its_link : holder_of links k ≡ Some link.caller
   its_link = ap (option_map (λ (l : Link). l.caller)) found
 
   its_older : older_of links k ≡ link.older
@@ -469,7 +469,7 @@ module _ (links one two new : Links) (newest : List (ℕ × ℕ)) (k : ℕ) (lin
   stays : (n : ℕ) → n ≢ k → link_at one n ≡ link_at links n
   stays n other = cut n ∙ ap (λ (b : Bool). cond b None (link_at links n)) (ne_eqb k n (λ same. other (sym same)))
 
-  same_caller : (n : ℕ) → n ≢ k → caller_of new n ≡ caller_of links n
+  same_caller : (n : ℕ) → n ≢ k → holder_of new n ≡ holder_of links n
   same_caller n other =
       ap (option_map (λ (l : Link). l.caller)) (closed n) ∙ same_of (λ (l : Link). l.caller) (with_older link.older) (λ l. refl)
       (is_number n link.newer) (link_at two n)
@@ -505,7 +505,7 @@ module _ (links one two new : Links) (newest : List (ℕ × ℕ)) (k : ℕ) (lin
       is_none_of None e = refl
       is_none_of (Some n) e = absurd (cc e)
 
-  pub has_removed : (x n : ℕ) → has new x n ≡ (not (eqb k n) && has links x n)
+  pub has_removed : (x n : ℕ) → owns new x n ≡ (not (eqb k n) && owns links x n)
   has_removed x n =
       elim (cases_eq n k) [
         | inl same ↦ rw (same, gone, eq-eqb k k refl) refl
@@ -527,7 +527,7 @@ module _ (links one two new : Links) (newest : List (ℕ × ℕ)) (k : ℕ) (lin
 
   module _ (newest' : List (ℕ × ℕ)) (renewed : (x : ℕ) → newest_in newest' x ≡ cond (is_first link && eqb link.caller x) link.older
       (newest_in newest x)) where
-    removed_shrinks : Shrinks (caller_of links) (older_of links) (newer_of links) (newest_in newest) (caller_of new) (older_of new)
+    removed_shrinks : Shrinks (holder_of links) (older_of links) (newer_of links) (newest_in newest) (holder_of new) (older_of new)
         (newer_of new) (newest_in newest') k link.caller
     removed_shrinks = record {
       caller_k = ap (option_map (λ (l : Link). l.caller)) gone;
@@ -568,7 +568,7 @@ module _ (links one two new : Links) (newest : List (ℕ × ℕ)) (k : ℕ) (lin
 
     pub removed : AreLinked new newest'
     removed =
-        shrunk (caller_of links) (older_of links) (newer_of links) (newest_in newest) (caller_of new) (older_of new) (newer_of new)
+        shrunk (holder_of links) (older_of links) (newer_of links) (newest_in newest) (holder_of new) (older_of new) (newer_of new)
         (newest_in newest') k link.caller kept its_link removed_shrinks
 
 -- what holds where there is a value

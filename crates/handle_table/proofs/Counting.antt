@@ -5,7 +5,7 @@ use Rattle.std.specs.List.{AllByRecursion, list_any}
 use Rattle.std.proofs.lemmas.Bool.{eq-eqb, ne_eqb, eqb-true, cases_Bool}
 use Rattle.scm_model.specs.declared.flat.HandleRow.{HandleRow}
 use Rattle.row_slab.specs.Rowed.{AreRisingBy}
-use Rattle.handle_table.specs.Handled.{has_number, is_handle}
+use Rattle.handle_table.specs.Handled.{matches, is_handle}
 
 abbrev pub number_of : HandleRow → ℕ
 number_of row = row.number
@@ -38,27 +38,27 @@ some_counted p (row ∷ rows) =
     ]
 
 stays_all : (n : ℕ) (rows : List HandleRow) → AllByRecursion (λ (row : HandleRow). n < row.number) rows
-    → filter (λ (row : HandleRow). not (has_number n row)) rows ≡ rows
+    → filter (λ (row : HandleRow). not (matches n row)) rows ≡ rows
 stays_all n [] all = refl
 stays_all n (row ∷ rows) all = rw (ne_eqb row.number n (omega (arith, all.0))) (ap (λ rest. row ∷ rest) (stays_all n rows all.1))
 
-later : (n : ℕ) (row : HandleRow) (rows : List HandleRow) → AreRisingBy number_of (row ∷ rows) → has_number n row ≡ true
+later : (n : ℕ) (row : HandleRow) (rows : List HandleRow) → AreRisingBy number_of (row ∷ rows) → matches n row ≡ true
     → AllByRecursion (λ (other : HandleRow). n < other.number) rows
 later n row rows rising is = subst (λ m. AllByRecursion (λ (other : HandleRow). m < other.number) rows) (eqb-true row.number n is) rising.0
 
-same_row : (n : ℕ) (row gone : HandleRow) (rows : List HandleRow) → has_number n row ≡ true → find (has_number n) (row ∷ rows) ≡ Some gone
+same_row : (n : ℕ) (row gone : HandleRow) (rows : List HandleRow) → matches n row ≡ true → find (matches n) (row ∷ rows) ≡ Some gone
     → row ≡ gone
-same_row n row gone rows is found = cc (sym (ap (λ b. cond b (Some row) (find (has_number n) rows)) is) ∙ found)
+same_row n row gone rows is found = cc (sym (ap (λ b. cond b (Some row) (find (matches n) rows)) is) ∙ found)
 
-next_row : (n : ℕ) (row gone : HandleRow) (rows : List HandleRow) → has_number n row ≡ false → find (has_number n) (row ∷ rows) ≡ Some gone
-    → find (has_number n) rows ≡ Some gone
-next_row n row gone rows other found = sym (ap (λ b. cond b (Some row) (find (has_number n) rows)) other) ∙ found
+next_row : (n : ℕ) (row gone : HandleRow) (rows : List HandleRow) → matches n row ≡ false → find (matches n) (row ∷ rows) ≡ Some gone
+    → find (matches n) rows ≡ Some gone
+next_row n row gone rows other found = sym (ap (λ b. cond b (Some row) (find (matches n) rows)) other) ∙ found
 
-pub one_at_least : (p : HandleRow → Bool) (rows : List HandleRow) (gone : HandleRow) (n : ℕ) → find (has_number n) rows ≡ Some gone
+pub one_at_least : (p : HandleRow → Bool) (rows : List HandleRow) (gone : HandleRow) (n : ℕ) → find (matches n) rows ≡ Some gone
     → p gone ≡ true → 1 ≤ length (filter p rows)
 one_at_least p [] gone n found passes = absurd (cc found)
 one_at_least p (row ∷ rows) gone n found passes =
-    elim (cases_Bool (has_number n row)) [
+    elim (cases_Bool (matches n row)) [
       | inl is ↦ rw (same_row n row gone rows is found, passes) (omega arith)
       | inr other ↦
           let rest = one_at_least p rows gone n (next_row n row gone rows other found) passes in
@@ -66,12 +66,12 @@ one_at_least p (row ∷ rows) gone n found passes =
     ]
 
 pub lowered : (p : HandleRow → Bool) (rows : List HandleRow) (gone : HandleRow) (n : ℕ) → AreRisingBy number_of rows
-    → find (has_number n) rows ≡ Some gone
-    → length (filter p (filter (λ (row : HandleRow). not (has_number n row)) rows)) ≡ cond (p gone) (length (filter p rows) - 1)
+    → find (matches n) rows ≡ Some gone
+    → length (filter p (filter (λ (row : HandleRow). not (matches n row)) rows)) ≡ cond (p gone) (length (filter p rows) - 1)
     (length (filter p rows))
 lowered p [] gone n rising found = absurd (cc found)
 lowered p (row ∷ rows) gone n rising found =
-    elim (cases_Bool (has_number n row)) [
+    elim (cases_Bool (matches n row)) [
       | inl is ↦
           rw (is, stays_all n rows (later n row rows rising is), ← same_row n row gone rows is found)
           (elim (p row) as (λ b. length (filter p rows) ≡ cond b (length (cond b (row ∷ filter p rows) (filter p rows)) - 1)
@@ -79,8 +79,8 @@ lowered p (row ∷ rows) gone n rising found =
       | inr other ↦
           let next = next_row n row gone rows other found in
           let step = lowered p rows gone n rising.1 next in
-          rw other (elim (p row) as (λ b. length (cond b (row ∷ filter p (filter (λ (r : HandleRow). not (has_number n r)) rows))
-          (filter p (filter (λ (r : HandleRow). not (has_number n r)) rows)))
+          rw other (elim (p row) as (λ b. length (cond b (row ∷ filter p (filter (λ (r : HandleRow). not (matches n r)) rows))
+          (filter p (filter (λ (r : HandleRow). not (matches n r)) rows)))
           ≡ cond (p gone) (length (cond b (row ∷ filter p rows) (filter p rows)) - 1)
           (length (cond b (row ∷ filter p rows) (filter p rows)))) [
             | true ↦ ap suc step ∙ by (p gone) (one_at_least p rows gone n next)
@@ -98,7 +98,8 @@ lowered p (row ∷ rows) gone n rising found =
 none_passes : (p : HandleRow → Bool) (rows : List HandleRow) → find p rows ≡ None → AllByRecursion (λ (row : HandleRow). p row ≡ false) rows
 none_passes p [] none = tt
 none_passes p (row ∷ rows) none =
-    elim (p row) as (λ b. p row ≡ b → cond b (Some row) (find p rows) ≡ None → AllByRecursion (λ (r : HandleRow). p r ≡ false) (row ∷ rows)) [
+    elim (p row) as (λ b. p row ≡ b → cond b (Some row) (find p rows) ≡ None
+    → AllByRecursion (λ (r : HandleRow). p r ≡ false) (row ∷ rows)) [
       | true ↦ λ e h. absurd (cc h)
       | false ↦ λ e h. (e, none_passes p rows h)
     ] refl none
@@ -118,10 +119,10 @@ both_true : (a b : Bool) → b ≡ true → (a && b) ≡ a
 both_true true b e = e
 both_true false b e = refl
 
-pub none_of : (caller n : ℕ) (rows : List HandleRow) → find (has_number n) rows ≡ None → find (is_handle caller n) rows ≡ None
-none_of caller n rows none = by rows (none_passes (has_number n) rows none)
+pub none_of : (caller n : ℕ) (rows : List HandleRow) → find (matches n) rows ≡ None → find (is_handle caller n) rows ≡ None
+none_of caller n rows none = by rows (none_passes (matches n) rows none)
   where
-    by : (rs : List HandleRow) → AllByRecursion (λ (row : HandleRow). has_number n row ≡ false) rs → find (is_handle caller n) rs ≡ None
+    by : (rs : List HandleRow) → AllByRecursion (λ (row : HandleRow). matches n row ≡ false) rs → find (is_handle caller n) rs ≡ None
     by [] all = refl
     by (row ∷ rs) all = rw (both_false (eqb row.caller caller) (eqb row.number n) all.0) (by rs all.1)
 
@@ -131,11 +132,11 @@ none_later caller n [] all = refl
 none_later caller n (row ∷ rows) all = rw (both_false (eqb row.caller caller) (eqb row.number n)
     (ne_eqb row.number n (omega (arith, all.0)))) (none_later caller n rows all.1)
 
-pub found_of : (caller n : ℕ) (rows : List HandleRow) (gone : HandleRow) → AreRisingBy number_of rows → find (has_number n) rows ≡ Some gone
+pub found_of : (caller n : ℕ) (rows : List HandleRow) (gone : HandleRow) → AreRisingBy number_of rows → find (matches n) rows ≡ Some gone
     → find (is_handle caller n) rows ≡ cond (eqb gone.caller caller) (Some gone) None
 found_of caller n [] gone rising found = absurd (cc found)
 found_of caller n (row ∷ rows) gone rising found =
-    elim (cases_Bool (has_number n row)) [
+    elim (cases_Bool (matches n row)) [
       | inl is ↦ rw (
         both_true (eqb row.caller caller) (eqb row.number n) is,
         none_later caller n rows (later n row rows rising is),
@@ -153,11 +154,11 @@ same_kept caller n (row ∷ rows) all = rw (both_false (eqb row.caller caller) (
 
 -- where the caller has the handle with the number, it is the one that leaves
 pub leaves_of : (caller n : ℕ) (rows : List HandleRow) (gone : HandleRow) → AreRisingBy number_of rows
-    → find (has_number n) rows ≡ Some gone → eqb gone.caller caller ≡ true
-    → filter (λ (row : HandleRow). not (is_handle caller n row)) rows ≡ filter (λ (row : HandleRow). not (has_number n row)) rows
+    → find (matches n) rows ≡ Some gone → eqb gone.caller caller ≡ true
+    → filter (λ (row : HandleRow). not (is_handle caller n row)) rows ≡ filter (λ (row : HandleRow). not (matches n row)) rows
 leaves_of caller n [] gone rising found his = refl
 leaves_of caller n (row ∷ rows) gone rising found his =
-    elim (cases_Bool (has_number n row)) [
+    elim (cases_Bool (matches n row)) [
       | inl is ↦
           let mine : eqb row.caller caller ≡ true = ap (λ (r : HandleRow). eqb r.caller caller) (same_row n row gone rows is found) ∙ his in
           rw (mine, is, same_kept caller n rows (later n row rows rising is), stays_all n rows (later n row rows rising is)) refl
@@ -185,13 +186,13 @@ below_pushed next (row ∷ rows) new all is = (omega (arith, all.0), below_pushe
 
 -- where the caller has the handle, it is the one with the number
 pub his_row : (caller n : ℕ) (rows : List HandleRow) → AreRisingBy number_of rows → is_some (find (is_handle caller n) rows) ≡ true
-    → (find (has_number n) rows ≡ find (is_handle caller n) rows) × (filter (λ (row : HandleRow). not (has_number n row)) rows ≡ filter
+    → (find (matches n) rows ≡ find (is_handle caller n) rows) × (filter (λ (row : HandleRow). not (matches n row)) rows ≡ filter
     (λ (row : HandleRow). not (is_handle caller n row)) rows)
-his_row caller n rows rising some = by (find (has_number n) rows) refl
+his_row caller n rows rising some = by (find (matches n) rows) refl
   where
-    by : (o : Option HandleRow) → find (has_number n) rows ≡ o
-        → (find (has_number n) rows ≡ find (is_handle caller n) rows) ×
-        (filter (λ (row : HandleRow). not (has_number n row)) rows ≡ filter (λ (row : HandleRow). not (is_handle caller n row)) rows)
+    by : (o : Option HandleRow) → find (matches n) rows ≡ o
+        → (find (matches n) rows ≡ find (is_handle caller n) rows) ×
+        (filter (λ (row : HandleRow). not (matches n row)) rows ≡ filter (λ (row : HandleRow). not (is_handle caller n row)) rows)
     by None e = absurd (cc (sym some ∙ ap is_some (none_of caller n rows e)))
     by (Some gone) e =
         let his = found_of caller n rows gone rising e in
@@ -207,32 +208,32 @@ is_none_of (Some row) e = absurd (cc e)
 -- ## All handles of a caller
 
 pub others_stay : (p : HandleRow → Bool) (rows : List HandleRow) (gone : HandleRow) (n : ℕ) → AreRisingBy number_of rows
-    → find (has_number n) rows ≡ Some gone → p gone ≡ true
-    → filter (λ (row : HandleRow). not (p row)) (filter (λ (row : HandleRow). not (has_number n row)) rows) ≡ filter
+    → find (matches n) rows ≡ Some gone → p gone ≡ true
+    → filter (λ (row : HandleRow). not (p row)) (filter (λ (row : HandleRow). not (matches n row)) rows) ≡ filter
     (λ (row : HandleRow). not (p row)) rows
 others_stay p [] gone n rising found passes = refl
 others_stay p (row ∷ rows) gone n rising found passes =
-    elim (cases_Bool (has_number n row)) [
+    elim (cases_Bool (matches n row)) [
       | inl is ↦
           let mine : p row ≡ true = ap p (same_row n row gone rows is found) ∙ passes in
           rw (is, stays_all n rows (later n row rows rising is), mine) refl
       | inr other ↦
           let step = others_stay p rows gone n rising.1 (next_row n row gone rows other found) passes in
           rw other (elim (p row) as (λ b. cond (not b) (row ∷ filter (λ (r : HandleRow). not (p r))
-          (filter (λ (r : HandleRow). not (has_number n r)) rows)) (filter (λ (r : HandleRow). not (p r))
-          (filter (λ (r : HandleRow). not (has_number n r)) rows))
+          (filter (λ (r : HandleRow). not (matches n r)) rows)) (filter (λ (r : HandleRow). not (p r))
+          (filter (λ (r : HandleRow). not (matches n r)) rows))
           ≡ cond (not b) (row ∷ filter (λ (r : HandleRow). not (p r)) rows) (filter (λ (r : HandleRow). not (p r)) rows)) [
             | true ↦ step
             | false ↦ ap (λ rest. row ∷ rest) step
           ])
     ]
 
-pub fewer : (rows : List HandleRow) (gone : HandleRow) (n : ℕ) → AreRisingBy number_of rows → find (has_number n) rows ≡ Some gone
-    → length (filter (λ (row : HandleRow). not (has_number n row)) rows) < length rows
+pub fewer : (rows : List HandleRow) (gone : HandleRow) (n : ℕ) → AreRisingBy number_of rows → find (matches n) rows ≡ Some gone
+    → length (filter (λ (row : HandleRow). not (matches n row)) rows) < length rows
 fewer [] gone n rising found = absurd (cc found)
 fewer (row ∷ rows) gone n rising found =
-    elim (cases_Bool (has_number n row)) [
-      | inl is ↦ rw is (omega (arith, few (λ (r : HandleRow). not (has_number n r)) rows))
+    elim (cases_Bool (matches n row)) [
+      | inl is ↦ rw is (omega (arith, few (λ (r : HandleRow). not (matches n r)) rows))
       | inr other ↦ rw other (omega (arith, fewer rows gone n rising.1 (next_row n row gone rows other found)))
     ]
 
@@ -264,10 +265,10 @@ its_number caller m row is = eqb-true row.number m (right (eqb row.caller caller
 
 -- with the handle with a number gone, the others are there still
 pub one_gone : (n : ℕ) (rows : List HandleRow) (caller m : ℕ) → list_any (is_handle caller m)
-    (filter (λ (row : HandleRow). not (has_number n row)) rows) ≡ (not (eqb n m) && list_any (is_handle caller m) rows)
+    (filter (λ (row : HandleRow). not (matches n row)) rows) ≡ (not (eqb n m) && list_any (is_handle caller m) rows)
 one_gone n [] caller m = elim (eqb n m) as (λ b. false ≡ (not b && false)) [ true ↦ refl | false ↦ refl ]
 one_gone n (row ∷ rows) caller m =
-    elim (cases_Bool (has_number n row)) [
+    elim (cases_Bool (matches n row)) [
       | inl is ↦
           rw is (one_gone n rows caller m ∙ elim (cases_Bool (eqb n m)) [
             | inl same ↦ rw same refl
@@ -300,10 +301,10 @@ any_below caller n next (row ∷ rows) all some =
 
 -- the row of a caller's number
 pub held_row : (caller n : ℕ) (rows : List HandleRow) → AreRisingBy number_of rows → list_any (is_handle caller n) rows ≡ true
-    → (row : HandleRow) × (find (has_number n) rows ≡ Some row) × (eqb row.caller caller ≡ true)
+    → (row : HandleRow) × (find (matches n) rows ≡ Some row) × (eqb row.caller caller ≡ true)
 held_row caller n [] rising some = absurd (cc some)
 held_row caller n (row ∷ rows) rising some =
-    elim (cases_Bool (has_number n row)) [
+    elim (cases_Bool (matches n row)) [
       | inl is ↦ (
         row,
         rw is refl,
@@ -316,7 +317,7 @@ held_row caller n (row ∷ rows) rising some =
       | inr other ↦
           let rest = held_row caller n rows rising.1 (sym (ap (λ b. b || list_any (is_handle caller n) rows)
           (both_false (eqb row.caller caller) (eqb row.number n) other)) ∙ some) in
-          (rest.0, (ap (λ b. cond b (Some row) (find (has_number n) rows)) other ∙ rest.1), rest.2)
+          (rest.0, (ap (λ b. cond b (Some row) (find (matches n) rows)) other ∙ rest.1), rest.2)
     ]
 
 -- who has no number has no handle

@@ -8,8 +8,8 @@ use Rattle.std.proofs.lemmas.Bool.{eq-eqb, ne_eqb, eqb-true, eqb-false, leb-true
 use Rattle.std.proofs.lemmas.Map.Keys.{IsDistinct-head, IsDistinct-tail}
 use Rattle.scm_model.specs.declared.flat.HandleRow.{HandleRow}
 use Rattle.row_slab.specs.Rowed.{AreRisingBy}
-use Rattle.handle_table.specs.Handled.{has_number}
-use Rattle.handle_table.specs.Numbered.{AreNumbered, put_in, by_number}
+use Rattle.handle_table.specs.Handled.{matches}
+use Rattle.handle_table.specs.Numbered.{AreNumbered, put_row, ordered}
 
 abbrev number_of : HandleRow → ℕ
 number_of row = row.number
@@ -19,13 +19,13 @@ Entries = List (ℕ × HandleRow)
 
 -- ## A handle is found
 
-found_put : (n : ℕ) (row : HandleRow) (rows : List HandleRow) → find (has_number n) (put_in row rows) ≡ cond (eqb row.number n) (Some row)
-    (find (has_number n) rows)
+found_put : (n : ℕ) (row : HandleRow) (rows : List HandleRow) → find (matches n) (put_row row rows) ≡ cond (eqb row.number n) (Some row)
+    (find (matches n) rows)
 found_put n row [] = refl
 found_put n row (other ∷ rows) =
     elim (nat_le row.number other.number) as (λ b. nat_le row.number other.number ≡ b
-    → find (has_number n) (cond b (row ∷ other ∷ rows) (other ∷ put_in row rows)) ≡ cond (eqb row.number n) (Some row)
-    (find (has_number n) (other ∷ rows))) [
+    → find (matches n) (cond b (row ∷ other ∷ rows) (other ∷ put_row row rows)) ≡ cond (eqb row.number n) (Some row)
+    (find (matches n) (other ∷ rows))) [
       | true ↦ λ e. refl
       | false ↦ λ e. elim (cases_Bool (eqb other.number n)) [
         | inl is ↦ rw (
@@ -68,19 +68,19 @@ turned a b =
     ]
 
 -- the handle with a number is the one that stands under it
-pub found_is : (es : Entries) (n : ℕ) → AreNumbered es → find (has_number n) (by_number es) ≡ lookup (eqb n) es
+pub found_is : (es : Entries) (n : ℕ) → AreNumbered es → find (matches n) (ordered es) ≡ lookup (eqb n) es
 found_is [] n kept = refl
 found_is (e ∷ es) n kept =
-    found_put n e.1 (by_number es)
+    found_put n e.1 (ordered es)
     ∙ rw (own_first e es kept, turned e.0 n, found_is es n (rest_numbered e es kept)) refl
 
 -- ## In order
 
 all_put : (P : HandleRow → Type 0) (row : HandleRow) (rows : List HandleRow) → P row → AllByRecursion P rows
-    → AllByRecursion P (put_in row rows)
+    → AllByRecursion P (put_row row rows)
 all_put P row [] one all = (one, tt)
 all_put P row (other ∷ rows) one all =
-    elim (nat_le row.number other.number) as (λ b. AllByRecursion P (cond b (row ∷ other ∷ rows) (other ∷ put_in row rows))) [
+    elim (nat_le row.number other.number) as (λ b. AllByRecursion P (cond b (row ∷ other ∷ rows) (other ∷ put_row row rows))) [
       | true ↦ (one, all)
       | false ↦ (all.0, all_put P row rows one all.1)
     ]
@@ -90,21 +90,22 @@ all_above : (n m : ℕ) (rows : List HandleRow) → n < m → AllByRecursion (λ
 all_above n m [] less all = tt
 all_above n m (row ∷ rows) less all = (omega (arith, less, all.0), all_above n m rows less all.1)
 
-not_first : (n : ℕ) (row : HandleRow) (rows : List HandleRow) → find (has_number n) (row ∷ rows) ≡ None → (eqb row.number n ≡ false)
-    × (find (has_number n) rows ≡ None)
+not_first : (n : ℕ) (row : HandleRow) (rows : List HandleRow) → find (matches n) (row ∷ rows) ≡ None → (eqb row.number n ≡ false)
+    × (find (matches n) rows ≡ None)
 not_first n row rows none =
-    elim (eqb row.number n) as (λ b. cond b (Some row) (find (has_number n) rows) ≡ None → (b ≡ false) × (find (has_number n) rows ≡ None)) [
+    elim (eqb row.number n) as (λ b. cond b (Some row) (find (matches n) rows) ≡ None
+    → (b ≡ false) × (find (matches n) rows ≡ None)) [
       | true ↦ λ h. absurd (cc h)
       | false ↦ λ h. (refl, h)
     ] none
 
-rising_put : (row : HandleRow) (rows : List HandleRow) → AreRisingBy number_of rows → find (has_number row.number) rows ≡ None
-    → AreRisingBy number_of (put_in row rows)
+rising_put : (row : HandleRow) (rows : List HandleRow) → AreRisingBy number_of rows → find (matches row.number) rows ≡ None
+    → AreRisingBy number_of (put_row row rows)
 rising_put row [] rising none = (tt, tt)
 rising_put row (other ∷ rows) rising none =
     let apart = not_first row.number other rows none in
     elim (nat_le row.number other.number) as (λ b. nat_le row.number other.number ≡ b
-    → AreRisingBy number_of (cond b (row ∷ other ∷ rows) (other ∷ put_in row rows))) [
+    → AreRisingBy number_of (cond b (row ∷ other ∷ rows) (other ∷ put_row row rows))) [
       | true ↦ λ e.
           let less : row.number < other.number = omega (
             arith,
@@ -118,43 +119,44 @@ rising_put row (other ∷ rows) rising none =
       )
     ] refl
 
-pub rising_is : (es : Entries) → AreNumbered es → AreRisingBy number_of (by_number es)
+pub rising_is : (es : Entries) → AreNumbered es → AreRisingBy number_of (ordered es)
 rising_is [] kept = tt
 rising_is (e ∷ es) kept =
     let rest = rest_numbered e es kept in
-    rising_put e.1 (by_number es) (rising_is es rest)
-    (ap (λ (k : ℕ). find (has_number k) (by_number es)) (own_first e es kept) ∙ found_is es e.0 rest ∙ gone_below e es kept)
+    rising_put e.1 (ordered es) (rising_is es rest)
+    (ap (λ (k : ℕ). find (matches k) (ordered es)) (own_first e es kept) ∙ found_is es e.0 rest ∙ gone_below e es kept)
 
-put_one : (row : HandleRow) (rows : List HandleRow) → length (put_in row rows) ≡ suc (length rows)
+put_one : (row : HandleRow) (rows : List HandleRow) → length (put_row row rows) ≡ suc (length rows)
 put_one row [] = refl
 put_one row (other ∷ rows) =
-    elim (nat_le row.number other.number) as (λ b. length (cond b (row ∷ other ∷ rows) (other ∷ put_in row rows)) ≡ suc (suc (length rows))) [
+    elim (nat_le row.number other.number) as (λ b. length (cond b (row ∷ other ∷ rows) (other ∷ put_row row rows))
+    ≡ suc (suc (length rows))) [
       | true ↦ refl
       | false ↦ ap suc (put_one row rows)
     ]
 
-pub as_many : (es : Entries) → length (by_number es) ≡ length es
+pub as_many : (es : Entries) → length (ordered es) ≡ length es
 as_many [] = refl
-as_many (e ∷ es) = put_one e.1 (by_number es) ∙ ap suc (as_many es)
+as_many (e ∷ es) = put_one e.1 (ordered es) ∙ ap suc (as_many es)
 
 -- ## Handles in order are told by what is found among them
 
-none_below : (n : ℕ) (rows : List HandleRow) → AllByRecursion (λ (row : HandleRow). n < row.number) rows → find (has_number n) rows ≡ None
+none_below : (n : ℕ) (rows : List HandleRow) → AllByRecursion (λ (row : HandleRow). n < row.number) rows → find (matches n) rows ≡ None
 none_below n [] all = refl
 none_below n (row ∷ rows) all = rw (ne_eqb row.number n (omega (arith, all.0))) (none_below n rows all.1)
 
-found_first : (row : HandleRow) (rows : List HandleRow) → find (has_number row.number) (row ∷ rows) ≡ Some row
+found_first : (row : HandleRow) (rows : List HandleRow) → find (matches row.number) (row ∷ rows) ≡ Some row
 found_first row rows = rw (eq-eqb row.number row.number refl) refl
 
 same_rows : (xs ys : List HandleRow) → AreRisingBy number_of xs → AreRisingBy number_of ys
-    → ((n : ℕ) → find (has_number n) xs ≡ find (has_number n) ys) → xs ≡ ys
+    → ((n : ℕ) → find (matches n) xs ≡ find (matches n) ys) → xs ≡ ys
 same_rows [] [] ra rb same = refl
 same_rows [] (b ∷ ys) ra rb same = absurd (cc (same b.number ∙ found_first b ys))
 same_rows (a ∷ xs) [] ra rb same = absurd (cc (sym (same a.number) ∙ found_first a xs))
 same_rows (a ∷ xs) (b ∷ ys) ra rb same =
     elim (cases_order a.number b.number) [
       | inl e ↦
-          let first : a ≡ b = cc (sym (found_first a xs) ∙ same a.number ∙ ap (λ (k : ℕ). find (has_number k) (b ∷ ys)) e
+          let first : a ≡ b = cc (sym (found_first a xs) ∙ same a.number ∙ ap (λ (k : ℕ). find (matches k) (b ∷ ys)) e
           ∙ found_first b ys) in
           rw (same_rows xs ys ra.1 rb.1 (λ n. elim (cases_Bool (eqb a.number n)) [
             | inl is ↦
@@ -162,8 +164,8 @@ same_rows (a ∷ xs) (b ∷ ys) ra rb same =
                 ∙ sym (none_below n ys (subst (λ (m : ℕ). AllByRecursion (λ (row : HandleRow). m < row.number) ys) (sym e
                 ∙ eqb-true a.number n is) rb.0))
             | inr isnt ↦
-                sym (ap (λ (c : Bool). cond c (Some a) (find (has_number n) xs)) isnt) ∙ same n
-                ∙ ap (λ (c : Bool). cond c (Some b) (find (has_number n) ys)) (ap (λ (row : HandleRow). eqb row.number n) (sym first)
+                sym (ap (λ (c : Bool). cond c (Some a) (find (matches n) xs)) isnt) ∙ same n
+                ∙ ap (λ (c : Bool). cond c (Some b) (find (matches n) ys)) (ap (λ (row : HandleRow). eqb row.number n) (sym first)
                 ∙ isnt)
           ])) (ap (λ (row : HandleRow). row ∷ ys) first)
       | inr (inl less) ↦ absurd (cc (sym (found_first a xs) ∙ same a.number
@@ -175,7 +177,7 @@ same_rows (a ∷ xs) (b ∷ ys) ra rb same =
 -- ## A handle more
 
 found_pushed : (n : ℕ) (row : HandleRow) (rows : List HandleRow) → AllByRecursion (λ (other : HandleRow). other.number < row.number) rows
-    → find (has_number n) (rows ++ row ∷ []) ≡ cond (eqb row.number n) (Some row) (find (has_number n) rows)
+    → find (matches n) (rows ++ row ∷ []) ≡ cond (eqb row.number n) (Some row) (find (matches n) rows)
 found_pushed n row [] below = refl
 found_pushed n row (other ∷ rows) below =
     elim (cases_Bool (eqb other.number n)) [
@@ -212,17 +214,17 @@ pushed_numbered old new row kept once puts = record {
     ]
 
 pub pushed_is : (old new : Entries) (row : HandleRow) → AreNumbered old → AreNumbered new → Puts old new row
-    → AllByRecursion (λ (other : HandleRow). other.number < row.number) (by_number old)
-    → by_number new ≡ by_number old ++ row ∷ []
+    → AllByRecursion (λ (other : HandleRow). other.number < row.number) (ordered old)
+    → ordered new ≡ ordered old ++ row ∷ []
 pushed_is old new row was now puts below =
-    same_rows (by_number new) (by_number old ++ row ∷ []) (rising_is new now) (rising_pushed row (by_number old) below (rising_is old was))
+    same_rows (ordered new) (ordered old ++ row ∷ []) (rising_is new now) (rising_pushed row (ordered old) below (rising_is old was))
     (λ n. found_is new n now ∙ puts n ∙ ap (cond (eqb row.number n) (Some row)) (sym (found_is old n was))
-    ∙ sym (found_pushed n row (by_number old) below))
+    ∙ sym (found_pushed n row (ordered old) below))
 
 -- ## A handle less
 
-found_without : (n k : ℕ) (rows : List HandleRow) → find (has_number n) (filter (λ (row : HandleRow). not (has_number k row)) rows) ≡ cond
-    (eqb k n) None (find (has_number n) rows)
+found_without : (n k : ℕ) (rows : List HandleRow) → find (matches n) (filter (λ (row : HandleRow). not (matches k row)) rows) ≡ cond
+    (eqb k n) None (find (matches n) rows)
 found_without n k [] = either (eqb k n) None
   where
     either : (b : Bool) (o : Option HandleRow) → o ≡ cond b o o
@@ -270,8 +272,8 @@ removed_numbered old new k kept once takes = record {
 }
 
 pub removed_is : (old new : Entries) (k : ℕ) → AreNumbered old → AreNumbered new → Takes old new k
-    → by_number new ≡ filter (λ (row : HandleRow). not (has_number k row)) (by_number old)
+    → ordered new ≡ filter (λ (row : HandleRow). not (matches k row)) (ordered old)
 removed_is old new k was now takes =
-    same_rows (by_number new) (filter (λ (row : HandleRow). not (has_number k row)) (by_number old)) (rising_is new now)
-    (rising_without (λ (row : HandleRow). not (has_number k row)) (by_number old) (rising_is old was))
-    (λ n. found_is new n now ∙ takes n ∙ ap (cond (eqb k n) None) (sym (found_is old n was)) ∙ sym (found_without n k (by_number old)))
+    same_rows (ordered new) (filter (λ (row : HandleRow). not (matches k row)) (ordered old)) (rising_is new now)
+    (rising_without (λ (row : HandleRow). not (matches k row)) (ordered old) (rising_is old was))
+    (λ n. found_is new n now ∙ takes n ∙ ap (cond (eqb k n) None) (sym (found_is old n was)) ∙ sym (found_without n k (ordered old)))

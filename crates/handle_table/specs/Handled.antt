@@ -9,11 +9,11 @@ pub record Handled : Type 0 where
   pub next : ℕ
   pub spare : ℕ
 
-abbrev pub has_number : ℕ → HandleRow → Bool
-has_number number row = row.number == number
+abbrev pub matches : ℕ → HandleRow → Bool
+matches number row = row.number == number
 
-abbrev pub is_callers : ℕ → HandleRow → Bool
-is_callers caller row = row.caller == caller
+abbrev pub is_owned_by : ℕ → HandleRow → Bool
+is_owned_by caller row = row.caller == caller
 
 abbrev pub is_handle : ℕ → ℕ → HandleRow → Bool
 is_handle caller number row = row.caller == caller && row.number == number

@@ -3,8 +3,8 @@ use Rattle.std.specs.Prelude.{ℕ, ◌≡◌, ◌<◌, List, filter, length, min
 use Rattle.std.specs.List.{AllByRecursion, list_any}
 use Rattle.scm_model.specs.declared.flat.HandleRow.{HandleRow}
 use Rattle.handle_table.specs.Counted.{Counted, count}
-use Rattle.handle_table.specs.Handled.{Handled, is_callers, is_handle, is_row_of}
-use Rattle.handle_table.specs.Linked.{has}
+use Rattle.handle_table.specs.Handled.{Handled, is_owned_by, is_handle, is_row_of}
+use Rattle.handle_table.specs.Linked.{owns}
 use Rattle.handle_table.specs.declared.by_caller.Link.{Link}
 use Rattle.handle_table.specs.declared.table.HandleTable.TheInside.{Inside}
 
@@ -12,11 +12,11 @@ abbrev pub CountsServices : Counted → List HandleRow → Type 0
 CountsServices counts rows = (service : ℕ) → count counts service ≡ length (filter (is_row_of service) rows)
 
 abbrev pub CountsCallers : Counted → List HandleRow → Type 0
-CountsCallers counts rows = (caller : ℕ) → count counts caller ≡ length (filter (is_callers caller) rows)
+CountsCallers counts rows = (caller : ℕ) → count counts caller ≡ length (filter (is_owned_by caller) rows)
 
 -- each number is listed under its caller
 abbrev pub Lists : List (ℕ × Link) → List HandleRow → Type 0
-Lists links rows = (caller number : ℕ) → has links caller number ≡ list_any (is_handle caller number) rows
+Lists links rows = (caller number : ℕ) → owns links caller number ≡ list_any (is_handle caller number) rows
 
 pub record IsKept (table : Inside) : Type 0 where
   pub services : CountsServices table.services table.rows.items

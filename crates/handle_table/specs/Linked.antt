@@ -25,12 +25,12 @@ is_of caller None = false
 is_of caller (Some link) = link.caller == caller
 
 -- whether a number is listed under a caller
-abbrev pub has : List (ℕ × Link) → ℕ → ℕ → Bool
-has links caller number = is_of caller (link_at links number)
+abbrev pub owns : List (ℕ × Link) → ℕ → ℕ → Bool
+owns links caller number = is_of caller (link_at links number)
 
 -- which caller has a number, and which of its numbers came before and after it
-abbrev pub caller_of : List (ℕ × Link) → ℕ → Option ℕ
-caller_of links number = option_map (λ (link : Link). link.caller) (link_at links number)
+abbrev pub holder_of : List (ℕ × Link) → ℕ → Option ℕ
+holder_of links number = option_map (λ (link : Link). link.caller) (link_at links number)
 
 abbrev pub older_of : List (ℕ × Link) → ℕ → Option ℕ
 older_of links number = option_and_then (λ (link : Link). link.older) (link_at links number)
@@ -49,4 +49,4 @@ pub record IsChain (caller older newer newest : ℕ → Option ℕ) : Type 0 whe
   pub is_newest : (c n : ℕ) → caller n ≡ Some c → newer n ≡ None → newest c ≡ Some n
 
 abbrev pub AreLinked : List (ℕ × Link) → List (ℕ × ℕ) → Type 0
-AreLinked links newest = IsChain (caller_of links) (older_of links) (newer_of links) (λ (c : ℕ). lookup (nat_eq c) newest)
+AreLinked links newest = IsChain (holder_of links) (older_of links) (newer_of links) (λ (c : ℕ). lookup (nat_eq c) newest)

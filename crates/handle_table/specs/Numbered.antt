@@ -10,11 +10,11 @@ pub record AreNumbered (entries : List (ℕ × HandleRow)) : Type 0 where
   pub own : (number : ℕ) (row : HandleRow) → lookup (nat_eq number) entries ≡ Some row → row.number ≡ number
 
 -- a handle comes before those whose numbers aren't below its own
-abbrev pub put_in : HandleRow → List HandleRow → List HandleRow
-put_in row [] = row ∷ []
-put_in row (other ∷ rows) = if nat_le row.number other.number then row ∷ other ∷ rows else other ∷ put_in row rows
+abbrev pub put_row : HandleRow → List HandleRow → List HandleRow
+put_row row [] = row ∷ []
+put_row row (other ∷ rows) = if nat_le row.number other.number then row ∷ other ∷ rows else other ∷ put_row row rows
 
 -- the handles in order of number
-abbrev pub by_number : List (ℕ × HandleRow) → List HandleRow
-by_number [] = []
-by_number (entry ∷ entries) = put_in entry.1 (by_number entries)
+abbrev pub ordered : List (ℕ × HandleRow) → List HandleRow
+ordered [] = []
+ordered (entry ∷ entries) = put_row entry.1 (ordered entries)

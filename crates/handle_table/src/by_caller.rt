@@ -2,7 +2,7 @@ ghost use Rattle.std.specs.Prelude.{ℕ, ◌≡◌, ◌<◌, ◌≤◌, ◌==◌
 ghost use Rattle.std.specs.Prelude.{OnOk, OnErr, IfSome, IfNone, IsSome, option_map, nat_eq};
 ghost use Rattle.std.specs.Prelude.{if◌then◌else◌};
 ghost use Rattle.indexmap.specs.IndexMap.{get, spare};
-ghost use Rattle.handle_table.specs.Linked.{has, is_first, is_number, link_at, with_newer};
+ghost use Rattle.handle_table.specs.Linked.{owns, is_first, is_number, link_at, with_newer};
 ghost use Rattle.handle_table.specs.Linked.{with_older};
 
 use indexmap::IndexMap;
@@ -130,8 +130,8 @@ impl ByCaller {
 
     /// The newest of a caller's numbers.
     pub fn newest_of(&self, caller: u64) -> Option<u64>
-        ensures some { IfSome result (λ number. has self.now.items caller number ≡ true) }
-        ensures none { IfNone result ((number : ℕ) → has self.now.items caller number ≡ false) }
+        ensures some { IfSome result (λ number. owns self.now.items caller number ≡ true) }
+        ensures none { IfNone result ((number : ℕ) → owns self.now.items caller number ≡ false) }
     {
         self.newest.get(&caller).copied()
     }
@@ -139,9 +139,9 @@ impl ByCaller {
     /// Lists a number, which is above all others, under its caller. It takes no memory.
     pub fn add(&mut self, caller: u64, number: u64)
         requires room { 1 ≤ self.old.room }
-        requires above { (c n : ℕ) → has self.old.items c n ≡ true → n < number }
-        ensures { (c n : ℕ) → has self.new.items c n ≡ (caller == c && number == n
-            || has self.old.items c n) }
+        requires above { (c n : ℕ) → owns self.old.items c n ≡ true → n < number }
+        ensures { (c n : ℕ) → owns self.new.items c n ≡ (caller == c && number == n
+            || owns self.old.items c n) }
     {
         let older = self.newest.get(&caller).copied();
         set_newer(&mut self.links, older, Some(number));
@@ -158,8 +158,8 @@ impl ByCaller {
 
     /// Takes a number out.
     pub fn remove(&mut self, number: u64)
-        ensures { (c n : ℕ) → has self.new.items c n ≡ (not (number == n)
-            && has self.old.items c n) }
+        ensures { (c n : ℕ) → owns self.new.items c n ≡ (not (number == n)
+            && owns self.old.items c n) }
     {
         if let Some(link) = self.links.swap_remove(&number) {
             set_newer(&mut self.links, link.older, link.newer);

@@ -2,7 +2,7 @@ ghost use Rattle.std.specs.Prelude.{◌≡◌, ◌+◌, ◌<◌, ◌≤◌, ◌^
 ghost use Rattle.std.specs.Prelude.{length, option_copied, OnOk, OnErr};
 ghost use Rattle.std.specs.List.{AllByRecursion};
 ghost use Rattle.row_slab.specs.Rowed.{AreRisingBy};
-ghost use Rattle.handle_table.specs.Handled.{has_number};
+ghost use Rattle.handle_table.specs.Handled.{matches};
 
 use indexmap::IndexMap;
 use scm_model::HandleRow;
@@ -21,11 +21,11 @@ impl Model for ByNumber {
     ghost use Rattle.indexmap.specs.IndexMap.{spare};
     ghost use Rattle.scm_model.specs.declared.flat.HandleRow.{HandleRow};
     ghost use Rattle.scm_text.specs.Roomed.{Roomed};
-    ghost use Rattle.handle_table.specs.Numbered.{AreNumbered, by_number};
+    ghost use Rattle.handle_table.specs.Numbered.{AreNumbered, ordered};
 
     ghost Value = { Roomed HandleRow };
 
-    ghost view = { λ b. record { items = by_number b.map.entries; room = spare b.map } };
+    ghost view = { λ b. record { items = ordered b.map.entries; room = spare b.map } };
 
     ghost invariant = { λ b. AreNumbered b.map.entries };
 }
@@ -64,7 +64,7 @@ impl ByNumber {
 
     /// The handle with a number.
     pub fn get(&self, number: u64) -> Option<&HandleRow>
-        ensures { option_copied result ≡ find (has_number number) self.now.items }
+        ensures { option_copied result ≡ find (matches number) self.now.items }
     {
         self.map.get(&number)
     }
@@ -81,8 +81,9 @@ impl ByNumber {
 
     /// Takes the handle with a number out.
     pub fn remove(&mut self, number: u64) -> Option<HandleRow>
-        ensures row { result ≡ find (has_number number) self.old.items }
-        ensures items { self.new.items ≡ filter (λ row. not (has_number number row)) self.old.items }
+        ensures row { result ≡ find (matches number) self.old.items }
+        ensures items { self.new.items ≡ filter (λ row. not (matches number row))
+            self.old.items }
         ensures room { self.old.room ≤ self.new.room }
     {
         self.map.swap_remove(&number)

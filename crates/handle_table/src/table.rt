@@ -5,7 +5,7 @@ ghost use Rattle.std.specs.List.{list_any};
 ghost use Rattle.handle_table.specs.Counted.{count};
 ghost use Rattle.scm_model.specs.Rows.{is_of_service};
 ghost use Rattle.row_slab.specs.Rowed.{AreRisingBy};
-ghost use Rattle.handle_table.specs.Handled.{has_number, is_callers, is_handle, is_row_of};
+ghost use Rattle.handle_table.specs.Handled.{matches, is_owned_by, is_handle, is_row_of};
 
 use super::by_caller::ByCaller;
 use super::by_number::ByNumber;
@@ -138,7 +138,7 @@ impl HandleTable {
 
     /// The caller of the handle with a number.
     pub fn owner(&self, number: u64) -> Option<u64>
-        ensures { result ≡ option_map (λ row. row.caller) (find (has_number number) self.now.rows) }
+        ensures { result ≡ option_map (λ row. row.caller) (find (matches number) self.now.rows) }
     {
         match self.rows.get(number) {
             Some(row) => Some(row.caller),
@@ -162,15 +162,15 @@ impl HandleTable {
 
     /// How many handles a caller has.
     pub fn held_by(&self, caller: u64) -> usize
-        ensures { result ≡ length (filter (is_callers caller) self.now.rows) }
+        ensures { result ≡ length (filter (is_owned_by caller) self.now.rows) }
     {
         self.callers.get(caller)
     }
 
-    /// Takes the handle with a number out, whoever has it.
+    /// Takes out the handle with a number, whichever caller has it.
     pub fn remove(&mut self, number: u64) -> Option<HandleRow>
-        ensures row { result ≡ find (has_number number) self.old.rows }
-        ensures rows { self.new.rows ≡ filter (λ row. not (has_number number row)) self.old.rows }
+        ensures row { result ≡ find (matches number) self.old.rows }
+        ensures rows { self.new.rows ≡ filter (λ row. not (matches number row)) self.old.rows }
         ensures next { self.new.next ≡ self.old.next }
     {
         let _len = self.rows.len();
@@ -197,7 +197,7 @@ impl HandleTable {
 
     /// Takes all handles of a caller out.
     pub fn run_down(&mut self, caller: u64)
-        ensures rows { self.new.rows ≡ filter (λ row. not (is_callers caller row)) self.old.rows }
+        ensures rows { self.new.rows ≡ filter (λ row. not (is_owned_by caller row)) self.old.rows }
         ensures next { self.new.next ≡ self.old.next }
     {
         while let Some(number) = self.newest_of(caller) {

@@ -5,8 +5,8 @@ use Rattle.std.specs.Prelude.{replicate, slice_index_or}
 use Rattle.std.proofs.lemmas.Bool.Decides.{nat_tests}
 use Rattle.std.proofs.lemmas.List.{length-take, length-replicate, drop_at, take_more}
 use Rattle.journal_disk.specs.Files.{Files, TornFile, file, written}
-use Rattle.journal_disk.specs.Calls.{call_of, past_of, past_onto}
-use Rattle.journal_disk.specs.Past.{Call, Opened, Read, Sized, Synced, Wrote, leaves, now_after, now_of}
+use Rattle.journal_disk.specs.Calls.{as_call, history, past_onto}
+use Rattle.journal_disk.specs.Past.{Call, Opened, Read, Sized, Synced, Wrote, remains, now_after, now_of}
 use Rattle.journal_disk.specs.Tears.{image_after, image_of, lost, open_after, open_writes, past_at, torn_by}
 use Rattle.journal_disk.specs.declared.calls.TakenCall.{TakenCall}
 use Rattle.journal_disk.specs.declared.calls.DiskFate.TheVariants.{Succeeds, Fails}
@@ -27,8 +27,8 @@ torn_or_none n at size part image short false within =
     let le : at ≤ length (file image n) = grind (arith, nat_tests) in
     torn_piece n at size part image le short
 
-left_one : (tear : Tear) (first : Files) (call : Call) (past : List Call) (image : Files) → leaves first past image
-    → leaves first (call ∷ past) (image_after tear call (now_of first past) image)
+left_one : (tear : Tear) (first : Files) (call : Call) (past : List Call) (image : Files) → remains first past image
+    → remains first (call ∷ past) (image_after tear call (now_of first past) image)
 left_one tear first (Wrote n at bytes fate) past image h =
     inr
     (image, h, torn_or_none n at (length bytes) (torn_by tear bytes) image (no_longer tear bytes) (nat_lt (length (file image n)) at) refl)
@@ -40,7 +40,7 @@ left_one tear first (Opened true fate) past image h = h
 left_one tear first (Sized n fate) past image h = h
 left_one tear first (Read n at size fate) past image h = h
 
-pub image_left : (tears : List Tear) (first : Files) (past : List Call) → leaves first past (image_of tears first past)
+pub image_left : (tears : List Tear) (first : Files) (past : List Call) → remains first past (image_of tears first past)
 image_left tears first [] = refl
 image_left tears first (call ∷ past) =
     left_one (slice_index_or tears (open_writes past) lost) first call past (image_of tears first past) (image_left tears first past)
@@ -48,9 +48,9 @@ image_left tears first (call ∷ past) =
 -- ## A call more
 
 pub one_more : (calls : List TakenCall) (i : ℕ) (call : TakenCall) → i < length calls → call ≡ get_or calls i call
-    → past_of (take (i + 1) calls) ≡ call_of call ∷ past_of (take i calls)
+    → history (take (i + 1) calls) ≡ as_call call ∷ history (take i calls)
 one_more calls i call within is =
-    ap past_of (take_more calls i call within ∙ ap (λ (x : TakenCall). take i calls ++ x ∷ []) (sym is)) ∙ past_more [] (take i calls) call
+    ap history (take_more calls i call within ∙ ap (λ (x : TakenCall). take i calls ++ x ∷ []) (sym is)) ∙ past_more [] (take i calls) call
 
 pub image_more : (tears : List Tear) (tear : Tear) (first : Files) (p q : List Call) (call : Call) (held image new : Files)
     → tear ≡ slice_index_or tears (open_writes p) lost → held ≡ now_of first p → image ≡ image_of tears first p
@@ -80,30 +80,30 @@ open_bound (Read file at size fate) n = omega arith
 
 -- ## Moments
 
-newer : (past : List Call) (calls : List TakenCall) → past_onto past calls ≡ past_of calls ++ past
+newer : (past : List Call) (calls : List TakenCall) → past_onto past calls ≡ history calls ++ past
 newer past [] = refl
 newer past (x ∷ calls) =
-    newer (call_of x ∷ past) calls ∙ sym (append_assoc (past_of calls) (call_of x ∷ []) past)
-    ∙ ap (λ (l : List Call). l ++ past) (sym (newer (call_of x ∷ []) calls))
+    newer (as_call x ∷ past) calls ∙ sym (append_assoc (history calls) (as_call x ∷ []) past)
+    ∙ ap (λ (l : List Call). l ++ past) (sym (newer (as_call x ∷ []) calls))
 
 both : (past : List Call) (old new : List TakenCall) → past_onto past (old ++ new) ≡ past_onto (past_onto past old) new
 both past [] new = refl
-both past (x ∷ old) new = both (call_of x ∷ past) old new
+both past (x ∷ old) new = both (as_call x ∷ past) old new
 
-pub past_length : (calls : List TakenCall) → length (past_of calls) ≡ length calls
+pub past_length : (calls : List TakenCall) → length (history calls) ≡ length calls
 past_length [] = refl
 past_length (x ∷ calls) =
-    let so_far : length (past_of calls) ≡ length calls = past_length calls in
-    ap length (newer (call_of x ∷ []) calls) ∙ omega (arith, length-append (past_of calls) (call_of x ∷ []), so_far)
+    let so_far : length (history calls) ≡ length calls = past_length calls in
+    ap length (newer (as_call x ∷ []) calls) ∙ omega (arith, length-append (history calls) (as_call x ∷ []), so_far)
 
 -- what was done at a moment is the first calls
-pub at_moment : (calls : List TakenCall) (k : ℕ) → k ≤ length calls → past_at k (past_of calls) ≡ past_of (take k calls)
+pub at_moment : (calls : List TakenCall) (k : ℕ) → k ≤ length calls → past_at k (history calls) ≡ history (take k calls)
 at_moment calls k within =
     let old = take k calls in
     let new = drop k calls in
-    let split : past_of calls ≡ past_of new ++ past_of old =
-    ap past_of (sym (take-append-drop k calls)) ∙ both [] old new ∙ newer (past_of old) new in
-    let long : length (past_of calls) - k ≡ length (past_of new) =
-    omega (arith, past_length calls, past_length old, length-take k calls, ap length split, length-append (past_of new) (past_of old)) in
-    ap (λ (n : ℕ). drop n (past_of calls)) long ∙ ap (λ (l : List Call). drop (length (past_of new)) l) split
-    ∙ drop_at (past_of new) (past_of old) (length (past_of new)) refl
+    let split : history calls ≡ history new ++ history old =
+    ap history (sym (take-append-drop k calls)) ∙ both [] old new ∙ newer (history old) new in
+    let long : length (history calls) - k ≡ length (history new) =
+    omega (arith, past_length calls, past_length old, length-take k calls, ap length split, length-append (history new) (history old)) in
+    ap (λ (n : ℕ). drop n (history calls)) long ∙ ap (λ (l : List Call). drop (length (history new)) l) split
+    ∙ drop_at (history new) (history old) (length (history new)) refl

@@ -6,8 +6,8 @@ use Rattle.std.proofs.lemmas.List.{length-take}
 use Rattle.std.proofs.lemmas.Result.{on_ok_weaker}
 use Rattle.journal_disk.specs.Files.{Files, TornFile, file, written}
 use Rattle.journal_disk.specs.Images.{DiskState, Elapses, Looks, Opens, Syncs, Writes}
-use Rattle.journal_disk.specs.Calls.{InMemory, IsTaken, call_of, is_to_fail, next_fate, past_onto}
-use Rattle.journal_disk.specs.Past.{Call, Opened, Read, Sized, Synced, Wrote, disk_state, leaves, now_left, now_of, reached}
+use Rattle.journal_disk.specs.Calls.{InMemory, IsTaken, as_call, is_to_fail, next_fate, past_onto}
+use Rattle.journal_disk.specs.Past.{Call, Opened, Read, Sized, Synced, Wrote, disk_state, remains, now_left, now_of, reached}
 use Rattle.journal_disk.specs.declared.calls.TakenCall.{TakenCall}
 use Rattle.journal_disk.specs.declared.calls.DiskFate.{DiskFate}
 use Rattle.journal_disk.specs.declared.calls.DiskFate.TheVariants.{Succeeds, Fails}
@@ -15,9 +15,9 @@ use Rattle.journal_disk.proofs.Putting.{torn_piece, torn_none}
 
 -- a call more is the newest
 pub past_more : (past : List Call) (calls : List TakenCall) (taken : TakenCall)
-    → past_onto past (calls ++ taken ∷ []) ≡ call_of taken ∷ past_onto past calls
+    → past_onto past (calls ++ taken ∷ []) ≡ as_call taken ∷ past_onto past calls
 past_more past [] taken = refl
-past_more past (x ∷ calls) taken = past_more (call_of x ∷ past) calls taken
+past_more past (x ∷ calls) taken = past_more (as_call x ∷ past) calls taken
 
 goes_on : (first : Files) (past : List Call) (call : Call) → Elapses (disk_state first past) (disk_state first (call ∷ past))
 goes_on first past call = record {
@@ -106,7 +106,7 @@ not_written {E} f g p q n at bytes d same more =
 synced_more : {E : Type 0} (f : Files) (p : List Call) (fate : DiskFate) (r : Result (Unit {0}) E) → is_err r ≡ is_to_fail fate
     → Syncs (disk_state f p) (disk_state f (Synced fate ∷ p)) r
 synced_more f p Succeeds (Ok done) e = record {
-  looks = record { time = goes_on f p (Synced Succeeds); seen = refl; leaves = λ c is. subst (λ d. leaves f p d) (sym is) (now_left f p) };
+  looks = record { time = goes_on f p (Synced Succeeds); seen = refl; leaves = λ c is. subst (λ d. remains f p d) (sym is) (now_left f p) };
   ok = λ c is. is;
 }
 synced_more f p Succeeds (Err d) e = absurd cc

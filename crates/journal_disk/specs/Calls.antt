@@ -25,16 +25,16 @@ with_fate (asked.Read file place size) fate = Read file place size fate
 with_fate (asked.Write file place bytes) fate = Wrote file place bytes.items fate
 with_fate asked.Sync fate = Synced fate
 
-abbrev pub call_of : TakenCall → Call
-call_of taken = with_fate taken.call taken.fate
+abbrev pub as_call : TakenCall → Call
+as_call taken = with_fate taken.call taken.fate
 
 -- the newest first, before those that are older
 abbrev pub past_onto : List Call → List TakenCall → List Call
 past_onto past [] = past
-past_onto past (taken ∷ calls) = past_onto (call_of taken ∷ past) calls
+past_onto past (taken ∷ calls) = past_onto (as_call taken ∷ past) calls
 
-abbrev pub past_of : List TakenCall → List Call
-past_of calls = past_onto [] calls
+abbrev pub history : List TakenCall → List Call
+history calls = past_onto [] calls
 
 -- what becomes of the next call; it succeeds if nothing is said
 abbrev pub next_fate : List DiskFate → DiskFate

@@ -22,7 +22,7 @@ pub record IsDisk (d : DiskState) : Type 0 where
 abbrev pub Only : Files → (Files → Type 0) → Type 0
 Only f leaves = (c : Files) → leaves c → c ≡ f
 
--- a crash leaves what a read gives, if that is told
+-- a crash leaves what a read gives, if the object tells it
 abbrev pub IsSynced : DiskState → Type 0
 IsSynced d = IfSome d.seen (λ f. Only f d.leaves)
 
@@ -38,7 +38,7 @@ pub record Looks (old new : DiskState) : Type 0 where
   pub seen : new.seen ≡ old.seen
   pub leaves : (c : Files) → new.leaves c → old.leaves c
 
--- it is told as it was told before
+-- the object tells it now exactly if it told it before
 abbrev pub IsToldAlike : Option Files → Option Files → Type 0
 IsToldAlike None None = Unit {0}
 IsToldAlike None (Some new) = ⊥
@@ -67,30 +67,25 @@ abbrev pub HasSize : ℕ → ℕ → Option Files → Type 0
 HasSize n size seen = IfSome seen (λ f. size ≡ length (file f n))
 
 -- these bytes stand in a file
-abbrev pub Reads : ℕ → ℕ → List ℕ → Option Files → Type 0
-Reads n at bytes seen = IfSome seen (λ f. bytes ≡ take (length bytes) (drop at (file f n)))
+abbrev pub ReadsFile : ℕ → ℕ → List ℕ → Option Files → Type 0
+ReadsFile n at bytes seen = IfSome seen (λ f. bytes ≡ take (length bytes) (drop at (file f n)))
 
 -- the range lies in the file
 abbrev pub IsWithin : ℕ → ℕ → Option Files → Type 0
 IsWithin n end seen = IfSome seen (λ f. end ≤ length (file f n))
 
 -- Without a path nothing stands, and a crash leaves nothing; else, and at a fault, what stood.
-abbrev pub IsEmptied : Option Files → Option Files → Type 0
-IsEmptied old (Some new) = new ≡ no_files
-IsEmptied old None = old ≡ None
+abbrev pub AreFilesEmptied : Option Files → Option Files → Type 0
+AreFilesEmptied old (Some new) = new ≡ no_files
+AreFilesEmptied old None = old ≡ None
 
 pub record Opens {E : Type 0} (path : Bool) (old new : DiskState) (result : Result (Unit {0}) E) : Type 0 where
   pub time : Elapses old new
   pub told : IsToldAlike old.seen new.seen
   pub leaves : (c : Files) → new.leaves c → old.leaves c ⊎ ((path ≡ false) × (c ≡ no_files))
   pub same : (path ≡ true) ⊎ (d : E) × (result ≡ Err d) → new.seen ≡ old.seen
-  pub emptied : path ≡ false → OnOk result (IsEmptied old.seen new.seen)
+  pub emptied : path ≡ false → OnOk result (AreFilesEmptied old.seen new.seen)
   pub nothing_left : path ≡ false → OnOk result (Only no_files new.leaves)
-
--- whether a path is given
-abbrev pub has_path : {A : Type 0} → Option A → Bool
-has_path None = false
-has_path (Some path) = true
 
 -- a disk that tells nothing, and of which nothing is claimed
 abbrev pub nothing_told : DiskState

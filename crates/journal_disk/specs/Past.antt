@@ -38,26 +38,26 @@ left_after (Synced Succeeds) now left c = c ≡ now
 left_after (Opened false Succeeds) now left c = c ≡ no_files
 left_after call now left c = left c
 
-abbrev pub leaves : Files → List Call → Files → Type 0
-leaves first [] c = c ≡ first
-leaves first (call ∷ past) c = left_after call (now_of first past) (leaves first past) c
+abbrev pub remains : Files → List Call → Files → Type 0
+remains first [] c = c ≡ first
+remains first (call ∷ past) c = left_after call (now_of first past) (remains first past) c
 
 -- What a crash might have left when there were so many calls or more.
 abbrev pub left_since : Files → List Call → ℕ → Files → Type 0
 left_since first [] t c = (t ≤ 0) × (c ≡ first)
-left_since first (call ∷ past) t c = ((t ≤ length (call ∷ past)) × leaves first (call ∷ past) c) ⊎ left_since first past t c
+left_since first (call ∷ past) t c = ((t ≤ length (call ∷ past)) × remains first (call ∷ past) c) ⊎ left_since first past t c
 
 abbrev pub disk_state : Files → List Call → DiskState
 disk_state first past = record {
   seen = Some (now_of first past);
-  leaves = leaves first past;
+  leaves = remains first past;
   moment = length past;
   left_since = left_since first past;
 }
 
 -- ## It is a disk
 
-pub now_left : (first : Files) (past : List Call) → leaves first past (now_of first past)
+pub now_left : (first : Files) (past : List Call) → remains first past (now_of first past)
 now_left first [] = refl
 now_left first (Wrote n at bytes fate ∷ past) = inl refl
 now_left first (Synced Succeeds ∷ past) = refl
@@ -73,11 +73,11 @@ not_later first [] t c h = h.0
 not_later first (call ∷ past) t c (inl h) = h.0
 not_later first (call ∷ past) t c (inr h) = let le = not_later first past t c h in omega arith
 
-counts_now : (first : Files) (past : List Call) (t : ℕ) (c : Files) → t ≤ length past → leaves first past c → left_since first past t c
+counts_now : (first : Files) (past : List Call) (t : ℕ) (c : Files) → t ≤ length past → remains first past c → left_since first past t c
 counts_now first [] t c le h = (le, h)
 counts_now first (call ∷ past) t c le h = inl (le, h)
 
-only_now : (first : Files) (past : List Call) (c : Files) → left_since first past (length past) c → leaves first past c
+only_now : (first : Files) (past : List Call) (c : Files) → left_since first past (length past) c → remains first past c
 only_now first [] c h = h.1
 only_now first (call ∷ past) c (inl h) = h.1
 only_now first (call ∷ past) c (inr h) =

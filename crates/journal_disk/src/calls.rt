@@ -1,5 +1,5 @@
 ghost use Rattle.std.specs.Prelude.{◌≡◌, ◌∷◌, OnErr, OnOk};
-ghost use Rattle.journal_disk.specs.Calls.{call_of, past_of};
+ghost use Rattle.journal_disk.specs.Calls.{as_call, history};
 ghost use Rattle.journal_disk.specs.Past.{reached};
 
 use std::alloc::AllocError;
@@ -44,7 +44,7 @@ pub struct TakenCall {
 
 /// Records a call as the newest.
 pub fn record_call(calls: &mut Vec<TakenCall>, taken: TakenCall) -> Result<(), AllocError>
-    ensures ok { OnOk result (past_of calls.new.items ≡ call_of taken ∷ past_of calls.old.items) }
+    ensures ok { OnOk result (history calls.new.items ≡ as_call taken ∷ history calls.old.items) }
     ensures err { OnErr result (calls.new.items ≡ calls.old.items) }
 {
     calls.push(taken)?;

@@ -1,8 +1,7 @@
-ghost use Rattle.std.specs.Prelude.{◌+◌, ◌≤◌, ◌^◌, ℕ, IfOk, OnOk, length};
+ghost use Rattle.std.specs.Prelude.{◌+◌, ◌≤◌, ◌^◌, ℕ, IfOk, OnOk, length, is_some};
 ghost use Rattle.outside.specs.Causes.{HasCause};
 ghost use Rattle.journal_disk.specs.Images.{DiskState, HasSize, IsDisk, IsWithin, Looks, Opens};
-ghost use Rattle.journal_disk.specs.Images.{Reads, Syncs, Writes};
-ghost use Rattle.journal_disk.specs.Images.{has_path};
+ghost use Rattle.journal_disk.specs.Images.{ReadsFile, Syncs, Writes};
 
 use outside::Failed;
 
@@ -20,7 +19,7 @@ pub trait Disk: Drop {
     /// Goes on with the files under a path. Without a path it has empty files from then on, in
     /// memory.
     fn open_at(&mut self, path: Option<&str>) -> Result<(), Failed>
-        ensures opens { Opens (has_path path.entry) (state self.old) (state self.new) result }
+        ensures opens { Opens (is_some path.entry) (state self.old) (state self.new) result }
         ensures cause { HasCause (faults self.old) (faults self.new) result };
 
     /// How many bytes a file has.
@@ -35,7 +34,7 @@ pub trait Disk: Drop {
     fn read_at(&mut self, file: u8, place: u64, into: &mut [u8]) -> Result<(), Failed>
         requires file { file ≤ 2 }
         requires within { IsWithin file (place + length into.old) (state self.old).seen }
-        ensures bytes { IfOk result (λ _. Reads file place into.new (state self.old).seen) }
+        ensures bytes { IfOk result (λ _. ReadsFile file place into.new (state self.old).seen) }
         ensures looks { Looks (state self.old) (state self.new) }
         ensures cause { HasCause (faults self.old) (faults self.new) result };
 

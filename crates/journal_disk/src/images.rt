@@ -1,7 +1,7 @@
 ghost use Rattle.std.specs.Prelude.{◌≡◌, ◌++◌, IfOk, OnOk, replicate, slice_index_or, length};
 ghost use Rattle.std.specs.Prelude.{nat_lt, ◌^◌, ◌-◌, ◌<◌, if◌then◌else◌};
 ghost use Rattle.journal_disk.specs.Files.{file, written};
-ghost use Rattle.journal_disk.specs.Calls.{call_of, past_of};
+ghost use Rattle.journal_disk.specs.Calls.{as_call, history};
 ghost use Rattle.journal_disk.specs.Past.{now_after, reached};
 ghost use Rattle.journal_disk.specs.Tears.{image_after, image_of, lost, open_after, torn_by};
 
@@ -85,7 +85,7 @@ fn tear_in(
 /// How many writes are open after one call more.
 fn open_after(taken: &TakenCall, writes: usize) -> usize
     requires { writes < 2 ^ 64 - 1 }
-    ensures { result ≡ open_after (call_of taken.now) writes }
+    ensures { result ≡ open_after (as_call taken.now) writes }
 {
     match (&taken.call, taken.fate) {
         (DiskCall::Write { .. }, _) => writes + 1,
@@ -103,9 +103,9 @@ fn go_on(
     taken: &TakenCall,
     tear: Tear,
 ) -> Result<(), AllocError>
-    ensures held { OnOk result (held.new ≡ now_after (call_of taken.now) held.old) }
+    ensures held { OnOk result (held.new ≡ now_after (as_call taken.now) held.old) }
     ensures image { OnOk result (image.new
-        ≡ image_after tear (call_of taken.now) held.old image.old) }
+        ≡ image_after tear (as_call taken.now) held.old image.old) }
 {
     match (&taken.call, taken.fate) {
         (DiskCall::Write { file, place, bytes }, fate) => {
@@ -138,7 +138,7 @@ fn go_through(
     tears: &[Tear],
 ) -> Result<(), AllocError>
     requires { image.old ≡ held.old }
-    ensures { OnOk result (image.new ≡ image_of tears.now held.old (past_of calls.now)) }
+    ensures { OnOk result (image.new ≡ image_of tears.now held.old (history calls.now)) }
 {
     let mut writes = 0;
     for taken in calls {
@@ -158,7 +158,7 @@ pub fn replay(
     calls: &[TakenCall],
     tears: &[Tear],
 ) -> Result<(), AllocError>
-    ensures image { OnOk result (image.new ≡ image_of tears.now first.now (past_of calls.now)) }
+    ensures image { OnOk result (image.new ≡ image_of tears.now first.now (history calls.now)) }
     ensures held { OnOk result (held.new ≡ image.new) }
 {
     image.copy_from(first)?;

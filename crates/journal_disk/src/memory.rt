@@ -1,12 +1,13 @@
 ghost use Rattle.std.specs.Prelude.{◌≡◌, ◌≤◌, ◌+◌, ◌^◌, ◌∷◌, [], false, IfOk, IsTrue, OnErr, OnOk};
+ghost use Rattle.std.specs.Prelude.{is_some};
 ghost use Rattle.std.specs.Prelude.{Some, is_err, length, take, drop};
 ghost use Rattle.outside.specs.Causes.{HasCause};
 ghost use Rattle.outside.specs.Fates.{later, one_more};
 ghost use Rattle.journal_disk.specs.Files.{Files, file, no_files};
-ghost use Rattle.journal_disk.specs.Images.{HasSize, IsWithin, Looks, Opens, Reads, Syncs, Writes};
-ghost use Rattle.journal_disk.specs.Images.{has_path};
-ghost use Rattle.journal_disk.specs.Calls.{IsTaken, call_of, next_fate, past_of, with_fate};
-ghost use Rattle.journal_disk.specs.Past.{Opened, Read, Sized, Synced, Wrote, disk_state, leaves};
+ghost use Rattle.journal_disk.specs.Images.{HasSize, IsWithin, Looks, Opens, ReadsFile, Syncs};
+ghost use Rattle.journal_disk.specs.Images.{Writes};
+ghost use Rattle.journal_disk.specs.Calls.{IsTaken, as_call, next_fate, history, with_fate};
+ghost use Rattle.journal_disk.specs.Past.{Opened, Read, Sized, Synced, Wrote, disk_state, remains};
 ghost use Rattle.journal_disk.specs.Past.{now_after, now_of};
 ghost use Rattle.journal_disk.specs.Tears.{image_of, past_at};
 ghost use Rattle.journal_disk.specs.declared.calls.DiskFate.{DiskFate};
@@ -36,19 +37,19 @@ pub struct MemoryDisk {
 
 impl Model for MemoryDisk {
     ghost use Rattle.std.specs.Prelude.{◌≡◌};
-    ghost use Rattle.journal_disk.specs.Calls.{InMemory, past_of};
+    ghost use Rattle.journal_disk.specs.Calls.{InMemory, history};
     ghost use Rattle.journal_disk.specs.Past.{now_of};
 
     ghost Value = { InMemory };
 
     ghost view = { λ d. record {
       first = d.first;
-      past = past_of d.calls.items;
+      past = history d.calls.items;
       fates = d.fates.items;
       faults = d.faults;
     } };
 
-    ghost invariant = { λ d. d.held ≡ now_of d.first (past_of d.calls.items) };
+    ghost invariant = { λ d. d.held ≡ now_of d.first (history d.calls.items) };
 }
 
 impl MemoryDisk {
@@ -77,7 +78,7 @@ impl MemoryDisk {
 
     /// The calls that it has taken, the oldest first.
     pub fn calls(&self) -> &[TakenCall]
-        ensures past { past_of result.now ≡ self.now.past }
+        ensures past { history result.now ≡ self.now.past }
         ensures len { length result.now ≡ length self.now.past }
     {
         &self.calls
@@ -96,7 +97,7 @@ impl MemoryDisk {
         ensures chosen { IfOk result (λ disk. disk.first
             ≡ image_of tears.now self.now.first (past_at moment self.now.past)) }
         ensures left { IfOk result (λ disk.
-            leaves self.now.first (past_at moment self.now.past) disk.first) }
+            remains self.now.first (past_at moment self.now.past) disk.first) }
         ensures past { IfOk result (λ disk. disk.past ≡ []) }
         ensures fates { IfOk result (λ disk. disk.fates ≡ []) }
         ensures faults { IfOk result (λ disk. disk.faults ≡ 0) }
@@ -234,10 +235,10 @@ impl Disk for MemoryDisk {
 
     /// All paths are one: the files stand under each.
     fn open_at(&mut self, path: Option<&str>) -> Result<(), Failed>
-        ensures opens { Opens (has_path path.entry) (disk_state self.old.first self.old.past)
+        ensures opens { Opens (is_some path.entry) (disk_state self.old.first self.old.past)
             (disk_state self.new.first self.new.past) result }
         ensures cause { HasCause self.old.faults self.new.faults result }
-        ensures taken { IsTaken (Opened (has_path path.entry)) self.old self.new (is_err result) }
+        ensures taken { IsTaken (Opened (is_some path.entry)) self.old self.new (is_err result) }
     {
         match path {
             None => self.empty(),

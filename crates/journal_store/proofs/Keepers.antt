@@ -1,15 +1,15 @@
 -- What the calls of a store are to a keeper of bytes.
 use Rattle.std.proofs.Common.{◌≡◌, ◌⊎◌, ⊎_elim, ℕ, Bool, true, false, List, [], ◌++◌, take, Option, Some, None, Result, Ok, Err, refl, sym}
 use Rattle.std.proofs.Common.{◌∙◌}
-use Rattle.std.specs.Prelude.{IfSome, OnErr, OnOk}
+use Rattle.std.specs.Prelude.{IfSome, OnErr, OnOk, is_some, is_some as keeper_path}
 use Rattle.std.specs.Io.KnownBytes.{Keeps}
 use Rattle.std.proofs.lemmas.List.{append-nil}
 use Rattle.outside.specs.Written.{Writes}
-use Rattle.record_journal.specs.Keepers.{Cuts, IsUntold, Opens, has_path as keeper_path}
+use Rattle.record_journal.specs.Keepers.{Cuts, IsUntold, Opens}
 use Rattle.journal_disk.specs.Files.{Files}
-use Rattle.journal_disk.specs.Images.{DiskState, IsToldAlike, has_path}
+use Rattle.journal_disk.specs.Images.{DiskState, IsToldAlike}
 use Rattle.journal_store.specs.Content.{content, content_of}
-use Rattle.journal_store.specs.Kept.{IsSettled, CanLeave, opened}
+use Rattle.journal_store.specs.Kept.{IsDiskSettled, CanLeave, if_path}
 use Rattle.journal_store.specs.Compacting.{IsOnly, Replaces}
 
 -- what a read gives before and after a call that makes of a content another
@@ -56,7 +56,7 @@ replaces (Some f) None bytes r alike either done = absurd alike
 replaces (Some f) (Some g) bytes (Ok d) alike either done = done f g refl refl
 replaces (Some f) (Some g) bytes (Err d) alike either done = either f g refl refl
 
-pub opens : {E : Type 0} (path : Bool) (o p : Option Files) (r : Result (Unit {0}) E) → IsToldAlike o p → Done o p (opened path) r
+pub opens : {E : Type 0} (path : Bool) (o p : Option Files) (r : Result (Unit {0}) E) → IsToldAlike o p → Done o p (if_path path) r
     → OnErr r ((f g : Files) → o ≡ Some f → p ≡ Some g → content g ≡ content f) → Opens path (content_of o) (content_of p) r
 opens false None None (Ok d) alike done same = refl
 opens false None (Some g) (Ok d) alike done same = absurd alike
@@ -66,7 +66,7 @@ opens false o p (Err d) alike done same = keeps o p alike same
 opens true o p (Ok d) alike done same = keeps o p alike done
 opens true o p (Err d) alike done same = keeps o p alike same
 
-pub same_path : {A : Type 0} (path : Option A) → keeper_path path ≡ has_path path
+pub same_path : {A : Type 0} (path : Option A) → keeper_path path ≡ is_some path
 same_path None = refl
 same_path (Some path) = refl
 
@@ -74,7 +74,7 @@ pub if_content : (o : Option Files) (x : List ℕ) → ((f : Files) → o ≡ So
 if_content None x h = tt
 if_content (Some f) x h = h f refl
 
-pub only_settled : (d : DiskState) → IsSettled d → IsOnly (content_of d.seen) (CanLeave d)
+pub only_settled : (d : DiskState) → IsDiskSettled d → IsOnly (content_of d.seen) (CanLeave d)
 only_settled d settled = on d.seen refl
   where
     on : (o : Option Files) → d.seen ≡ o → IsOnly (content_of o) (CanLeave d)

@@ -7,10 +7,10 @@ use Rattle.std.proofs.lemmas.Nat.{from_le_bytes-to_le_bytes_8}
 use Rattle.std.specs.Int.{w64, from_le_bytes}
 use Rattle.journal_disk.specs.Files.{Files, file, put, with_file, written}
 use Rattle.journal_disk.specs.Images.{DiskState, HasWritten, IsDisk, IsSynced, IsToldAlike, IsWithin, Only}
-use Rattle.journal_store.specs.Content.{content, is_open, log_content, number, selected}
+use Rattle.journal_store.specs.Content.{content, is_open, log_content, le_64, selected}
 use Rattle.journal_store.specs.Ends.{Guarded, IsShut, Whole}
 use Rattle.journal_store.specs.Copies.{ButFor, HasPut, IsSealed, IsUnread, OneRecord, WritesOnly, blank_head}
-use Rattle.journal_store.specs.Kept.{HasEitherContent, IsEitherLog, IsOldOr, IsReady, Leaves, CanLeave}
+use Rattle.journal_store.specs.Kept.{HasEitherContent, IsEitherLog, IsOldOr, IsStoreReady, Leaves, CanLeave}
 use Rattle.journal_store.proofs.Moments.{if_told, joins, now_seen, same_file, still_told, told, was_told, weaker}
 use Rattle.journal_store.proofs.Records.{shut_none, whole_ends, whole_more, whole_nothing}
 use Rattle.journal_store.proofs.Switching.{other_first, other_second}
@@ -69,48 +69,48 @@ short_body a to count within bound f is = let size = size_body a to count within
 
 pub sealed : (a b c d : DiskState) (to count : ℕ) → IsWithin to (9 + count) a.seen → IfSome a.seen (λ f. is_open (file f to) ≡ true)
     → HasWritten to (9 + count) (0 ∷ []) a.seen b.seen
-    → HasWritten to 1 (number count) b.seen c.seen → d.seen ≡ c.seen → IsSealed to (λ f. take count (drop 9 (file f to))) a d
+    → HasWritten to 1 (le_64 count) b.seen c.seen → d.seen ≡ c.seen → IsSealed to (λ f. take count (drop 9 (file f to))) a d
 sealed a b c d to count within gate first second same f is =
     let log = file f to in
     let x = take count (drop 9 log) in
     let one = now_seen to (9 + count) (0 ∷ []) a.seen b.seen f first is in
-    let two = now_seen to 1 (number count) b.seen c.seen (written to (9 + count) (0 ∷ []) f) second one in
+    let two = now_seen to 1 (le_64 count) b.seen c.seen (written to (9 + count) (0 ∷ []) f) second one in
     let long = told (λ g. 9 + count ≤ length (file g to)) a.seen f is within in
     let size = body_size count log long in
     let s = headed count log (told (λ g. is_open (file g to) ≡ true) a.seen f is gate) long in
-    let bytes = put 1 (number count) (put (9 + count) (0 ∷ []) log) in
-    let list_is : bytes ≡ (s.gate ∷ (number count ++ x)) ++ (0 ∷ drop 1 s.rest) =
-    ap (λ (l : List ℕ). put 1 (number count) (put (9 + count) (0 ∷ []) l)) s.is
-    ∙ sealed_list s.gate count s.head x s.rest (number count) s.eight refl size in (
+    let bytes = put 1 (le_64 count) (put (9 + count) (0 ∷ []) log) in
+    let list_is : bytes ≡ (s.gate ∷ (le_64 count ++ x)) ++ (0 ∷ drop 1 s.rest) =
+    ap (λ (l : List ℕ). put 1 (le_64 count) (put (9 + count) (0 ∷ []) l)) s.is
+    ∙ sealed_list s.gate count s.head x s.rest (le_64 count) s.eight refl size in (
       bytes,
-      same ∙ two ∙ ap (λ (g : Files). Some g) (twice to (9 + count) 1 (0 ∷ []) (number count) f),
+      same ∙ two ∙ ap (λ (g : Files). Some g) (twice to (9 + count) 1 (0 ∷ []) (le_64 count) f),
       record {
         gate = s.gate;
         opened = s.opened;
         rest = drop 1 s.rest;
-        is = list_is ∙ ap (λ (n : ℕ). (s.gate ∷ (number n ++ x)) ++ (0 ∷ drop 1 s.rest)) (sym size);
+        is = list_is ∙ ap (λ (n : ℕ). (s.gate ∷ (le_64 n ++ x)) ++ (0 ∷ drop 1 s.rest)) (sym size);
       },
     )
 
 module _ (x bytes : List ℕ) (o : OneRecord x bytes) (short : length x < 2 ^ 64) where
   abbrev pub front : List ℕ
-  front = o.gate ∷ (number (length x) ++ x)
+  front = o.gate ∷ (le_64 (length x) ++ x)
 
   pub one_whole : Whole front x
   one_whole =
-      let text = number (length x) ++ x in
-      let eight : length (number (length x)) ≡ 8 = refl in
+      let text = le_64 (length x) ++ x in
+      let eight : length (le_64 (length x)) ≡ 8 = refl in
       let size : from_le_bytes w64 (take 8 text) ≡ length x =
-      ap (λ (l : List ℕ). from_le_bytes w64 l) (take_at (number (length x)) x 8 refl) ∙ from_le_bytes-to_le_bytes_8 (length x) short in
-      let body : drop 8 text ≡ x = drop_at (number (length x)) x 8 refl in
+      ap (λ (l : List ℕ). from_le_bytes w64 l) (take_at (le_64 (length x)) x 8 refl) ∙ from_le_bytes-to_le_bytes_8 (length x) short in
+      let body : drop 8 text ≡ x = drop_at (le_64 (length x)) x 8 refl in
       subst (λ (l : List ℕ). Whole front l) body
-      (whole_more [] [] text o.gate (length x) whole_nothing o.opened size (omega (arith, length-append (number (length x)) x, eight)))
+      (whole_more [] [] text o.gate (length x) whole_nothing o.opened size (omega (arith, length-append (le_64 (length x)) x, eight)))
 
   pub one_content : log_content bytes ≡ x
   one_content = ap log_content o.is ∙ whole_ends front x (0 ∷ o.rest) one_whole (omega arith) (shut_none 0 o.rest refl)
 
   pub front_long : length front ≡ 9 + length x
-  front_long = let eight : length (number (length x)) ≡ 8 = refl in omega (arith, length-append (number (length x)) x, eight)
+  front_long = let eight : length (le_64 (length x)) ≡ 8 = refl in omega (arith, length-append (le_64 (length x)) x, eight)
 
 -- ## The selector
 
@@ -207,7 +207,7 @@ module _ (a b : DiskState) (to : ℕ) (x : Files → List ℕ) (to_is : (to ≡ 
 
       pub shown_ready : (c : DiskState) (count : ℕ) → ((f : Files) → a.seen ≡ Some f → length (x f) ≡ count)
           → HasWritten 0 0 ((to - 1) ∷ []) b.seen c.seen → IsSynced c → IsToldAlike a.seen b.seen → IsToldAlike b.seen c.seen
-          → IsReady c to (9 + count)
+          → IsStoreReady c to (9 + count)
       shown_ready c count size switched synced first second g at =
           let mid = was_told b.seen c.seen g second at in
           let was = was_told a.seen b.seen mid.0 first mid.1 in
@@ -239,7 +239,7 @@ is_filled f to x =
       body = ap (λ (l : List ℕ). take (length x) (drop 9 l)) is ∙ take_at x rest (length x) refl;
     }
 
-module _ (a d : DiskState) (log place to : ℕ) (x : Files → List ℕ) (ready : IsReady a log place) (other : log ≡ to → ⊥)
+module _ (a d : DiskState) (log place to : ℕ) (x : Files → List ℕ) (ready : IsStoreReady a log place) (other : log ≡ to → ⊥)
     (to_is : (to ≡ 1) ⊎ (to ≡ 2)) (only : WritesOnly to a d) where
   but_content : (f c : Files) → a.seen ≡ Some f → ButFor to a c → content c ≡ content f
   but_content f c is p =
@@ -306,7 +306,7 @@ log_le to (inl e) = omega (arith, e)
 log_le to (inr e) = omega (arith, e)
 
 -- up to the copying: the head was written, and the size was asked
-module _ (a b s : DiskState) (log place to most : ℕ) (ready : IsReady a log place) (log2 : log ≤ 2) (to_is : (to ≡ 1) ⊎ (to ≡ 2))
+module _ (a b s : DiskState) (log place to most : ℕ) (ready : IsStoreReady a log place) (log2 : log ≤ 2) (to_is : (to ≡ 1) ⊎ (to ≡ 2))
     (other : log ≡ to → ⊥) (head : HasWritten to 0 blank_head a.seen b.seen) (same : s.seen ≡ b.seen) where
   head_put : HasPut to 0 (λ f. blank_head) a s
   head_put = put_looked a b s to 0 (λ f. blank_head) (put_once a b to 0 blank_head head) same

@@ -4,9 +4,9 @@ use Rattle.std.proofs.Common.{subst}
 use Rattle.journal_disk.specs.Files.{Files, TornFile, file, written}
 use Rattle.journal_disk.specs.Images.{DiskState, HasWritten, IsDisk, IsSynced, IsToldAlike, IsWithin, Looks, Only, Writes}
 use Rattle.std.proofs.Common.{false, true}
-use Rattle.journal_store.specs.Content.{content, number}
+use Rattle.journal_store.specs.Content.{content, le_64}
 use Rattle.journal_store.specs.Ends.{Found, Guarded, IsShut, Staged}
-use Rattle.journal_store.specs.Kept.{HasContent, HasEitherContent, IsOldOr, IsReady, IsSettled, IsStaged, Leaves, Looked, CanLeave}
+use Rattle.journal_store.specs.Kept.{HasContent, HasEitherContent, IsOldOr, IsStoreReady, IsDiskSettled, IsStaged, Leaves, Looked, CanLeave}
 use Rattle.journal_store.proofs.Moments.{if_told, joins, now_seen, same_file, started, stayed, still_told, told, was_told, weaker, wrote}
 use Rattle.journal_store.proofs.Writing.{fits_gate, fits_one, fits_three, fits_two, gate_torn, guarded_content, guarded_torn, is_shut}
 use Rattle.journal_store.proofs.Writing.{is_staged, found_shut, shut_torn, opened_content, opened_shut, staged_content}
@@ -28,37 +28,37 @@ module _ (log place : ℕ) (bytes : List ℕ) where
   keeps a b f s so_far =
       weaker a b (Guarded log s.front) (HasContent (content f)) so_far (λ e p. guarded_content log s.front (content f) e s.whole p)
 
-  pub within_one : (a : DiskState) → IsReady a log place → IsWithin log (place + 1) a.seen
+  pub within_one : (a : DiskState) → IsStoreReady a log place → IsWithin log (place + 1) a.seen
   within_one a ready = if_told (λ f. place + 1 ≤ length (file f log)) a.seen (λ f is. fits_one f log place bytes (ready f is).0)
 
   one_seen : {E : Type 0} (a b : DiskState) (r : Result (Unit {0}) E) (f : Files)
-      → HasWritten log (place + 1) (number (length bytes)) a.seen b.seen → a.seen ≡ Some f
-      → b.seen ≡ Some (written log (place + 1) (number (length bytes)) f)
-  one_seen a b r f h is = now_seen log (place + 1) (number (length bytes)) a.seen b.seen f h is
+      → HasWritten log (place + 1) (le_64 (length bytes)) a.seen b.seen → a.seen ≡ Some f
+      → b.seen ≡ Some (written log (place + 1) (le_64 (length bytes)) f)
+  one_seen a b r f h is = now_seen log (place + 1) (le_64 (length bytes)) a.seen b.seen f h is
 
-  pub within_two : (a b : DiskState) → IsReady a log place → IsToldAlike a.seen b.seen
-      → HasWritten log (place + 1) (number (length bytes)) a.seen b.seen → IsWithin log (place + 9) b.seen
+  pub within_two : (a b : DiskState) → IsStoreReady a log place → IsToldAlike a.seen b.seen
+      → HasWritten log (place + 1) (le_64 (length bytes)) a.seen b.seen → IsWithin log (place + 9) b.seen
   within_two a b ready alike h = if_told (λ f. place + 9 ≤ length (file f log)) b.seen (λ e at.
       let was = was_told a.seen b.seen e alike at in
-      let now = now_seen log (place + 1) (number (length bytes)) a.seen b.seen was.0 h was.1 in
+      let now = now_seen log (place + 1) (le_64 (length bytes)) a.seen b.seen was.0 h was.1 in
       subst (λ x. place + 9 ≤ length (file x log)) (same_file b.seen _ _ now at) (fits_two was.0 log place bytes (ready was.0 was.1).0))
 
-  pub within_three : (a b c : DiskState) → IsReady a log place → IsToldAlike a.seen b.seen → IsToldAlike b.seen c.seen
-      → HasWritten log (place + 1) (number (length bytes)) a.seen b.seen → HasWritten log (place + 9) bytes b.seen c.seen
+  pub within_three : (a b c : DiskState) → IsStoreReady a log place → IsToldAlike a.seen b.seen → IsToldAlike b.seen c.seen
+      → HasWritten log (place + 1) (le_64 (length bytes)) a.seen b.seen → HasWritten log (place + 9) bytes b.seen c.seen
       → IsWithin log (place + 9 + length bytes) c.seen
   within_three a b c ready alike alike2 h h2 = if_told (λ f. place + 9 + length bytes ≤ length (file f log)) c.seen (λ e at.
       let mid = was_told b.seen c.seen e alike2 at in
       let was = was_told a.seen b.seen mid.0 alike mid.1 in
-      let one = now_seen log (place + 1) (number (length bytes)) a.seen b.seen was.0 h was.1 in
+      let one = now_seen log (place + 1) (le_64 (length bytes)) a.seen b.seen was.0 h was.1 in
       let two = now_seen log (place + 9) bytes b.seen c.seen _ h2 one in
       subst (λ x. place + 9 + length bytes ≤ length (file x log)) (same_file c.seen _ _ two at)
       (fits_three was.0 log place bytes (ready was.0 was.1).0))
 
-  pub staged : (a b c d e : DiskState) → IsReady a log place → HasWritten log (place + 1) (number (length bytes)) a.seen b.seen
+  pub staged : (a b c d e : DiskState) → IsStoreReady a log place → HasWritten log (place + 1) (le_64 (length bytes)) a.seen b.seen
       → HasWritten log (place + 9) bytes b.seen c.seen → HasWritten log (place + 9 + length bytes) (0 ∷ []) c.seen d.seen
       → e.seen ≡ d.seen → IsSynced e → (f : Files) → a.seen ≡ Some f → IsStaged e log place bytes (content f)
   staged a b c d e ready h1 h2 h3 same synced f is g at =
-      let one = now_seen log (place + 1) (number (length bytes)) a.seen b.seen f h1 is in
+      let one = now_seen log (place + 1) (le_64 (length bytes)) a.seen b.seen f h1 is in
       let two = now_seen log (place + 9) bytes b.seen c.seen _ h2 one in
       let three = now_seen log (place + 9 + length bytes) (0 ∷ []) c.seen d.seen _ h3 two in
       let g_is = same_file e.seen _ g (same ∙ three) at in (
@@ -97,7 +97,7 @@ module _ (log place : ℕ) (bytes : List ℕ) where
         (now.0, (is_so f is now.0 now.1).0, same_file d.seen _ h (same ∙ gate) at)
 
     pub ready_again : (c d : DiskState) → IsToldAlike b.seen c.seen → HasWritten log place (1 ∷ []) b.seen c.seen → d.seen ≡ c.seen
-        → IsSynced d → IsReady d log (place + 9 + length bytes)
+        → IsSynced d → IsStoreReady d log (place + 9 + length bytes)
     ready_again c d alike2 w same synced h at =
         let mid = was_told b.seen c.seen h alike2 (sym same ∙ at) in
         let was = was_told a.seen b.seen mid.0 alike mid.1 in
@@ -127,7 +127,7 @@ module _ (log place : ℕ) where
       (λ d e same torn. shut_torn f log place found e (subst (λ x. TornFile log place 1 x e) same torn))
 
   pub shut_ready : (a b c : DiskState) → ((f : Files) → a.seen ≡ Some f → Found f log place false) → IsToldAlike a.seen b.seen
-      → HasWritten log place (0 ∷ []) a.seen b.seen → c.seen ≡ b.seen → IsSynced c → IsReady c log place
+      → HasWritten log place (0 ∷ []) a.seen b.seen → c.seen ≡ b.seen → IsSynced c → IsStoreReady c log place
   shut_ready a b c found alike w same synced h at =
       let was = was_told a.seen b.seen h alike (sym same ∙ at) in
       let now = now_seen log place (0 ∷ []) a.seen b.seen was.0 w was.1 in (
@@ -136,7 +136,7 @@ module _ (log place : ℕ) where
       )
 
   pub found_ready : (a b : DiskState) → ((f : Files) → a.seen ≡ Some f → Found f log place true) → b.seen ≡ a.seen → IsSynced a
-      → ((c : Files) → b.leaves c → a.leaves c) → IsReady b log place
+      → ((c : Files) → b.leaves c → a.leaves c) → IsStoreReady b log place
   found_ready a b found same synced less h at =
       let was = sym same ∙ at in
       (found_shut h log place (found h was), λ c now. told (λ x. Only x a.leaves) a.seen h was synced c (less c now))
@@ -160,7 +160,7 @@ stands_shut a b c f so_far here shut =
 pub standing : (d : DiskState) → Leaves (λ c. CanLeave d (content c)) d d
 standing d = started d (λ c. CanLeave d (content c)) (λ c now. (c, now, refl))
 
-pub settled : (d : DiskState) (log place : ℕ) → IsReady d log place → IsSettled d
+pub settled : (d : DiskState) (log place : ℕ) → IsStoreReady d log place → IsDiskSettled d
 settled d log place ready f is c now = ap content ((ready f is).1 c now)
 
 pub or_old : (a b : DiskState) (x : List ℕ) → Leaves (λ c. CanLeave a (content c)) a b → Leaves (IsOldOr a x) a b

@@ -2,9 +2,9 @@
 use Rattle.std.proofs.Common.{◌≡◌, ◌⊎◌, inl, inr, ⊎_elim, ℕ, Bool, true, false, List, [], Option, Some, None, Result, Ok, Err, refl, sym}
 use Rattle.std.proofs.Common.{◌∙◌, ap}
 use Rattle.journal_disk.specs.Files.{Files, no_files}
-use Rattle.journal_disk.specs.Images.{DiskState, IsDisk, IsEmptied, IsToldAlike, Opens}
+use Rattle.journal_disk.specs.Images.{DiskState, IsDisk, AreFilesEmptied, IsToldAlike, Opens}
 use Rattle.journal_store.specs.Content.{content}
-use Rattle.journal_store.specs.Kept.{AtEachMoment, Changes, HasEitherContent, IsOldOr, IsSettled, Leaves, CanLeave, opened}
+use Rattle.journal_store.specs.Kept.{AtEachMoment, Changes, HasEitherContent, IsOldOr, IsDiskSettled, Leaves, CanLeave, if_path}
 use Rattle.journal_store.proofs.Moments.{alike_more, goes_on, joins, started, still_told, told, weaker}
 
 -- ## After the files were opened again
@@ -49,7 +49,7 @@ module _ (a b : DiskState) (alike : IsToldAlike a.seen b.seen)
       told = alike_more a.seen b.seen c.seen alike alike_now;
     }
 
-    pub changed : {E : Type 0} → ((g h : Files) → b.seen ≡ Some g → c.seen ≡ Some h → content h ≡ made (content g)) → IsSettled c
+    pub changed : {E : Type 0} → ((g h : Files) → b.seen ≡ Some g → c.seen ≡ Some h → content h ≡ made (content g)) → IsDiskSettled c
         → Changes {E = E} made a c (Ok tt)
     changed done settled = record {
       any_moment = at_each;
@@ -67,30 +67,30 @@ same_content o f g is at = let e : f ≡ g = cc in ap content (sym e)
 no_content : content no_files ≡ []
 no_content = refl
 
-opened_none : (path : Bool) (x : List ℕ) → path ≡ false → opened path x ≡ []
-opened_none path x e = ap (λ (p : Bool). opened p x) e
+opened_none : (path : Bool) (x : List ℕ) → path ≡ false → if_path path x ≡ []
+opened_none path x e = ap (λ (p : Bool). if_path p x) e
 
-opened_path : (path : Bool) (x : List ℕ) → path ≡ true → opened path x ≡ x
-opened_path path x e = ap (λ (p : Bool). opened p x) e
+opened_path : (path : Bool) (x : List ℕ) → path ≡ true → if_path path x ≡ x
+opened_path path x e = ap (λ (p : Bool). if_path p x) e
 
 module _ {E : Type 0} (path : Bool) (a b : DiskState) (r : Result (Unit {0}) E) (opens : Opens path a b r) where
   -- an image is one of before, or has no bytes
-  left : (f c : Files) → b.leaves c → IsOldOr a (opened path (content f)) c
+  left : (f c : Files) → b.leaves c → IsOldOr a (if_path path (content f)) c
   left f c now =
       ⊎_elim (λ (was : a.leaves c). inl (c, was, refl))
       (λ (h : (path ≡ false) × (c ≡ no_files)). inr (ap content h.1 ∙ no_content ∙ sym (opened_none path (content f) h.0)))
       (opens.leaves c now)
 
-  pub opening_moments : AtEachMoment a b (opened path)
+  pub opening_moments : AtEachMoment a b (if_path path)
   opening_moments f is =
-      goes_on a a b (IsOldOr a (opened path (content f))) (started a (IsOldOr a (opened path (content f))) (λ c now. inl (c, now, refl)))
+      goes_on a a b (IsOldOr a (if_path path (content f))) (started a (IsOldOr a (if_path path (content f))) (λ c now. inl (c, now, refl)))
       opens.time (left f)
 
 pub not_open_same : {E : Type 0} (path : Bool) (a b : DiskState) (d : E) → Opens path a b (Err d) → (f g : Files) → a.seen ≡ Some f
     → b.seen ≡ Some g → content g ≡ content f
 not_open_same path a b d opens f g is at = same_content a.seen f g is (sym (opens.same (inr (d, refl))) ∙ at)
 
-pub not_open : {E : Type 0} (path : Bool) (a b : DiskState) (d : E) → Opens path a b (Err d) → Changes (opened path) a b (Err d)
+pub not_open : {E : Type 0} (path : Bool) (a b : DiskState) (d : E) → Opens path a b (Err d) → Changes (if_path path) a b (Err d)
 not_open path a b d opens = record {
   any_moment = opening_moments path a b (Err d) opens;
   either = λ f g is at. inl (not_open_same path a b d opens f g is at);
@@ -99,13 +99,13 @@ not_open path a b d opens = record {
   told = opens.told;
 }
 
-emptied : (o p : Option Files) (g : Files) → IsEmptied o p → p ≡ Some g → g ≡ no_files
+emptied : (o p : Option Files) (g : Files) → AreFilesEmptied o p → p ≡ Some g → g ≡ no_files
 emptied o None g h e = absurd cc
 emptied o (Some x) g h e = let same : x ≡ g = cc in sym same ∙ h
 
 -- without a path
 pub none_opened : {E : Type 0} (path : Bool) (a b : DiskState) (r : Result (Unit {0}) E) → r ≡ Ok tt → path ≡ false → Opens path a b r
-    → Changes (opened path) a b r
+    → Changes (if_path path) a b r
 none_opened path a b (Err d) ok none opens = absurd cc
 none_opened path a b (Ok d) ok none opens = record {
   any_moment = opening_moments path a b (Ok d) opens;
@@ -115,7 +115,7 @@ none_opened path a b (Ok d) ok none opens = record {
   told = opens.told;
 }
   where
-    now : (f g : Files) → b.seen ≡ Some g → content g ≡ opened path (content f)
+    now : (f g : Files) → b.seen ≡ Some g → content g ≡ if_path path (content f)
     now f g at = ap content (emptied a.seen b.seen g (opens.emptied none) at) ∙ no_content ∙ sym (opened_none path (content f) none)
 
 module _ {E : Type 0} (path : Bool) (a b c : DiskState) (opens : Opens {E = E} path a b (Ok tt)) (disk : IsDisk b) (disk_now : IsDisk c)
@@ -123,31 +123,31 @@ module _ {E : Type 0} (path : Bool) (a b c : DiskState) (opens : Opens {E = E} p
     (moments : (g : Files) → b.seen ≡ Some g → Leaves (λ c. CanLeave b (content c)) b c)
     (same : (g h : Files) → b.seen ≡ Some g → c.seen ≡ Some h → content h ≡ content g) where
   -- what a read gives once the files are open
-  open_content : (f g : Files) → a.seen ≡ Some f → b.seen ≡ Some g → content g ≡ opened path (content f)
+  open_content : (f g : Files) → a.seen ≡ Some f → b.seen ≡ Some g → content g ≡ if_path path (content f)
   open_content f g is at = on path refl
     where
-      on : (p : Bool) → path ≡ p → content g ≡ opened path (content f)
+      on : (p : Bool) → path ≡ p → content g ≡ if_path path (content f)
       on true e =
           let was : a.seen ≡ Some g = sym (opens.same (inl e)) ∙ at in
           let eq : f ≡ g = cc in
           ap content (sym eq) ∙ sym (opened_path path (content f) e)
       on false e = ap content (emptied a.seen b.seen g (opens.emptied e) at) ∙ no_content ∙ sym (opened_none path (content f) e)
 
-  opening_each : AtEachMoment a c (opened path)
+  opening_each : AtEachMoment a c (if_path path)
   opening_each f is =
       let mid = still_told a.seen b.seen f opens.told is in
-      joins a b c (IsOldOr a (opened path (content f))) (λ e. CanLeave b (content e)) (IsOldOr a (opened path (content f)))
+      joins a b c (IsOldOr a (if_path path (content f))) (λ e. CanLeave b (content e)) (IsOldOr a (if_path path (content f)))
       (opening_moments path a b (Ok tt) opens f is) (moments mid.0 mid.1) (λ e p. p)
       (λ e p.
       ⊎_elim (λ (h : CanLeave a (content p.0)). inl (h.0, h.1, h.2 ∙ p.2))
-      (λ (h : content p.0 ≡ opened path (content f)). inr (sym p.2 ∙ h)) (left path a b (Ok tt) opens f p.0 p.1))
+      (λ (h : content p.0 ≡ if_path path (content f)). inr (sym p.2 ∙ h)) (left path a b (Ok tt) opens f p.0 p.1))
 
-  open_now : (f h : Files) → a.seen ≡ Some f → c.seen ≡ Some h → content h ≡ opened path (content f)
+  open_now : (f h : Files) → a.seen ≡ Some f → c.seen ≡ Some h → content h ≡ if_path path (content f)
   open_now f h is at =
       let mid = still_told a.seen b.seen f opens.told is in
       same mid.0 h mid.1 at ∙ open_content f mid.0 is mid.1
 
-  pub not_found : (d : E) → Changes (opened path) a c (Err d)
+  pub not_found : (d : E) → Changes (if_path path) a c (Err d)
   not_found d = record {
     any_moment = opening_each;
     either = λ f h is at. inr (open_now f h is at);
@@ -159,7 +159,7 @@ module _ {E : Type 0} (path : Bool) (a b c : DiskState) (opens : Opens {E = E} p
   pub not_found_same : path ≡ true → (f h : Files) → a.seen ≡ Some f → c.seen ≡ Some h → content h ≡ content f
   not_found_same some f h is at = open_now f h is at ∙ opened_path path (content f) some
 
-  pub is_open_now : IsSettled c → Changes {E = E} (opened path) a c (Ok tt)
+  pub is_open_now : IsDiskSettled c → Changes {E = E} (if_path path) a c (Ok tt)
   is_open_now settled = record {
     any_moment = opening_each;
     either = λ f h is at. inr (open_now f h is at);

@@ -31,8 +31,8 @@ abbrev pub Settled : DiskState → List ℕ → Type 0
 Settled d x = (c : Files) → d.leaves c → content c ≡ x
 
 -- a store stands at the closed gate, and all of it is on the disk
-abbrev pub IsReady : DiskState → (log place : ℕ) → Type 0
-IsReady d log place = (f : Files) → d.seen ≡ Some f → IsShut log place f × Only f d.leaves
+abbrev pub IsStoreReady : DiskState → (log place : ℕ) → Type 0
+IsStoreReady d log place = (f : Files) → d.seen ≡ Some f → IsShut log place f × Only f d.leaves
 
 -- a record is written and its gate is closed, and all of it is on the disk
 abbrev pub IsStaged : DiskState → (log place : ℕ) → (bytes x : List ℕ) → Type 0
@@ -48,13 +48,13 @@ abbrev pub AtEachMoment : DiskState → DiskState → (List ℕ → List ℕ) �
 AtEachMoment old new made = (f : Files) → old.seen ≡ Some f → Leaves (IsOldOr old (made (content f))) old new
 
 -- a crash leaves what a read gives
-abbrev pub IsSettled : DiskState → Type 0
-IsSettled d = (f : Files) → d.seen ≡ Some f → Settled d (content f)
+abbrev pub IsDiskSettled : DiskState → Type 0
+IsDiskSettled d = (f : Files) → d.seen ≡ Some f → Settled d (content f)
 
 -- a store whose end is known stands ready at it
 abbrev pub IsStored : DiskState → Option LogPlace → Type 0
 IsStored d None = Unit {0}
-IsStored d (Some end) = IsReady d end.log end.place × (end.log ≤ 2) × (end.place ≤ 2 ^ 62)
+IsStored d (Some end) = IsStoreReady d end.log end.place × (end.log ≤ 2) × (end.place ≤ 2 ^ 62)
 
 -- an image has the content of one log or of the other
 abbrev pub IsEitherLog : Files → Files → Type 0
@@ -66,10 +66,10 @@ pub record Changes {E : Type 0} (made : List ℕ → List ℕ) (old new : DiskSt
   pub any_moment : AtEachMoment old new made
   pub either : (f g : Files) → old.seen ≡ Some f → new.seen ≡ Some g → (content g ≡ content f) ⊎ (content g ≡ made (content f))
   pub done : OnOk result ((f g : Files) → old.seen ≡ Some f → new.seen ≡ Some g → content g ≡ made (content f))
-  pub settled : OnOk result (IsSettled new)
+  pub settled : OnOk result (IsDiskSettled new)
   pub told : IsToldAlike old.seen new.seen
 
 -- the content of the files under a path, or without a path none
-abbrev pub opened : Bool → List ℕ → List ℕ
-opened true x = x
-opened false x = []
+abbrev pub if_path : Bool → List ℕ → List ℕ
+if_path true x = x
+if_path false x = []

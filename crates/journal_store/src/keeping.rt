@@ -1,12 +1,13 @@
 //! A store as a keeper of bytes.
 ghost use Rattle.std.specs.Prelude.{◌≡◌, ◌≤◌, ◌++◌, List, ℕ, IfOk, IfSome, IsErrOf, OnOk, take};
+ghost use Rattle.std.specs.Prelude.{is_some};
 ghost use Rattle.std.specs.Io.KnownBytes.{Keeps};
 ghost use Rattle.outside.specs.Causes.{HasCause, Rose};
 ghost use Rattle.outside.specs.Written.{Writes};
-ghost use Rattle.record_journal.specs.Keepers.{Cuts, IsUntold, Opens, has_path};
+ghost use Rattle.record_journal.specs.Keepers.{Cuts, IsUntold, Opens};
 ghost use Rattle.journal_store.specs.Compacting.{IsOnly, Replaces};
 ghost use Rattle.journal_store.specs.Content.{content_of};
-ghost use Rattle.journal_store.specs.Kept.{AtEachMoment, Changes, IsSettled, CanLeave, opened};
+ghost use Rattle.journal_store.specs.Kept.{AtEachMoment, Changes, IsDiskSettled, CanLeave, if_path};
 
 use crate::store::JournalStore;
 use journal_disk::Disk;
@@ -35,10 +36,10 @@ impl<D: Disk> Keeper for JournalStore<D> {
 
     /// A crash that stops it leaves a content of before, or without a path none.
     fn open_at(&mut self, path: Option<&str>) -> Result<(), Failed>
-        ensures bytes { Opens (has_path path.entry) (content_of (D.state self.old).seen)
+        ensures bytes { Opens (is_some path.entry) (content_of (D.state self.old).seen)
             (content_of (D.state self.new).seen) result }
         ensures cause { HasCause (D.faults self.old) (D.faults self.new) result }
-        ensures changes { Changes (opened (has_path path.entry))
+        ensures changes { Changes (if_path (is_some path.entry))
             (D.state self.old) (D.state self.new) result }
     {
         self.open_path(path)
@@ -59,7 +60,7 @@ impl<D: Disk> Keeper for JournalStore<D> {
         ensures memory { IsErrOf result KeepFault.OutOfMemory →
             D.faults self.new ≡ D.faults self.old }
         ensures any_moment { AtEachMoment (D.state self.old) (D.state self.new) (λ x. x) }
-        ensures settled { OnOk result (IsSettled (D.state self.new)) }
+        ensures settled { OnOk result (IsDiskSettled (D.state self.new)) }
     {
         match self.read_bytes() {
             Ok(bytes) => Ok(Items::from_vec(bytes)),

@@ -1,11 +1,13 @@
 ghost use Rattle.std.specs.Prelude.{◌≡◌, ◌≤◌, ◌^◌, ◌++◌, List, ℕ, IfOk, OnErr, OnOk, Some, take};
+ghost use Rattle.std.specs.Prelude.{is_some};
 ghost use Rattle.outside.specs.Causes.{HasCause};
 ghost use Rattle.journal_disk.specs.Files.{Files};
-ghost use Rattle.journal_disk.specs.Images.{IsToldAlike, has_path};
+ghost use Rattle.journal_disk.specs.Images.{IsToldAlike};
 ghost use Rattle.journal_store.specs.Compacting.{HasKeepCause};
 ghost use Rattle.journal_store.specs.Content.{content};
-ghost use Rattle.journal_store.specs.Kept.{AtEachMoment, Changes, IsReady, IsSettled, IsStored};
-ghost use Rattle.journal_store.specs.Kept.{Leaves, CanLeave, opened};
+ghost use Rattle.journal_store.specs.Kept.{AtEachMoment, Changes, IsStoreReady, IsDiskSettled};
+ghost use Rattle.journal_store.specs.Kept.{IsStored};
+ghost use Rattle.journal_store.specs.Kept.{Leaves, CanLeave, if_path};
 
 use crate::appending::{append, open};
 use crate::gathering::read_content;
@@ -40,7 +42,7 @@ impl<D: Disk> Model for JournalStore<D> {
 /// The end that is known, or the one that is found.
 fn end_of<D: Disk>(disk: &mut D, end: Option<LogPlace>) -> Result<LogPlace, Failed>
     requires { IsStored (D.state disk.old) end }
-    ensures ready { IfOk result (λ end. IsReady (D.state disk.new) end.log end.place) }
+    ensures ready { IfOk result (λ end. IsStoreReady (D.state disk.new) end.log end.place) }
     ensures log { IfOk result (λ end. end.log ≤ 2) }
     ensures place { IfOk result (λ end. end.place ≤ 2 ^ 62) }
     ensures any_moment { (f : Files) → (D.state disk.old).seen ≡ Some f →
@@ -81,7 +83,7 @@ impl<D: Disk> JournalStore<D> {
     /// Opens what a crash may have left under a path. Without a path the files are empty, and the
     /// next call opens them.
     pub(crate) fn open_path(&mut self, path: Option<&str>) -> Result<(), Failed>
-        ensures changes { Changes (opened (has_path path.entry))
+        ensures changes { Changes (if_path (is_some path.entry))
             (D.state self.old) (D.state self.new) result }
         ensures same { OnErr result ((f g : Files) → (D.state self.old).seen ≡ Some f
             → (D.state self.new).seen ≡ Some g → content g ≡ content f) }
@@ -140,7 +142,7 @@ impl<D: Disk> JournalStore<D> {
         ensures same { (f g : Files) → (D.state self.old).seen ≡ Some f
             → (D.state self.new).seen ≡ Some g → content g ≡ content f }
         ensures any_moment { AtEachMoment (D.state self.old) (D.state self.new) (λ x. x) }
-        ensures settled { OnOk result (IsSettled (D.state self.new)) }
+        ensures settled { OnOk result (IsDiskSettled (D.state self.new)) }
         ensures told { IsToldAlike (D.state self.old).seen (D.state self.new).seen }
         ensures cause { HasKeepCause (D.faults self.old) (D.faults self.new) result }
     {

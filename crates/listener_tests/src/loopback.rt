@@ -43,8 +43,8 @@ fn echoes<N: Listener>(listener: &mut N, peer: &mut TcpStream) -> bool {
     is_written && is_answered && is_read && byte[0] == b'b' && ends
 }
 
-/// Whether nobody comes to the listener's port until a peer does, a byte comes back from it, of the
-/// loopback, and it then is closed.
+/// Whether no connection is made to the listener's port until a peer connects, a byte then returns
+/// from the port, its address is of the loopback, and it is closed afterwards.
 fn is_exchanged<N: Listener, R: Net<Stream = TcpStream>>(
     net: &R,
     listener: &mut N,

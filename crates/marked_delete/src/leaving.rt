@@ -1,9 +1,10 @@
-ghost use Rattle.std.specs.Prelude.{ℕ, Bool, ◌≡◌, ◌+◌, ◌≤◌, [], true, false, find, length, OnOk, Ok};
+ghost use Rattle.std.specs.Prelude.{ℕ, Bool, ◌≡◌, ◌+◌, ◌≤◌, [], true, false, find, length, OnOk};
+ghost use Rattle.std.specs.Prelude.{Ok};
 ghost use Rattle.std.specs.Prelude.{Err, if◌then◌else◌};
 ghost use Rattle.number_lists.specs.Rising.{AreRising, with_number};
-ghost use Rattle.number_lists.specs.UnderName.{has};
 ghost use Rattle.marked_delete.specs.Left.{left};
 ghost use Rattle.scm_model.specs.declared.codes.TheConstants.{ERROR_SERVICE_MARKED_FOR_DELETE};
+ghost use Rattle.scm_text.specs.Numbers.{has};
 
 use number_lists::Numbers;
 use scm_model::codes::ERROR_SERVICE_MARKED_FOR_DELETE;

@@ -12,7 +12,7 @@ use Rattle.std.proofs.lemmas.Bool.Decides.{leb_tells}
 use Rattle.std.proofs.lemmas.List.Elements.{filter-append}
 use Rattle.std.proofs.lemmas.List.Sorted.{IsNonDecreasingBy-insert}
 use Rattle.scm_model.specs.declared.flat.Registration.{Registration}
-use Rattle.scm_model.specs.Notices.{Event, new_registration, noted, notified, put_in, takes_event, taken_if}
+use Rattle.scm_model.specs.Notices.{Event, new_registration, noted, notified, put_in, takes_event, taken_once}
 use Rattle.notify_queue.specs.Queued.{notice_at, notice_of}
 
 -- ## Lists
@@ -60,7 +60,7 @@ service_noted event row =
     row).service ≡ row.service)
     [ true ↦ refl | false ↦ refl ]
 
-pub service_taken : (number : ℕ) (row : Registration) → (taken_if number row).service ≡ row.service
+pub service_taken : (number : ℕ) (row : Registration) → (taken_once number row).service ≡ row.service
 service_taken number row =
     elim (row.number == number && not (row.fired == 0)) as (λ b. (cond b
     (record row {

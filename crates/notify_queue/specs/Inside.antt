@@ -10,12 +10,12 @@ use Rattle.notify_queue.specs.declared.queue.NotifyQueue.TheInside.{Inside}
 abbrev pub IsFresh : TextWithRoom → Type 0
 IsFresh text = text ≡ record { units = []; room = 256 }
 
-abbrev pub spare_of : Option TextWithRoom → ℕ
-spare_of None = 0
-spare_of (Some text) = 1
+abbrev pub spare_count : Option TextWithRoom → ℕ
+spare_count None = 0
+spare_count (Some text) = 1
 
 abbrev pub queued : Inside → Queued
-queued q = record { rows = q.rows.items; spare = spare_of q.made }
+queued q = record { rows = q.rows.items; spare = spare_count q.made }
 
 -- registrations stand in the order of their services; one for whose name room was made finds room
 pub record IsOrdered (q : Inside) : Type 0 where

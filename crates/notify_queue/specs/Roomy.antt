@@ -4,9 +4,9 @@ use Rattle.scm_text.specs.TextWithRoom.{TextWithRoom}
 use Rattle.scm_model.specs.declared.flat.Registration.{Registration}
 use Rattle.notify_queue.specs.declared.row.NotifyRow.TheInside.{Inside}
 
-abbrev pub units_of : Option TextWithRoom → List ℕ
-units_of None = []
-units_of (Some text) = text.units
+abbrev pub units_in : Option TextWithRoom → List ℕ
+units_in None = []
+units_in (Some text) = text.units
 
 -- a text that has room for a name
 abbrev pub HasNameRoom : TextWithRoom → Type 0
@@ -20,11 +20,11 @@ registration_in a = record {
   mask = a.mask;
   fired = a.fired;
   status = a.status;
-  name = units_of a.name;
+  name = units_in a.name;
   spent = a.spent;
 }
 
--- until its event is taken a registration has room for a name, and then it is told of no other
+-- until its event is taken a registration has room for a name; after that it is notified of no other event
 pub record HasRoom (a : Inside) : Type 0 where
   pub unspent : a.spent ≡ false → IsSome a.name
   pub spent : a.spent ≡ true → a.fired ≡ 0

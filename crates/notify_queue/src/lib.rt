@@ -1,4 +1,4 @@
-//! The registrations: who is told of which events, and what each was told.
+//! The registrations: which caller waits for which events, and the event that each was notified of.
 #![tactic(auto)]
 
 mod queue;

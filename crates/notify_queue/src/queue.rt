@@ -1,5 +1,5 @@
 ghost use Rattle.std.specs.Prelude.{◌≡◌, ◌==◌, ◌≤◌, [], not, filter, length, map, OnErr, OnOk};
-ghost use Rattle.scm_model.specs.Notices.{new_registration, noted, notified, put_in, taken_if};
+ghost use Rattle.scm_model.specs.Notices.{new_registration, noted, notified, put_in, taken_once};
 ghost use Rattle.notify_queue.specs.Queued.{notice_of};
 
 use super::row::{MAX_NAME, Notice, NotifyRow};
@@ -61,7 +61,8 @@ impl NotifyQueue {
     /// Adds a registration. It takes no memory.
     pub fn register(&mut self, number: u64, caller: u64, service: u64, mask: u32)
         requires { 1 ≤ self.old.spare }
-        ensures { self.new.rows ≡ put_in (new_registration number caller service mask) self.old.rows }
+        ensures { self.new.rows ≡ put_in (new_registration number caller service mask)
+            self.old.rows }
     {
         let name = replace(&mut self.made, None).unwrap();
         put_in(
@@ -70,7 +71,7 @@ impl NotifyQueue {
         );
     }
 
-    /// Adds a registration, which is told of an event of a service at once, where it waits for it.
+    /// Adds a registration, and notifies it at once of an event of a service if it waits for that.
     /// It takes no memory.
     pub fn register_told(
         &mut self,
@@ -118,7 +119,7 @@ impl NotifyQueue {
     /// absent. It takes no memory.
     pub fn take_results(&mut self, number: u64) -> Option<Notice>
         ensures notice { result ≡ notice_of number self.old.rows }
-        ensures rows { self.new.rows ≡ map (taken_if number) self.old.rows }
+        ensures rows { self.new.rows ≡ map (taken_once number) self.old.rows }
         ensures spare { self.new.spare ≡ self.old.spare }
     {
         take_in(&mut self.rows, number)

@@ -1,5 +1,5 @@
 ghost use Rattle.std.specs.Prelude.{◌≡◌, ◌≤◌, ◌==◌, [], length, option_map, if◌then◌else◌, IfSome};
-ghost use Rattle.scm_model.specs.Notices.{new_registration, notified, taken_if};
+ghost use Rattle.scm_model.specs.Notices.{new_registration, notified, taken_once};
 ghost use Rattle.notify_queue.specs.Roomy.{HasNameRoom};
 ghost use Rattle.notify_queue.specs.Queued.{notice_at};
 
@@ -67,7 +67,8 @@ fn written(text: Option<TextRoom>) -> Option<WText>
 
 /// What was told with a name.
 fn told(bit: u32, status: ProcessStatus, name: Option<WText>) -> Option<Notice>
-    ensures { result ≡ option_map (λ name. record { bit = bit; status = status; name = name }) name }
+    ensures { result ≡ option_map (λ name. record { bit = bit; status = status; name = name })
+        name }
 {
     match name {
         Some(name) => Some(Notice { bit, status, name }),
@@ -133,7 +134,7 @@ impl NotifyRow {
     /// before. No second event comes.
     pub fn take(&mut self, number: u64, before: Option<Notice>) -> Option<Notice>
         ensures notice { result ≡ if self.old.number == number then notice_at self.old else before }
-        ensures row { self.new ≡ taken_if number self.old }
+        ensures row { self.new ≡ taken_once number self.old }
     {
         if self.number != number {
             return before;

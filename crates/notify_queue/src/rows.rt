@@ -1,7 +1,7 @@
 ghost use Rattle.std.specs.Prelude.{◌≡◌, ◌==◌, ◌≤◌, ◌<◌, not, filter, length, map, vec_capacity};
 ghost use Rattle.std.specs.Prelude.{vec_len};
 ghost use Rattle.std.specs.List.Sorted.{IsNonDecreasingBy, IsPartitionPoint};
-ghost use Rattle.scm_model.specs.Notices.{noted, put_in, taken_if};
+ghost use Rattle.scm_model.specs.Notices.{noted, put_in, taken_once};
 ghost use Rattle.notify_queue.specs.Queued.{notice_of};
 
 use super::row::{Notice, NotifyRow};
@@ -54,7 +54,7 @@ pub fn note_in(
     }
 }
 
-/// Puts a row behind those of its service.
+/// Puts a row after those of its service.
 pub fn put_in(rows: &mut Vec<NotifyRow>, row: NotifyRow)
     requires sorted { IsNonDecreasingBy (λ row. row.service) rows.old.items }
     requires room { vec_len rows.old < vec_capacity rows.old }
@@ -68,7 +68,7 @@ pub fn put_in(rows: &mut Vec<NotifyRow>, row: NotifyRow)
 /// Takes the event that the row with a number was told of.
 pub fn take_in(rows: &mut Vec<NotifyRow>, number: u64) -> Option<Notice>
     ensures notice { result ≡ notice_of number rows.old.items }
-    ensures rows { rows.new.items ≡ map (taken_if number) rows.old.items }
+    ensures rows { rows.new.items ≡ map (taken_once number) rows.old.items }
     ensures capacity { vec_capacity rows.new ≡ vec_capacity rows.old }
     ensures len { vec_len rows.new ≡ vec_len rows.old }
 {

@@ -1,12 +1,9 @@
 -- Lists of numbers under texts.
-use Rattle.std.specs.Prelude.{ℕ, ◌≡◌, ◌≤◌, Bool, false, List, [], Option, None, Some, eqb, if◌then◌else◌}
-use Rattle.std.specs.List.{list_any}
+use Rattle.std.specs.Prelude.{ℕ, ◌≡◌, ◌≤◌, false, List, [], Option, None, Some, if◌then◌else◌}
 use Rattle.std.specs.Map.{lookup}
 use Rattle.scm_text.specs.Fold.{same_text}
 use Rattle.scm_text.specs.Roomed.{Roomed}
-
-abbrev pub has : List ℕ → ℕ → Bool
-has numbers number = list_any (eqb number) numbers
+use Rattle.scm_text.specs.Numbers.{has}
 
 abbrev pub items_in : Option (Roomed ℕ) → List ℕ
 items_in None = []

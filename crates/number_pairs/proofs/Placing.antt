@@ -11,7 +11,7 @@ use Rattle.std.proofs.lemmas.Bool.{cases_lt}
 use Rattle.std.proofs.lemmas.Cmp.{nat_cmp_total, on_total, then_total}
 use Rattle.std.proofs.lemmas.Map.Lookups.{exact_pairs, exact_unsigned}
 use Rattle.number_pairs.specs.declared.pairs.Pair.{Pair}
-use Rattle.number_pairs.specs.Keyed.{pair_cmp, AreRising, has_pair, with_pair, without_pair}
+use Rattle.number_pairs.specs.Keyed.{pair_cmp, AreSorted, has_pair, with_pair, without_pair}
 
 -- ## The order
 
@@ -76,7 +76,7 @@ all_at P [] k d all lt = absurd (omega arith)
 all_at P (x ∷ xs) zero d all lt = all.0
 all_at P (x ∷ xs) (suc k) d all lt = all_at P xs k d all.1 (omega arith)
 
-pub compare_rising : (xs : List Pair) (p : Pair) → AreRising xs → IsNonDecreasingBy (λ y. ordering_index (pair_cmp y p)) xs
+pub compare_rising : (xs : List Pair) (p : Pair) → AreSorted xs → IsNonDecreasingBy (λ y. ordering_index (pair_cmp y p)) xs
 compare_rising [] p rising i j d le lt = absurd (omega arith)
 compare_rising (x ∷ xs) p rising zero zero d le lt = omega arith
 compare_rising (x ∷ xs) p rising (suc i) zero d le lt = absurd (omega arith)
@@ -164,7 +164,7 @@ inserted_is xs i p place le =
     insert_is xs i p le ∙ ap (λ ys. ys ++ p ∷ drop i xs) front ∙ ap (λ ys. filter (λ y. is_lt (pair_cmp y p)) xs ++ p ∷ ys) back
 
 -- one that is there stays
-pub with_found : (xs : List Pair) (i : ℕ) (p : Pair) → AreRising xs → i < length xs → HoldsAt (λ y. pair_cmp y p ≡ Equal) xs i
+pub with_found : (xs : List Pair) (i : ℕ) (p : Pair) → AreSorted xs → i < length xs → HoldsAt (λ y. pair_cmp y p ≡ Equal) xs i
     → with_pair xs p ≡ xs
 with_found [] i p rising lt is = absurd (omega arith)
 with_found (x ∷ xs) zero p rising lt is = with_same x xs p (is x) rising.0
@@ -173,7 +173,7 @@ with_found (x ∷ xs) (suc i) p rising lt is =
     let less = subst (λ y. pair_cmp x y ≡ Less) there (all_at (λ y. pair_cmp x y ≡ Less) xs i x rising.0 (omega arith)) in
     with_lesser x xs p less ∙ ap (λ rest. x ∷ rest) (with_found xs i p rising.1 (omega arith) is)
 
-all_with : (P : Pair → Type 0) (xs : List Pair) (p : Pair) → AreRising xs → AllByRecursion P xs → P p → AllByRecursion P (with_pair xs p)
+all_with : (P : Pair → Type 0) (xs : List Pair) (p : Pair) → AreSorted xs → AllByRecursion P xs → P p → AllByRecursion P (with_pair xs p)
 all_with P [] p rising all one = (one, tt)
 all_with P (x ∷ xs) p rising all one =
     elim (pair_cmp x p) as (λ o. pair_cmp x p ≡ o → AllByRecursion P (with_pair (x ∷ xs) p)) [
@@ -182,15 +182,15 @@ all_with P (x ∷ xs) p rising all one =
       | Greater ↦ λ e. subst (AllByRecursion P) (sym (with_greater x xs p e rising.0)) (one, all)
     ] refl
 
-pub rising_with : (xs : List Pair) (p : Pair) → AreRising xs → AreRising (with_pair xs p)
+pub rising_with : (xs : List Pair) (p : Pair) → AreSorted xs → AreSorted (with_pair xs p)
 rising_with [] p rising = (tt, tt)
 rising_with (x ∷ xs) p rising =
-    elim (pair_cmp x p) as (λ o. pair_cmp x p ≡ o → AreRising (with_pair (x ∷ xs) p)) [
+    elim (pair_cmp x p) as (λ o. pair_cmp x p ≡ o → AreSorted (with_pair (x ∷ xs) p)) [
       | Less ↦ λ e.
-          subst AreRising (sym (with_lesser x xs p e))
+          subst AreSorted (sym (with_lesser x xs p e))
           (all_with (λ y. pair_cmp x y ≡ Less) xs p rising.1 rising.0 e, rising_with xs p rising.1)
-      | Equal ↦ λ e. subst AreRising (sym (with_same x xs p e rising.0)) rising
-      | Greater ↦ λ e. subst AreRising (sym (with_greater x xs p e rising.0)) (below_all x xs p e rising.0, rising)
+      | Equal ↦ λ e. subst AreSorted (sym (with_same x xs p e rising.0)) rising
+      | Greater ↦ λ e. subst AreSorted (sym (with_greater x xs p e rising.0)) (below_all x xs p e rising.0, rising)
     ] refl
 
 few_others : (xs : List Pair) (p : Pair)
@@ -223,15 +223,15 @@ all_filter P test (x ∷ xs) all =
       | false ↦ all_filter P test xs all.1
     ]
 
-pub rising_filter : (test : Pair → Bool) (xs : List Pair) → AreRising xs → AreRising (filter test xs)
+pub rising_filter : (test : Pair → Bool) (xs : List Pair) → AreSorted xs → AreSorted (filter test xs)
 rising_filter test [] rising = tt
 rising_filter test (x ∷ xs) rising =
-    elim (test x) as (λ b. AreRising (cond b (x ∷ filter test xs) (filter test xs))) [
+    elim (test x) as (λ b. AreSorted (cond b (x ∷ filter test xs) (filter test xs))) [
       | true ↦ (all_filter (λ y. pair_cmp x y ≡ Less) test xs rising.0, rising_filter test xs rising.1)
       | false ↦ rising_filter test xs rising.1
     ]
 
-pub rising_without : (xs : List Pair) (p : Pair) → AreRising xs → AreRising (without_pair xs p)
+pub rising_without : (xs : List Pair) (p : Pair) → AreSorted xs → AreSorted (without_pair xs p)
 rising_without xs p = rising_filter (λ y. not (is_eq (pair_cmp y p))) xs
 
 none_equal : (x : Pair) (xs : List Pair) (p : Pair) → pair_cmp x p ≡ Equal → Behind x xs → without_pair xs p ≡ xs
@@ -240,7 +240,7 @@ none_equal x xs p same rising =
     filter_all (λ y. not (is_eq (pair_cmp y p))) xs
     (all_weaker (λ y. pair_cmp y p ≡ Greater) (λ y. not (is_eq (pair_cmp y p)) ≡ true) (λ y h. ap (λ o. not (is_eq o)) h) xs behind)
 
-pub removed_is : (xs : List Pair) (i : ℕ) (p : Pair) → AreRising xs → i < length xs → HoldsAt (λ y. pair_cmp y p ≡ Equal) xs i
+pub removed_is : (xs : List Pair) (i : ℕ) (p : Pair) → AreSorted xs → i < length xs → HoldsAt (λ y. pair_cmp y p ≡ Equal) xs i
     → remove xs i ≡ without_pair xs p
 removed_is [] i p rising lt is = absurd (omega arith)
 removed_is (x ∷ xs) zero p rising lt is = rw (is x) (sym (none_equal x xs p (is x) rising.0))

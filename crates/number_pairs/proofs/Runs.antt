@@ -7,13 +7,13 @@ use Rattle.std.proofs.lemmas.Bool.Decides.{nat_tests}
 use Rattle.std.proofs.lemmas.Bool.{eq-eqb, ne_eqb, lt-ltb, le-ltb, le-leb, lt-leb, cases_order}
 use Rattle.std.proofs.lemmas.List.{length-drop, take_all}
 use Rattle.number_pairs.specs.declared.pairs.Pair.{Pair}
-use Rattle.number_pairs.specs.Keyed.{pair_cmp, AreRising, has_key}
+use Rattle.number_pairs.specs.Keyed.{pair_cmp, AreSorted, has_key}
 use Rattle.number_pairs.proofs.Placing.{all_at, front_is, rest_is, rising_filter}
 
 lesser_key : (a b : Pair) → pair_cmp a b ≡ Less → a.key ≤ b.key
 lesser_key a b less = grind (arith, nat_tests)
 
-pub keys_rise : (xs : List Pair) → AreRising xs → IsNonDecreasingBy (λ (p : Pair). p.key) xs
+pub keys_rise : (xs : List Pair) → AreSorted xs → IsNonDecreasingBy (λ (p : Pair). p.key) xs
 keys_rise [] rising i j d le lt = absurd (omega arith)
 keys_rise (x ∷ xs) rising zero zero d le lt = omega arith
 keys_rise (x ∷ xs) rising (suc i) zero d le lt = absurd (omega arith)
@@ -36,7 +36,7 @@ pub begins_at : (key : ℕ) (xs : List Pair) (i : ℕ) → IsPartitionPoint (λ 
 begins_at key xs i point le =
     rest_is (λ y. not (is_under key y)) xs i (λ k d low lt. ap not (point.0 k d low lt)) (λ k d low lt. ap not (point.1 k d low lt)) le
 
-pub rest_rises : (key : ℕ) (xs : List Pair) → AreRising xs → AreRising (from_key key xs)
+pub rest_rises : (key : ℕ) (xs : List Pair) → AreSorted xs → AreSorted (from_key key xs)
 rest_rises key xs = rising_filter (λ y. not (is_under key y)) xs
 
 both : (key : ℕ) (xs : List Pair) → filter (is_upto key) (from_key key xs) ≡ filter (has_key key) xs

@@ -9,7 +9,7 @@ use Rattle.std.proofs.lemmas.Bool.{eq-eqb, eqb-true, ne_eqb, lt-ltb, le-ltb, cas
 use Rattle.number_lists.specs.Rising.{with_number, without_number}
 use Rattle.number_lists.specs.Rising as numbers
 use Rattle.number_pairs.specs.declared.pairs.Pair.{Pair}
-use Rattle.number_pairs.specs.Keyed.{pair_cmp, AreRising, with_pair, without_pair, has_key, numbers_under}
+use Rattle.number_pairs.specs.Keyed.{pair_cmp, AreSorted, with_pair, without_pair, has_key, numbers_under}
 use Rattle.number_pairs.proofs.Placing.{same_pair, lesser_number, with_lesser, with_same, with_greater, below_all, Behind}
 
 abbrev NumbersAbove : ℕ → ℕ → List Pair → Type 0
@@ -35,7 +35,7 @@ numbers_above p (x ∷ xs) all =
       | inr other ↦ rw other (numbers_above p xs all.1)
     ]
 
-pub numbers_rise : (key : ℕ) (xs : List Pair) → AreRising xs → numbers.AreRising (numbers_under key xs)
+pub numbers_rise : (key : ℕ) (xs : List Pair) → AreSorted xs → numbers.AreRising (numbers_under key xs)
 numbers_rise key [] rising = tt
 numbers_rise key (x ∷ xs) rising =
     elim (cases_Bool (has_key key x)) [
@@ -88,7 +88,7 @@ put_behind other x p ns less =
       | inr apart ↦ rw apart refl
     ]
 
-pub put_under : (xs : List Pair) (p : Pair) → AreRising xs → (other : ℕ)
+pub put_under : (xs : List Pair) (p : Pair) → AreSorted xs → (other : ℕ)
     → numbers_under other (with_pair xs p) ≡ put_in other p (numbers_under other xs)
 put_under [] p rising other = put_first other p [] tt
 put_under (x ∷ xs) p rising other =

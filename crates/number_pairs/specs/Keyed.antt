@@ -11,9 +11,9 @@ abbrev pub pair_cmp : Pair → Pair → Ordering
 pair_cmp a b = ordering_then (nat_cmp a.key b.key) (nat_cmp a.number b.number)
 
 -- each pair is less than those after it
-abbrev pub AreRising : List Pair → Type 0
-AreRising [] = ⊤
-AreRising (pair ∷ pairs) = AllByRecursion (λ other. pair_cmp pair other ≡ Less) pairs × AreRising pairs
+abbrev pub AreSorted : List Pair → Type 0
+AreSorted [] = ⊤
+AreSorted (pair ∷ pairs) = AllByRecursion (λ other. pair_cmp pair other ≡ Less) pairs × AreSorted pairs
 
 abbrev pub has_pair : List Pair → Pair → Bool
 has_pair pairs pair = list_any (λ other. is_eq (pair_cmp other pair)) pairs

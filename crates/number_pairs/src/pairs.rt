@@ -2,7 +2,7 @@ ghost use Rattle.std.specs.Prelude.{◌≡◌, ◌+◌, ◌<◌, ◌≤◌, [], 
 ghost use Rattle.std.specs.Prelude.{length, vec_capacity, vec_len};
 ghost use Rattle.number_lists.specs.Rising.{with_number, without_number};
 ghost use Rattle.number_lists.specs.Rising as numbers;
-ghost use Rattle.number_pairs.specs.Keyed.{AreRising, ChangesUnder, has_key, has_pair};
+ghost use Rattle.number_pairs.specs.Keyed.{AreSorted, ChangesUnder, has_key, has_pair};
 ghost use Rattle.number_pairs.specs.Keyed.{numbers_under, with_pair, without_pair};
 
 use scm_text::OutOfMemory;
@@ -27,19 +27,19 @@ impl Model for NumberPairs {
     ghost use Rattle.std.specs.Prelude.{◌-◌, vec_capacity, vec_len};
     ghost use Rattle.scm_text.specs.Roomed.{Roomed};
     ghost use Rattle.number_pairs.specs.declared.pairs.Pair.{Pair};
-    ghost use Rattle.number_pairs.specs.Keyed.{AreRising};
+    ghost use Rattle.number_pairs.specs.Keyed.{AreSorted};
 
     ghost Value = { Roomed Pair };
 
     ghost view = { λ p.
         record { items = p.list.items; room = vec_capacity p.list - vec_len p.list } };
 
-    ghost invariant = { λ p. AreRising p.list.items };
+    ghost invariant = { λ p. AreSorted p.list.items };
 }
 
 /// The pairs with a key, which stand side by side.
 fn run_of(pairs: &[Pair], key: u64) -> &[Pair]
-    requires { AreRising pairs.now }
+    requires { AreSorted pairs.now }
     ensures { result.now ≡ filter (has_key key) pairs.now }
 {
     let start = pairs.partition_point(|pair| pair.key < key);
@@ -50,11 +50,11 @@ fn run_of(pairs: &[Pair], key: u64) -> &[Pair]
 
 /// Puts a pair into its place, unless it is there.
 fn add_to(list: &mut Vec<Pair>, pair: Pair)
-    requires rising { AreRising list.old.items }
+    requires rising { AreSorted list.old.items }
     requires room { has_pair list.old.items pair ≡ false
         → vec_len list.old < vec_capacity list.old }
     ensures items { list.new.items ≡ with_pair list.old.items pair }
-    ensures rising { AreRising list.new.items }
+    ensures rising { AreSorted list.new.items }
     ensures capacity { vec_capacity list.old ≤ vec_capacity list.new }
 {
     if let Err(place) = list.as_slice().binary_search(&pair) {
@@ -64,9 +64,9 @@ fn add_to(list: &mut Vec<Pair>, pair: Pair)
 
 /// Takes a pair out.
 fn drop_from(list: &mut Vec<Pair>, pair: Pair)
-    requires rising { AreRising list.old.items }
+    requires rising { AreSorted list.old.items }
     ensures items { list.new.items ≡ without_pair list.old.items pair }
-    ensures rising { AreRising list.new.items }
+    ensures rising { AreSorted list.new.items }
     ensures capacity { vec_capacity list.old ≤ vec_capacity list.new }
 {
     if let Ok(place) = list.as_slice().binary_search(&pair) {

@@ -5,7 +5,7 @@ use Rattle.std.specs.Prelude.{ℕ, ◌≡◌, ◌+◌, ◌-◌, ◌^◌, min, Bo
 abbrev pub fails_next : List Bool → Bool
 fails_next fails = slice_index_or fails (length fails - 1) false
 
--- what is left behind a call
+-- what is left after a call
 abbrev pub later : {A : Type 0} → List A → List A
 later fates = take (length fates - 1) fates
 

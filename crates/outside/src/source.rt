@@ -40,7 +40,7 @@ fn give(rest: &[u8], piece: usize, into: &mut [u8]) -> usize
 #[derive(Drop)]
 pub struct MemorySource {
     bytes: Vec<u8>,
-    /// How many of the bytes are behind.
+    /// How many of the bytes were read.
     behind: usize,
     piece: usize,
     fails: Vec<bool>,

@@ -9,11 +9,11 @@ use Rattle.process_runner.specs.declared.spawning.SpawnFault.TheVariants.{NotFou
 use Rattle.process_runner.specs.declared.spawning.SpawnFaults.{SpawnFaults}
 
 -- how often a fault came
-abbrev pub count_of : SpawnFaults → SpawnFault → ℕ
-count_of faults NotFound = faults.not_found
-count_of faults NoPath = faults.no_path
-count_of faults Denied = faults.denied
-count_of faults Other = faults.other
+abbrev pub count_of_fault : SpawnFaults → SpawnFault → ℕ
+count_of_fault faults NotFound = faults.not_found
+count_of_fault faults NoPath = faults.no_path
+count_of_fault faults Denied = faults.denied
+count_of_fault faults Other = faults.other
 
 -- nothing failed yet
 abbrev pub no_faults : SpawnFaults
@@ -55,8 +55,8 @@ pub record SpawningMemory : Type 0 where
   pub fates : List StartFate
   pub faults : SpawnFaults
 
--- a start comes to what it is said to; where nothing is said no program is found, and where there is no memory for the words it
--- is another fault
+-- the outcome of a start is the one that is set for it; if none is set no program is found, and if there is no memory for the words the
+-- fault is Other
 abbrev pub ComesTo : Option StartFate → StartFate → Type 0
 ComesTo None result = result ≡ Err NotFound
 ComesTo (Some (Err fault)) result = result ≡ Err fault

@@ -25,10 +25,10 @@ fn add_texts(alloc: Global, texts: &mut Items<Text>, more: &[WText]) -> Result<(
     Ok(())
 }
 
-/// The words of the command line `path`, and `words` behind them, each in UTF-8. A word of a
-/// command line is a run of units between spaces that stand outside of double quotes, without its
-/// quotes; quotes that aren't closed reach to the end. A surrogate without its partner, which no
-/// path of a service has, becomes U+FFFD.
+/// The words of the command line `path`, followed by `words`, each in UTF-8. A word of a command
+/// line is a run of units between spaces that stand outside of double quotes, without its quotes;
+/// quotes that aren't closed reach to the end. A surrogate without its partner, which no path of a
+/// service has, becomes U+FFFD.
 pub fn split_command(
     alloc: Global,
     path: &[u16],

@@ -1,6 +1,12 @@
 ghost use Rattle.std.specs.Prelude.{◌≡◌, [], ◌∷◌, ◌++◌, IfOk, OnErr, OnOk, Some};
 ghost use Rattle.outside.specs.Fates.{later};
-ghost use Rattle.process_runner.specs.Spawning.{ComesTo, Starts, WillGive, faults_after, next_start};
+ghost use Rattle.process_runner.specs.Spawning.{
+  ComesTo,
+  Starts,
+  WillGive,
+  faults_after,
+  next_start,
+};
 ghost use Rattle.process_runner.specs.Spawning.{no_faults};
 
 use super::spawning::{SpawnFault, SpawnFaults, Spawned, Spawner};
@@ -10,9 +16,9 @@ use scm_text::{Items, OutOfMemory, Text};
 use std::alloc::Global;
 use std::marker::Model;
 
-/// Starts nothing but keeps the words. Each of `fates`, taken from its end, is what a start comes
-/// to; behind the last of them no program is found. Where there is no memory for the words the
-/// fault is `Other`.
+/// Starts nothing but keeps the words. Each of `fates`, taken from its end, is the outcome of a
+/// start; after the last of them no program is found. If there is no memory for the words the fault
+/// is `Other`.
 #[derive(Drop)]
 pub struct MemorySpawner {
     alloc: Global,

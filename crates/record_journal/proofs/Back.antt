@@ -16,7 +16,7 @@ use Rattle.service_record.proofs.Texts.{a_text}
 use Rattle.record_journal.specs.Entries.{Entries, IsPart, Whole, all_from, can_replay, change_in, entries, entries_from, first_of, followed}
 use Rattle.record_journal.specs.Entries.{if_read, last_of, name_of, replay_of, replayable, whole_entry, with_body, with_change}
 use Rattle.record_journal.specs.Format.{HasEntry, body_of, entry_bytes, entry_kind, header}
-use Rattle.record_journal.specs.ReadBack.{AreReplayable, IsReadBack, held_change}
+use Rattle.record_journal.specs.ReadBack.{AreReplayable, ChangesReadBack, held_change}
 use Rattle.record_journal.specs.Replay.{after_change, replayed}
 
 -- ## An entry
@@ -114,7 +114,7 @@ headed : (entries_of : List ℕ) → entries (header ++ entries_of) ≡ all_from
 headed rest = rw (and_right (starts_with eqb header (header ++ rest)) (nat_lt (length (header ++ rest)) 8)
     (le-ltb (length (header ++ rest)) 8 (omega arith))) refl
 
-pub read_back : (changes : List Change) → AreReplayable [] changes → IsReadBack changes
+pub read_back : (changes : List Change) → AreReplayable [] changes → ChangesReadBack changes
 read_back changes can tail part =
     let behind = flat_map entry_bytes changes ++ tail in
     let long = length-append (flat_map entry_bytes changes) tail in

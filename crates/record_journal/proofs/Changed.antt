@@ -16,7 +16,7 @@ use Rattle.record_journal.specs.Entries.{Entries, Whole, all_from, can_grow, cha
 use Rattle.record_journal.specs.Entries.{is_unfinished, last_of, name_of, read_journal, replay_of, replayable, whole_entry, with_body}
 use Rattle.record_journal.specs.Entries.{with_change}
 use Rattle.record_journal.specs.Format.{HasEntry, body_of, entry_bytes, entry_kind, header}
-use Rattle.record_journal.specs.ReadBack.{AreReplayable, IsNotCut, held_change, written}
+use Rattle.record_journal.specs.ReadBack.{AreReplayable, IsNotCut, held_change, journal}
 use Rattle.record_journal.specs.Replay.{after_change}
 use Rattle.record_journal.specs.declared.replaying.Replay.{Replay}
 use Rattle.record_journal.proofs.Back.{body_back, enough, entry_of, front_back}
@@ -242,7 +242,7 @@ all_kept bytes replay long none is =
 
 -- a byte of the header, or one after it
 after_header : (changes : List Change) (place byte : ℕ) → HaveEntries changes
-    → LeavesNone (all_from [] (drop 8 (set (written changes) place byte)))
+    → LeavesNone (all_from [] (drop 8 (set (journal changes) place byte)))
 after_header changes place byte have =
     let es = flat_map entry_bytes changes in
     let few = enough changes in
@@ -261,6 +261,6 @@ after_header changes place byte have =
 
 pub not_cut : (changes : List Change) → AreReplayable [] changes → IsNotCut changes
 not_cut changes can place byte replay is =
-    let same = length-set (written changes) place byte in
-    all_kept (set (written changes) place byte) replay (omega (arith, same)) (after_header changes place byte (have_entries [] changes can))
+    let same = length-set (journal changes) place byte in
+    all_kept (set (journal changes) place byte) replay (omega (arith, same)) (after_header changes place byte (have_entries [] changes can))
     is ∙ same

@@ -11,7 +11,7 @@ use Rattle.scm_model.specs.declared.flat.Need.{Need}
 use Rattle.scm_model.specs.declared.flat.NeedRow.{NeedRow}
 use Rattle.scm_model.specs.declared.flat.Service.{Service}
 use Rattle.scm_model.specs.Changes.{new_service}
-use Rattle.scm_model.specs.Needs.{has, is_met, met_by, met_by_all, row_needs, needs_of, numbers_of}
+use Rattle.scm_model.specs.Needs.{is_met, met_by, met_by_all, row_needs, needs_of, numbers_of}
 use Rattle.scm_model.specs.Order.{is_cyclic}
 use Rattle.scm_model.specs.Walks.{IsWalk, Needs}
 use Rattle.dependency_index.proofs.Cycles.{acyclic_ends, cyclic_is, ends_acyclic}
@@ -24,6 +24,7 @@ use Rattle.scm_rules.specs.Opening.{services_from}
 use Rattle.scm_rules.proofs.Needed.{HasNoCycle, fewer}
 use Rattle.record_journal.specs.Entries.{needs_in}
 use Rattle.record_journal.specs.Services.{configs_of}
+use Rattle.scm_text.specs.Numbers.{has}
 
 -- ## Another number for each
 

@@ -6,7 +6,7 @@ use Rattle.std.specs.Prelude.{Result}
 use Rattle.std.specs.Io.KnownBytes.{Keeps}
 use Rattle.record_journal.specs.Entries.{read_journal}
 use Rattle.record_journal.specs.Keepers.{IsEmptied, IsUntold, Opens}
-use Rattle.record_journal.specs.Opening.{Leaves, LeavesAll, LeavesBytes}
+use Rattle.record_journal.specs.Opening.{LeavesAt, LeavesAll, LeavesBytes}
 use Rattle.record_journal.specs.declared.opening.JournalFault.{JournalFault}
 use Rattle.record_journal.specs.declared.opening.JournalFault.TheVariants as faults
 use Rattle.record_journal.specs.declared.opening.Restored.{Restored}
@@ -37,13 +37,13 @@ emptied old (Some bytes) (Some now) None result empty keeps untold leaves after 
 emptied old (Some bytes) (Some now) (Some last) result empty keeps untold leaves after =
     nothing_left last result (subst (λ (b : List ℕ). LeavesBytes b last result) (keeps ∙ empty) leaves)
 
-either_way : (old last : Told) (result : Result Restored JournalFault) → IsEmptied old last → Leaves false old last result
+either_way : (old last : Told) (result : Result Restored JournalFault) → IsEmptied old last → LeavesAt false old last result
 either_way old last (Ok opened) empty = empty
 either_way old last (Err fault) empty = inr empty
 
 pub leaves_opened : (path : Bool) (old opened now last : Told) (result : Result Restored JournalFault)
     → Opens {E = Failed} path old opened (Ok tt) → Keeps opened now → IsUntold opened now
-    → LeavesAll now last result → IsUntold now last → Leaves path old last result
+    → LeavesAll now last result → IsUntold now last → LeavesAt path old last result
 leaves_opened true None opened now last result opens keeps untold leaves after = tt
 leaves_opened true (Some held) None now last result opens keeps untold leaves after = absurd opens
 leaves_opened true (Some held) (Some bytes) None last result opens keeps untold leaves after = absurd keeps

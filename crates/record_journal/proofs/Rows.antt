@@ -9,12 +9,13 @@ use Rattle.scm_model.specs.declared.flat.Need.{Need}
 use Rattle.scm_model.specs.declared.flat.Need.TheVariants as kinds
 use Rattle.scm_model.specs.declared.flat.NeedRow.{NeedRow}
 use Rattle.scm_model.specs.declared.flat.Service.{Service}
-use Rattle.scm_model.specs.Needs.{has, is_met, numbers_of, row_needs}
+use Rattle.scm_model.specs.Needs.{is_met, numbers_of, row_needs}
 use Rattle.dependency_index.specs.Resolved.{IsListOf}
 use Rattle.dependency_index.specs.Needs.{number_if_met}
 use Rattle.row_slab.specs.Rowed.{AreRisingBy}
 use Rattle.record_table.specs.Recorded.{has_number, is_member, is_named, number_of, numbers_with}
 use Rattle.scm_rules.specs.Needs.{need_row, need_rows}
+use Rattle.scm_text.specs.Numbers.{has}
 
 pub size_is : (rows : List Service) → length (need_rows rows) ≡ length rows
 size_is rows = length-map rows need_row

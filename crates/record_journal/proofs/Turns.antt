@@ -5,9 +5,9 @@ use Rattle.std.specs.Prelude.{IfOk, Result, option_and_then}
 use Rattle.scm_model.specs.declared.flat.Config.{Config}
 use Rattle.scm_model.specs.declared.steps.Change.{Change}
 use Rattle.record_journal.specs.Entries.{Entries, Goes, IsDone, Whole, all_from, can_replay, change_in, entries, entries_from, first_of}
-use Rattle.record_journal.specs.Entries.{followed, gone, is_unfinished, last_of, read_journal, replay_of, replayable, whole_entry}
+use Rattle.record_journal.specs.Entries.{followed, read_next, is_unfinished, last_of, read_journal, replay_of, replayable, whole_entry}
 use Rattle.record_journal.specs.Entries.{with_change}
-use Rattle.record_journal.specs.Opening.{CanBegin, Reads}
+use Rattle.record_journal.specs.Opening.{CanBegin, ReadAs}
 use Rattle.record_journal.specs.Replay.{after_change}
 use Rattle.record_journal.specs.declared.opening.JournalFault.{JournalFault}
 use Rattle.record_journal.specs.declared.replaying.Next.{Next}
@@ -30,7 +30,7 @@ one_more size old change (Err left) = refl
 pub goes_on : (old new : List Config) (bytes : List ℕ) (whole : Whole) (rest : Next) → whole_entry bytes ≡ Some whole
     → IsDone old (option_and_then (replayable old) (change_in whole.kind whole.body)) new true
     → ((size left : ℕ) (later : List Config → List ℕ → Result Entries ℕ)
-    → gone size left later new rest ≡ replay_of size new (later new whole.rest)) → Goes old bytes new rest
+    → read_next size left later new rest ≡ replay_of size new (later new whole.rest)) → Goes old bytes new rest
 goes_on old new bytes whole rest is done behind size later =
     ap (λ (o : Option Whole). replay_of size old (first_of later old bytes o)) is
     ∙ ap (λ (o : Option Change). replay_of size old (followed later old (length bytes) whole.rest o)) done.1
@@ -45,7 +45,7 @@ is_damaged old new bytes whole is none size later =
     ∙ ap (λ (o : Option Change). replay_of size old (followed later old (length bytes) whole.rest o)) none
 
 ended_so : (size left : ℕ) (later : List Config → List ℕ → Result Entries ℕ) (old : List Config) (b : Bool)
-    → replay_of size old (last_of left b) ≡ gone size left later old (cond b nexts.Unfinished nexts.Damaged)
+    → replay_of size old (last_of left b) ≡ read_next size left later old (cond b nexts.Unfinished nexts.Damaged)
 ended_so size left later old true = refl
 ended_so size left later old false = refl
 
@@ -54,7 +54,7 @@ pub ends_before : (old : List Config) (bytes : List ℕ) (next : Next) → whole
 ends_before old bytes next none is size later =
     ap (λ (o : Option Whole). replay_of size old (first_of later old bytes o)) none
     ∙ ended_so size (length bytes) later old (is_unfinished bytes)
-    ∙ ap (gone size (length bytes) later old) (sym is)
+    ∙ ap (read_next size (length bytes) later old) (sym is)
 
 -- ## Entry after entry
 
@@ -63,7 +63,7 @@ Left size count i configs bytes = replay_of size configs (entries_from (count - 
 
 -- an entry was looked at, in a turn that is within the count
 looked : (size count i : ℕ) (old new : List Config) (bytes : List ℕ) (next : Next) → i < count → Goes old bytes new next
-    → Left size count i old bytes ≡ gone size (length bytes) (entries_from (count - (i + 1))) new next
+    → Left size count i old bytes ≡ read_next size (length bytes) (entries_from (count - (i + 1))) new next
 unfolding entries_from
 looked size count i old new bytes next lt goes =
     let k : count - i ≡ suc (count - (i + 1)) = omega (arith, lt) in
@@ -77,20 +77,20 @@ pub goes_behind : (size count i : ℕ) (old new : List Config) (bytes : List ℕ
     → next ≡ nexts.Rest rest → i < count → Goes old bytes new next
     → Left size count i old bytes ≡ all → Left size count (i + 1) new rest.now ≡ all
 goes_behind size count i old new bytes next rest all is lt goes so_far =
-    sym (ap (gone size (length bytes) (entries_from (count - (i + 1))) new) is) ∙ sym (looked size count i old new bytes next lt goes)
+    sym (ap (read_next size (length bytes) (entries_from (count - (i + 1))) new) is) ∙ sym (looked size count i old new bytes next lt goes)
     ∙ so_far
 
 pub ends_here : (size count i : ℕ) (old new : List Config) (bytes : List ℕ) (next : Next) (all : Result Replay ℕ) → next ≡ nexts.Unfinished
     → i < count → Goes old bytes new next → Left size count i old bytes ≡ all
     → all ≡ Ok (record { configs = new; kept = size - length bytes })
 ends_here size count i old new bytes next all is lt goes so_far =
-    sym so_far ∙ looked size count i old new bytes next lt goes ∙ ap (gone size (length bytes) (entries_from (count - (i + 1))) new) is
+    sym so_far ∙ looked size count i old new bytes next lt goes ∙ ap (read_next size (length bytes) (entries_from (count - (i + 1))) new) is
 
 pub damaged_here : (size count i : ℕ) (old new : List Config) (bytes : List ℕ) (next : Next) (all : Result Replay ℕ) → next ≡ nexts.Damaged
     → i < count → Goes old bytes new next → Left size count i old bytes ≡ all
     → all ≡ Err (size - length bytes)
 damaged_here size count i old new bytes next all is lt goes so_far =
-    sym so_far ∙ looked size count i old new bytes next lt goes ∙ ap (gone size (length bytes) (entries_from (count - (i + 1))) new) is
+    sym so_far ∙ looked size count i old new bytes next lt goes ∙ ap (read_next size (length bytes) (entries_from (count - (i + 1))) new) is
 
 pub none_left : (size count i : ℕ) (configs : List Config) (bytes : List ℕ) (all : Result Replay ℕ) → count ≤ i
     → Left size count i configs bytes ≡ all → all ≡ Ok (record { configs = configs; kept = size - length bytes })
@@ -100,10 +100,10 @@ none_left size count i configs bytes all le so_far =
     sym so_far ∙ ap (λ n. replay_of size configs (entries_from n configs bytes)) k
 
 -- what is read of the configurations that are taken out at the end
-pub same_reads : (result : Result Replay JournalFault) (all read : Result Replay ℕ) → all ≡ read → Reads result read → Reads result all
-same_reads result all read is reads = subst (Reads result) (sym is) reads
+pub same_reads : (result : Result Replay JournalFault) (all read : Result Replay ℕ) → all ≡ read → ReadAs result read → ReadAs result all
+same_reads result all read is reads = subst (ReadAs result) (sym is) reads
 
-pub same_begins : (result : Result Replay JournalFault) (replay : Replay) → Reads result (Ok replay) → CanBegin replay.configs
+pub same_begins : (result : Result Replay JournalFault) (replay : Replay) → ReadAs result (Ok replay) → CanBegin replay.configs
     → IfOk result (λ (r : Replay). CanBegin r.configs)
 same_begins (Ok read) replay is begins = let same : replay ≡ read = cc in subst (λ (r : Replay). CanBegin r.configs) same begins
 same_begins (Err fault) replay is begins = tt

@@ -8,15 +8,15 @@ use Rattle.record_journal.specs.declared.journal.Journal.{Journal}
 
 -- ## What one call does to the bytes
 
--- behind so many bytes more, with nothing else behind them
+-- after so many bytes more, with nothing else after them
 abbrev pub journal_grown : Journal → List ℕ → Journal
 journal_grown j bytes = record { good = j.good + length bytes; dirty = false }
 
--- a part of a piece may stand behind the bytes
+-- a part of a piece may stand after the bytes
 abbrev pub broken : Journal → Journal
 broken j = record j { dirty = true }
 
--- the bytes that are kept: where a part may stand behind them, as many as the journal says
+-- the bytes that are kept: if a part may stand after them, as many as the journal says
 abbrev pub kept_of : Journal → List ℕ → List ℕ
 kept_of j bytes = if j.dirty then take j.good bytes else bytes
 
@@ -27,7 +27,7 @@ Mends j (Some bytes) None result = ⊥
 Mends j (Some bytes) (Some now) (Ok done) = now ≡ kept_of j bytes
 Mends j (Some bytes) (Some now) (Err fault) = (now ≡ bytes) ⊎ (now ≡ kept_of j bytes)
 
--- a piece stands behind what is kept; at a fault a front of it does, or all is as it was
+-- a piece stands after what is kept; at a fault a front of it does, or all is as it was
 abbrev pub Puts : {E : Type 0} → List ℕ → Journal → Option (List ℕ) → Option (List ℕ) → Result (Unit {0}) E → Type 0
 Puts piece j None now result = Unit {0}
 Puts piece j (Some bytes) None result = ⊥
@@ -37,13 +37,13 @@ Puts piece j (Some bytes) (Some now) (Err fault) = (now ≡ bytes) ⊎ ((front :
 
 -- ## What is kept, call by call
 
--- behind what is kept stands nothing; or, where an append failed and nothing was cut since, a front of one piece more
+-- after what is kept stands nothing; or, if an append failed and nothing was cut since, a front of one piece more
 abbrev pub Tail : List ℕ → Bool → List ℕ → Type 0
 Tail good false tail = tail ≡ []
 Tail good true tail =
     (change : Change) × HasEntry change × Begins tail (piece (length good) change)
 
--- what is kept, and behind it no more than a front of one piece
+-- what is kept, and after it no more than a front of one piece
 pub record Borne (good : List ℕ) (j : Journal) (now : List ℕ) : Type 0 where
   pub tail : List ℕ
   pub holds : now ≡ good ++ tail

@@ -25,14 +25,14 @@ abbrev pub if_read : {A : Type 0} → Result A ℕ → Option A
 if_read (Ok item) = Some item
 if_read (Err left) = None
 
--- a whole entry at the front of some bytes, and what stands behind it
+-- a whole entry at the front of some bytes, and what stands after it
 pub record Whole : Type 0 where
   pub kind : ℕ
   pub body : List ℕ
   pub rest : List ℕ
 
-abbrev pub seen : Front → Whole
-seen front = record { kind = front.kind; body = front.body.now; rest = front.rest.now }
+abbrev pub seen_front : Front → Whole
+seen_front front = record { kind = front.kind; body = front.body.now; rest = front.rest.now }
 
 -- a body has the length that stands before it; less is no whole entry
 abbrev pub with_body : ℕ → Option (ℕ × List ℕ) → Option Whole
@@ -114,7 +114,7 @@ replayable configs change = if can_replay configs change then Some change else N
 
 -- ## The entries of a journal
 
--- changes, and how many bytes are left behind them
+-- changes, and how many bytes are left after them
 pub record Entries : Type 0 where
   pub changes : List Change
   pub left : ℕ
@@ -180,14 +180,14 @@ IsDone old asked new true = (change : Change) × (asked ≡ Some change) × (new
 IsDone old asked new false = asked ≡ None
 
 -- what is read once an entry was looked at
-abbrev pub gone : ℕ → ℕ → (List Config → List ℕ → Result Entries ℕ) → List Config → Next → Result Replay ℕ
-gone size left later new (nexts.Rest rest) = replay_of size new (later new rest.now)
-gone size left later new nexts.Unfinished = Ok (record { configs = new; kept = size - left })
-gone size left later new nexts.Damaged = Err (size - left)
+abbrev pub read_next : ℕ → ℕ → (List Config → List ℕ → Result Entries ℕ) → List Config → Next → Result Replay ℕ
+read_next size left later new (nexts.Rest rest) = replay_of size new (later new rest.now)
+read_next size left later new nexts.Unfinished = Ok (record { configs = new; kept = size - left })
+read_next size left later new nexts.Damaged = Err (size - left)
 
--- reading goes on behind an entry, or ends before one
+-- reading goes on after an entry, or ends before one
 abbrev pub Goes : List Config → List ℕ → List Config → Next → Type 0
 Goes old bytes new next =
     (size : ℕ) (later : List Config → List ℕ → Result Entries ℕ)
     → replay_of size old (first_of later old bytes (whole_entry bytes))
-    ≡ gone size (length bytes) later new next
+    ≡ read_next size (length bytes) later new next

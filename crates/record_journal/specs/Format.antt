@@ -1,4 +1,4 @@
--- The bytes of a journal: a header, and behind it an entry for each change.
+-- The bytes of a journal: a header, and after it an entry for each change.
 use Rattle.std.specs.Prelude.{ℕ, ◌==◌, List, [], ◌∷◌, ◌++◌, length, if◌then◌else◌}
 use Rattle.std.specs.List.{flat_map}
 use Rattle.scm_model.specs.declared.steps.Change.{Change}
@@ -40,10 +40,10 @@ abbrev pub journal_bytes : List Change → List ℕ
 journal_bytes [] = []
 journal_bytes (change ∷ changes) = header ++ flat_map entry_bytes (change ∷ changes)
 
--- what comes before an entry behind so many bytes
+-- what comes before an entry that is appended after so many bytes
 abbrev pub front_at : ℕ → List ℕ
 front_at kept = if kept == 0 then header else []
 
--- what is appended for a change behind so many bytes
+-- what is appended for a change after so many bytes
 unfoldable pub piece : ℕ → Change → List ℕ
 piece kept change = front_at kept ++ entry_bytes change

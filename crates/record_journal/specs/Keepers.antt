@@ -1,11 +1,6 @@
 -- What a keeper does to the bytes that it holds, where it tells them.
-use Rattle.std.specs.Prelude.{ℕ, ◌≡◌, ◌⊎◌, Bool, true, false, List, [], take, Option, Some, None, Result, Ok, Err}
+use Rattle.std.specs.Prelude.{ℕ, ◌≡◌, ◌⊎◌, Bool, false, List, [], take, Option, Some, None, Result, Ok, Err}
 use Rattle.std.specs.Io.KnownBytes.{Keeps}
-
--- whether a path is given
-abbrev pub has_path : {A : Type 0} → Option A → Bool
-has_path None = false
-has_path (Some path) = true
 
 -- bytes that aren't told are not told from then on
 abbrev pub IsUntold : Option (List ℕ) → Option (List ℕ) → Type 0

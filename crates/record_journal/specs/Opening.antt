@@ -16,33 +16,33 @@ pub record CanBegin (configs : List Config) : Type 0 where
   pub under : (l : Limits) → 512 ≤ l.services → CanOpen l configs
 
 -- what stands under a path; without one nothing stands
-abbrev pub standing : Bool → Option (List ℕ) → Option (List ℕ)
-standing true told = told
-standing false None = None
-standing false (Some bytes) = Some []
+abbrev pub content_under : Bool → Option (List ℕ) → Option (List ℕ)
+content_under true told = told
+content_under false None = None
+content_under false (Some bytes) = Some []
 
 -- ## Reading
 
 -- what is read of some bytes, unless memory ran out
-abbrev pub Reads : Result Replay JournalFault → Result Replay ℕ → Type 0
-Reads (Ok replay) read = read ≡ Ok replay
-Reads (Err (faults.Damaged place)) read = read ≡ Err place
-Reads (Err faults.OutOfMemory) read = Unit {0}
-Reads (Err faults.Failed) read = ⊥
+abbrev pub ReadAs : Result Replay JournalFault → Result Replay ℕ → Type 0
+ReadAs (Ok replay) read = read ≡ Ok replay
+ReadAs (Err (faults.Damaged place)) read = read ≡ Err place
+ReadAs (Err faults.OutOfMemory) read = Unit {0}
+ReadAs (Err faults.Failed) read = ⊥
 
 -- ## Opening
 
--- the replay of the bytes, whose journal ends behind what is kept of them; or the place of their
+-- the replay of the bytes, whose journal ends after what is kept of them; or the place of their
 -- first damage
-abbrev pub Answers : List ℕ → Result Restored JournalFault → Type 0
-Answers bytes (Ok opened) =
+abbrev pub Restores : List ℕ → Result Restored JournalFault → Type 0
+Restores bytes (Ok opened) =
     read_journal bytes ≡ Ok (record { configs = opened.configs; kept = opened.journal.good })
-Answers bytes (Err (faults.Damaged place)) = read_journal bytes ≡ Err place
-Answers bytes (Err faults.OutOfMemory) = Unit {0}
-Answers bytes (Err faults.Failed) = Unit {0}
+Restores bytes (Err (faults.Damaged place)) = read_journal bytes ≡ Err place
+Restores bytes (Err faults.OutOfMemory) = Unit {0}
+Restores bytes (Err faults.Failed) = Unit {0}
 
 -- an unfinished last entry is cut; what is damaged or not read is left as it stood. A fault may
--- come before or behind the cut
+-- come before or after the cut
 abbrev pub LeavesBytes : List ℕ → List ℕ → Result Restored JournalFault → Type 0
 LeavesBytes bytes now (Ok opened) = now ≡ take opened.journal.good bytes
 LeavesBytes bytes now (Err (faults.Damaged place)) = now ≡ bytes
@@ -56,7 +56,7 @@ LeavesAll (Some bytes) None result = ⊥
 LeavesAll (Some bytes) (Some now) result = LeavesBytes bytes now result
 
 -- the same of what stands under a path; without one nothing stands, or a fault leaves all
-abbrev pub Leaves : Bool → Option (List ℕ) → Option (List ℕ) → Result Restored JournalFault → Type 0
-Leaves true old now result = LeavesAll old now result
-Leaves false old now (Ok opened) = IsEmptied old now
-Leaves false old now (Err fault) = Keeps old now ⊎ IsEmptied old now
+abbrev pub LeavesAt : Bool → Option (List ℕ) → Option (List ℕ) → Result Restored JournalFault → Type 0
+LeavesAt true old now result = LeavesAll old now result
+LeavesAt false old now (Ok opened) = IsEmptied old now
+LeavesAt false old now (Err fault) = Keeps old now ⊎ IsEmptied old now

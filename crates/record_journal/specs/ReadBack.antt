@@ -16,7 +16,7 @@ held_change (Created config) = Created (held config)
 held_change (Changed config) = Changed (held config)
 held_change (Removed name) = Removed name
 
--- each has an entry, and can be replayed behind those before it
+-- each has an entry, and can be replayed after those before it
 abbrev pub AreReplayable : List Config → List Change → Type 0
 AreReplayable configs [] = Unit {0}
 AreReplayable configs (change ∷ changes) =
@@ -24,15 +24,15 @@ AreReplayable configs (change ∷ changes) =
     × AreReplayable (after_change configs (held_change change)) changes
 
 -- the header and the entries of changes
-abbrev pub written : List Change → List ℕ
-written changes = header ++ flat_map entry_bytes changes
+abbrev pub journal : List Change → List ℕ
+journal changes = header ++ flat_map entry_bytes changes
 
 -- with a part of an entry after them they are read as what the changes come to
-abbrev pub IsReadBack : List Change → Type 0
-IsReadBack changes =
+abbrev pub ChangesReadBack : List Change → Type 0
+ChangesReadBack changes =
     (tail : List ℕ) → IsPart tail
-    → read_journal (written changes ++ tail)
-    ≡ Ok (record { configs = replayed [] (map held_change changes); kept = length (written changes) })
+    → read_journal (journal changes ++ tail)
+    ≡ Ok (record { configs = replayed [] (map held_change changes); kept = length (journal changes) })
 
 -- each front of an entry that isn't all of it is a part of one
 abbrev pub HasParts : Change → Type 0
@@ -43,5 +43,5 @@ HasParts change =
 abbrev pub IsNotCut : List Change → Type 0
 IsNotCut changes =
     (place byte : ℕ) (replay : Replay)
-    → read_journal (set (written changes) place byte) ≡ Ok replay
-    → replay.kept ≡ length (written changes)
+    → read_journal (set (journal changes) place byte) ≡ Ok replay
+    → replay.kept ≡ length (journal changes)

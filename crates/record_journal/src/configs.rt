@@ -32,6 +32,7 @@ pub const SERVICES: usize = 512;
 #[derive(Drop)]
 pub struct Configs {
     table: RecordTable,
+    alloc: Global,
 }
 
 impl Model for Configs {
@@ -165,7 +166,7 @@ fn can_replay(
 }
 
 /// A service that never ran.
-fn never_run(number: u64, config: Config) -> Service
+fn never_run(alloc: Global, number: u64, config: Config) -> Service
     ensures { result ≡ new_service number config (new_status config.kind) }
 {
     let status = Status {
@@ -185,6 +186,8 @@ fn never_run(number: u64, config: Config) -> Service
         process: 0,
         failures: 0,
         last_failure: 0,
+        asked: false,
+        security: Items::new(alloc),
     }
 }
 
@@ -200,14 +203,14 @@ fn reserve_number(table: &mut RecordTable, config: &Config) -> Result<u64, OutOf
     Ok(number)
 }
 
-fn create(table: &mut RecordTable, config: Config) -> Result<(), OutOfMemory>
+fn create(table: &mut RecordTable, alloc: Global, config: Config) -> Result<(), OutOfMemory>
     ensures ok { OnOk result (configs_of table.new.services ≡
         configs_of table.old.services ++ config ∷ []) }
     ensures err { OnErr result (table.new ≡ table.old) }
 {
     match reserve_number(table, &config) {
         Ok(number) => {
-            table.insert(never_run(number, config));
+            table.insert(never_run(alloc, number, config));
             Ok(())
         }
         Err(OutOfMemory) => {
@@ -250,14 +253,14 @@ fn remove(table: &mut RecordTable, name: &WText)
     }
 }
 
-fn apply(table: &mut RecordTable, change: Change) -> Result<(), OutOfMemory>
+fn apply(table: &mut RecordTable, alloc: Global, change: Change) -> Result<(), OutOfMemory>
     requires { CanBegin (configs_of table.old.services) }
     ensures ok { OnOk result (configs_of table.new.services ≡
         after_change (configs_of table.old.services) change) }
     ensures err { OnErr result (table.new ≡ table.old) }
 {
     match change {
-        Change::Created(config) => create(table, config),
+        Change::Created(config) => create(table, alloc, config),
         Change::Changed(config) => replace(table, config),
         Change::Removed(name) => {
             remove(table, &name);
@@ -286,7 +289,7 @@ fn take_first(table: &mut RecordTable) -> Option<Config>
     Some(config_of(row))
 }
 
-/// Moves the first configuration behind those of a list.
+/// Moves the first configuration to the end of a list.
 fn move_first(table: &mut RecordTable, configs: &mut Vec<Config>) -> Result<(), OutOfMemory>
     ensures moved { OnOk result (configs.new.items ++ configs_of table.new.services ≡
         configs.old.items ++ configs_of table.old.services) }
@@ -321,7 +324,7 @@ impl Configs {
         ensures { IfOk result (λ configs. configs ≡ []) }
     {
         let table = RecordTable::new(alloc)?;
-        Ok(Configs { table })
+        Ok(Configs { table, alloc })
     }
 
     /// Whether a change can be replayed. The list is used as room.
@@ -342,7 +345,7 @@ impl Configs {
         ensures ok { OnOk result (self.new ≡ after_change self.old change) }
         ensures err { OnErr result (self.new ≡ self.old) }
     {
-        apply(&mut self.table, change)
+        apply(&mut self.table, self.alloc, change)
     }
 
     /// Takes the configurations out, in order.

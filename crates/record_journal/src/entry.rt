@@ -60,14 +60,14 @@ fn append_entry(alloc: Global, out: &mut Items<u8>, change: &Change) -> Result<(
     out.append(body.as_slice())
 }
 
-/// What comes before an entry behind so many bytes.
+/// What comes before an entry that is appended after so many bytes.
 fn front_at(kept: u64) -> &'static [u8]
     ensures { result.now ≡ front_at kept }
 {
     if kept == 0 { &HEADER } else { &[] }
 }
 
-/// What is appended for a change behind so many bytes.
+/// What is appended for a change after so many bytes.
 #[tactic(auto, unfolding(crate::specs::Format::piece))]
 pub fn piece(alloc: Global, kept: u64, change: &Change) -> Result<Items<u8>, OutOfMemory>
     ensures bytes { IfOk result (λ bytes. bytes ≡ piece kept change.now) }

@@ -17,7 +17,7 @@ use std::alloc::Global;
 pub struct Journal {
     /// How many bytes are kept.
     pub good: u64,
-    /// Whether a part of a piece may stand behind them.
+    /// Whether a part of a piece may stand after them.
     pub dirty: bool,
 }
 
@@ -48,7 +48,7 @@ impl Journal {
         Ok(())
     }
 
-    /// Appends a piece where nothing else stands behind what is kept.
+    /// Appends a piece when nothing else stands after what is kept.
     fn add<K: Keeper>(&mut self, keeper: &mut K, piece: &[u8]) -> Result<(), Failed>
         requires { self.old.good + length piece.now < 2 ^ 64 }
         ensures ok { OnOk result (self.new ≡ journal_grown self.old piece.now) }
@@ -63,7 +63,7 @@ impl Journal {
         Ok(())
     }
 
-    /// Appends a piece behind what is kept, and cuts what else stands there before.
+    /// Appends a piece after what is kept. What else stands there is cut first.
     fn put<K: Keeper>(&mut self, keeper: &mut K, piece: &[u8]) -> Result<(), Failed>
         requires { self.old.good + length piece.now < 2 ^ 64 }
         ensures ok { OnOk result (self.new ≡ journal_grown self.old piece.now) }
@@ -75,8 +75,8 @@ impl Journal {
         self.add(keeper, piece)
     }
 
-    /// Appends the entry of a change, in an empty journal behind the header, in one piece. What a
-    /// failed append may have left is cut before. The keeper is the one of the calls before.
+    /// Appends the entry of a change, in an empty journal after the header, in one piece. What a
+    /// failed append may have left is cut first. The keeper is the one of the calls before.
     pub fn append<K: Keeper>(
         &mut self,
         alloc: Global,

@@ -1,8 +1,9 @@
 ghost use Rattle.std.specs.Prelude.{◌≡◌, ◌≤◌, ℕ, List, Option, IfOk, IfSome, IsErrOf, OnOk};
+ghost use Rattle.std.specs.Prelude.{is_some};
 ghost use Rattle.std.specs.Io.KnownBytes.{Keeps};
 ghost use Rattle.outside.specs.Causes.{HasCause, Rose};
 ghost use Rattle.outside.specs.Written.{Writes};
-ghost use Rattle.record_journal.specs.Keepers.{Cuts, IsUntold, Opens, has_path};
+ghost use Rattle.record_journal.specs.Keepers.{Cuts, IsUntold, Opens};
 
 use outside::Failed;
 use scm_text::Items;
@@ -27,7 +28,7 @@ pub trait Keeper: Drop {
     /// Goes on with what stands under the path. Without a path it is empty from then on, and keeps
     /// in memory.
     fn open_at(&mut self, path: Option<&str>) -> Result<(), Failed>
-        ensures bytes { Opens (has_path path.entry) (held self.old) (held self.new) result }
+        ensures bytes { Opens (is_some path.entry) (held self.old) (held self.new) result }
         ensures cause { HasCause (faults self.old) (faults self.new) result };
 
     /// A copy of all bytes.

@@ -1,12 +1,13 @@
 ghost use Rattle.std.specs.Prelude.{◌≡◌, ◌≤◌, ◌+◌, ◌-◌, ◌++◌, Some, IsTrue, IfOk, OnOk, OnErr};
+ghost use Rattle.std.specs.Prelude.{is_some};
 ghost use Rattle.std.specs.Prelude.{IsErrOf, is_err, length, vec_capacity, vec_len};
 ghost use Rattle.std.specs.Io.KnownBytes.{Keeps};
 ghost use Rattle.outside.specs.Causes.{HasCause, Rose};
 ghost use Rattle.outside.specs.Fates.{later, one_more};
 ghost use Rattle.outside.specs.Written.{Writes};
-ghost use Rattle.record_journal.specs.InMemory.{IsTold, cut_told, fails_next, front_told};
-ghost use Rattle.record_journal.specs.InMemory.{has_failed, next_fate};
-ghost use Rattle.record_journal.specs.Keepers.{Cuts, Opens, has_path};
+ghost use Rattle.record_journal.specs.InMemory.{IsTold, cut_told, next_fails, front_told};
+ghost use Rattle.record_journal.specs.InMemory.{has_failed, fate_next};
+ghost use Rattle.record_journal.specs.Keepers.{Cuts, Opens};
 
 use super::keeper::{KeepFault, Keeper};
 use outside::Failed;
@@ -71,7 +72,7 @@ impl MemoryKeeper {
 impl MemoryKeeper {
     /// What becomes of a call.
     fn take_fate(&mut self) -> Fate
-        ensures fate { result ≡ next_fate self.old.fates }
+        ensures fate { result ≡ fate_next self.old.fates }
         ensures after { self.new ≡ record self.old { fates = later self.old.fates } }
     {
         self.fates.pop().unwrap_or(Fate::Succeeds)
@@ -94,11 +95,11 @@ impl Keeper for MemoryKeeper {
 
     /// All paths are one: the bytes stand under each.
     fn open_at(&mut self, path: Option<&str>) -> Result<(), Failed>
-        ensures bytes { Opens (has_path path.entry)
+        ensures bytes { Opens (is_some path.entry)
             (Some self.old.bytes) (Some self.new.bytes) result }
         ensures cause { HasCause self.old.faults self.new.faults result }
         ensures told { IsTold self.old self.new (is_err result) }
-        ensures only { OnErr result (IsTrue (fails_next self.old)) }
+        ensures only { OnErr result (IsTrue (next_fails self.old)) }
     {
         if let Fate::Fails { .. } = self.take_fate() {
             return Err(self.fail());
@@ -118,7 +119,7 @@ impl Keeper for MemoryKeeper {
         ensures memory { IsErrOf result KeepFault.OutOfMemory →
             self.new.faults ≡ self.old.faults }
         ensures told { IsTold self.old self.new (has_failed result) }
-        ensures only { IsErrOf result KeepFault.Failed → IsTrue (fails_next self.old) }
+        ensures only { IsErrOf result KeepFault.Failed → IsTrue (next_fails self.old) }
     {
         if let Fate::Fails { .. } = self.take_fate() {
             let Failed = self.fail();
@@ -136,9 +137,9 @@ impl Keeper for MemoryKeeper {
         ensures cause { HasCause self.old.faults self.new.faults result }
         ensures told { IsTold self.old self.new (is_err result) }
         ensures only { length bytes.now ≤ self.old.room →
-            OnErr result (IsTrue (fails_next self.old)) }
+            OnErr result (IsTrue (next_fails self.old)) }
         ensures front { length bytes.now ≤ self.old.room →
-            self.new.bytes ≡ self.old.bytes ++ front_told (next_fate self.old.fates) bytes.now }
+            self.new.bytes ≡ self.old.bytes ++ front_told (fate_next self.old.fates) bytes.now }
         ensures room { self.old.room ≤ self.new.room + length bytes.now }
     {
         match self.take_fate() {
@@ -159,8 +160,8 @@ impl Keeper for MemoryKeeper {
         ensures bytes { Cuts length (Some self.old.bytes) (Some self.new.bytes) result }
         ensures cause { HasCause self.old.faults self.new.faults result }
         ensures told { IsTold self.old self.new (is_err result) }
-        ensures only { OnErr result (IsTrue (fails_next self.old)) }
-        ensures front { self.new.bytes ≡ cut_told (next_fate self.old.fates) length self.old.bytes }
+        ensures only { OnErr result (IsTrue (next_fails self.old)) }
+        ensures front { self.new.bytes ≡ cut_told (fate_next self.old.fates) length self.old.bytes }
         ensures room { self.old.room ≤ self.new.room }
     {
         match self.take_fate() {

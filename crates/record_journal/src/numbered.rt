@@ -4,10 +4,11 @@ ghost use Rattle.std.specs.Prelude.{find, option_map, option_and_then, slice_get
 ghost use Rattle.std.specs.Prelude.{IfOk, IfSome, OnOk};
 ghost use Rattle.dependency_index.specs.Resolved.{IsListOf};
 ghost use Rattle.dependency_index.specs.Needs.{number_if_met, new_need_row};
-ghost use Rattle.scm_model.specs.Needs.{has, needs_of, numbers_of, row_needs, with_row};
+ghost use Rattle.scm_model.specs.Needs.{needs_of, numbers_of, row_needs, with_row};
 ghost use Rattle.scm_model.specs.Order.{is_cyclic};
 ghost use Rattle.scm_model.specs.Walks.{IsAcyclic};
 ghost use Rattle.scm_rules.specs.Needs.{need_row_of, need_rows};
+ghost use Rattle.scm_text.specs.Numbers.{has};
 
 use dependency_index::{NeedRows, NewRow, closes_cycle, meets};
 use record_table::RecordTable;

@@ -1,9 +1,10 @@
 //! The opening of a journal.
-ghost use Rattle.std.specs.Prelude.{◌≡◌, ◌≤◌, length, IfOk, IfSome, IsErrOf, OnOk};
+ghost use Rattle.std.specs.Prelude.{◌≡◌, ◌≤◌, length, IfOk, IfSome, IsErrOf, OnOk, is_some};
 ghost use Rattle.outside.specs.Causes.{HasCause, Rose};
 ghost use Rattle.record_journal.specs.Bearing.{Bears};
-ghost use Rattle.record_journal.specs.Keepers.{Cuts, IsUntold, has_path};
-ghost use Rattle.record_journal.specs.Opening.{Answers, CanBegin, Leaves, LeavesAll, standing};
+ghost use Rattle.record_journal.specs.Keepers.{Cuts, IsUntold};
+ghost use Rattle.record_journal.specs.Opening.{Restores, CanBegin, LeavesAt, LeavesAll};
+ghost use Rattle.record_journal.specs.Opening.{content_under};
 
 use crate::journal::Journal;
 use crate::keeper::{KeepFault, Keeper};
@@ -33,7 +34,7 @@ pub enum JournalFault {
     Damaged(u64),
 }
 
-/// Cuts what stands behind the kept bytes of a journal.
+/// Cuts what stands after the kept bytes of a journal.
 fn cut_behind<K: Keeper>(keeper: &mut K, size: usize, kept: u64) -> Result<(), Failed>
     requires size { IfSome (K.held keeper.old) (λ bytes. length bytes ≡ size) }
     ensures bytes { Cuts kept (K.held keeper.old) (K.held keeper.new) result }
@@ -46,10 +47,10 @@ fn cut_behind<K: Keeper>(keeper: &mut K, size: usize, kept: u64) -> Result<(), F
     keeper.cut(kept)
 }
 
-/// Reads bytes that a keeper holds, and cuts what stands behind those that are kept.
+/// Reads bytes that a keeper holds, and cuts what stands after those that are kept.
 fn restore<K: Keeper>(alloc: Global, keeper: &mut K, bytes: &[u8]) -> Result<Restored, JournalFault>
     requires held { IfSome (K.held keeper.old) (λ held. bytes.now ≡ held) }
-    ensures answer { IfSome (K.held keeper.old) (λ held. Answers held result) }
+    ensures answer { IfSome (K.held keeper.old) (λ held. Restores held result) }
     ensures leaves { LeavesAll (K.held keeper.old) (K.held keeper.new) result }
     ensures untold { IsUntold (K.held keeper.old) (K.held keeper.new) }
     ensures bears { IfOk result (λ opened.
@@ -82,9 +83,9 @@ pub fn open_journal<K: Keeper>(
     keeper: &mut K,
     path: Option<&str>,
 ) -> Result<Restored, JournalFault>
-    ensures answer { IfSome (standing (has_path path.entry) (K.held keeper.old))
-        (λ bytes. Answers bytes result) }
-    ensures leaves { Leaves (has_path path.entry) (K.held keeper.old) (K.held keeper.new) result }
+    ensures answer { IfSome (content_under (is_some path.entry) (K.held keeper.old))
+        (λ bytes. Restores bytes result) }
+    ensures leaves { LeavesAt (is_some path.entry) (K.held keeper.old) (K.held keeper.new) result }
     ensures bears { IfOk result (λ opened.
         Bears (K.held keeper.new) opened.journal (K.held keeper.new)) }
     // What a manager can begin with.

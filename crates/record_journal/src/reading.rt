@@ -3,7 +3,7 @@ ghost use Rattle.std.specs.Prelude.{◌≡◌, IfOk, is_ok, option_map};
 ghost use Rattle.scm_model.specs.declared.steps.Change.TheVariants as changes;
 ghost use Rattle.service_record.specs.Reading.{take_config, take_number, take_text, whole_of};
 ghost use Rattle.record_journal.specs.Entries.{can_grow, change_in, if_read, is_unfinished};
-ghost use Rattle.record_journal.specs.Entries.{name_of, seen, whole_entry, with_body};
+ghost use Rattle.record_journal.specs.Entries.{name_of, seen_front, whole_entry, with_body};
 
 use crate::entry::{CHANGED, CREATED, REMOVED};
 use ndr_body::{has_zero, units_of};
@@ -12,7 +12,7 @@ use scm_text::{OutOfMemory, WText};
 use service_record::{RecordFault, read_record};
 use std::alloc::Global;
 
-/// A whole entry at the front of some bytes, and what stands behind it.
+/// A whole entry at the front of some bytes, and what stands after it.
 #[derive(Clone, Copy)]
 pub struct Front<'a> {
     pub kind: u8,
@@ -20,7 +20,7 @@ pub struct Front<'a> {
     pub rest: &'a [u8],
 }
 
-/// A number at the front, and what stands behind it.
+/// A number at the front, and what stands after it.
 fn number_at(bytes: &[u8]) -> Option<(u32, &[u8])>
     ensures { option_map (λ x. (x.0, x.1.now)) result ≡ if_read (take_number bytes.now) }
 {
@@ -33,7 +33,7 @@ fn number_at(bytes: &[u8]) -> Option<(u32, &[u8])>
 }
 
 fn with_body(kind: u8, bytes: &[u8]) -> Option<Front<'_>>
-    ensures { option_map seen result ≡ with_body kind (if_read (take_number bytes.now)) }
+    ensures { option_map seen_front result ≡ with_body kind (if_read (take_number bytes.now)) }
 {
     let (size, bytes) = number_at(bytes)?;
     let size = size as usize;
@@ -46,7 +46,7 @@ fn with_body(kind: u8, bytes: &[u8]) -> Option<Front<'_>>
 
 /// The whole entry at the front of some bytes, where one stands there.
 pub fn whole_entry(bytes: &[u8]) -> Option<Front<'_>>
-    ensures { option_map seen result ≡ whole_entry bytes.now }
+    ensures { option_map seen_front result ≡ whole_entry bytes.now }
 {
     match bytes {
         [kind, rest @ ..] => with_body(*kind, rest),

@@ -4,7 +4,7 @@ ghost use Rattle.std.specs.Prelude.{IfOk, IsOk, Ok};
 ghost use Rattle.record_journal.specs.Entries.{Goes, IsDone, all_from, change_in};
 ghost use Rattle.record_journal.specs.Entries.{is_unfinished, read_journal, replay_of, replayable};
 ghost use Rattle.record_journal.specs.declared.replaying.Next.TheVariants as nexts;
-ghost use Rattle.record_journal.specs.Opening.{CanBegin, Reads};
+ghost use Rattle.record_journal.specs.Opening.{CanBegin, ReadAs};
 
 use crate::configs::{Configs, SERVICES};
 use crate::entry::HEADER;
@@ -113,7 +113,7 @@ fn replay_over(
     entries: &[u8],
 ) -> Result<Replay, JournalFault>
     requires { CanBegin configs.old }
-    ensures reads { Reads result (replay_of size configs.old (all_from configs.old entries.now)) }
+    ensures reads { ReadAs result (replay_of size configs.old (all_from configs.old entries.now)) }
     ensures begins { IfOk result (λ replay. CanBegin replay.configs) }
 {
     let Ok(mut searched) = Buffer::with_room(alloc, SERVICES + 2) else {
@@ -133,7 +133,7 @@ fn replay_over(
 
 /// Replays the last bytes of so many.
 fn replay_entries(alloc: Global, size: usize, entries: &[u8]) -> Result<Replay, JournalFault>
-    ensures reads { Reads result (replay_of size [] (all_from [] entries.now)) }
+    ensures reads { ReadAs result (replay_of size [] (all_from [] entries.now)) }
     ensures begins { IfOk result (λ replay. CanBegin replay.configs) }
 {
     let Ok(mut configs) = Configs::new(alloc) else {
@@ -158,7 +158,7 @@ fn replay_with(
     size: usize,
     rest: &[u8],
 ) -> Result<Replay, JournalFault>
-    ensures { Reads result (Ok (record { configs = configs.old; kept = size - length rest.now })) }
+    ensures { ReadAs result (Ok (record { configs = configs.old; kept = size - length rest.now })) }
 {
     match configs.take_all(alloc) {
         Ok(configs) => Ok(Replay {
@@ -171,7 +171,7 @@ fn replay_with(
 
 /// The replay of a journal's bytes, or the place of their first damage.
 pub fn read_journal(alloc: Global, bytes: &[u8]) -> Result<Replay, JournalFault>
-    ensures reads { Reads result (read_journal bytes.now) }
+    ensures reads { ReadAs result (read_journal bytes.now) }
     ensures begins { IfOk result (λ replay. CanBegin replay.configs) }
 {
     if bytes.len() < HEADER.len() && HEADER.starts_with(bytes) {

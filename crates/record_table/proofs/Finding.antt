@@ -1,15 +1,19 @@
 -- Services found by number.
 use Rattle.std.proofs.Common.{ℕ, ◌≡◌, ◌<◌, ◌∙◌, Bool, true, false, not, cond, List, [], ◌∷◌, Option, Some, None, refl, sym, ap, subst, eqb}
 use Rattle.std.proofs.Common.{filter, find, map, arith, inl, inr}
-use Rattle.std.specs.Prelude.{option_map, slice_get}
+use Rattle.std.specs.Prelude.{is_some, option_map, slice_get}
 use Rattle.std.specs.List.{AllByRecursion}
 use Rattle.std.proofs.lemmas.Bool.{eq-eqb, eqb-true, ne_eqb, cases_Bool}
 use Rattle.std.proofs.lemmas.Option.{same_Some}
 use Rattle.scm_model.specs.declared.flat.Config.{Config}
 use Rattle.scm_model.specs.declared.flat.Service.{Service}
-use Rattle.row_slab.specs.Rowed.{AreRisingBy, altered_at}
-use Rattle.record_table.specs.Recorded.{number_of, has_number, service_at, with_config}
-use Rattle.record_table.proofs.Groups.{numbers_if, unmapped}
+use Rattle.row_slab.specs.Rowed.{AreRisingBy, left_by}
+use Rattle.record_table.specs.declared.live.Configured.{Configured}
+use Rattle.record_table.specs.Recorded.{number_of, has_number, service_at}
+use Rattle.record_table.proofs.Groups.{numbers_if}
+
+abbrev configured : Config → Configured
+configured config = record { config = config }
 
 -- where nothing is found, no service passes
 pub none_passes : (p : Service → Bool) (rows : List Service) → find p rows ≡ None → AllByRecursion (λ (row : Service). p row ≡ false) rows
@@ -39,43 +43,15 @@ none_changes n change rows none = by rows (none_passes (has_number n) rows none)
     by [] all = refl
     by (row ∷ rs) all = rw all.0 (ap (λ rest. row ∷ rest) (by rs all.1))
 
--- one row is put in place of the one that has its number
-pub put_is : (n : ℕ) (change : Service → Service) (rows : List Service) (old : Service) → AreRisingBy number_of rows
-    → find (has_number n) rows ≡ Some old
-    → map (λ (row : Service). cond (has_number n row) (change old) row) rows ≡ map
-    (λ (row : Service). cond (has_number n row) (change row) row) rows
-put_is n change [] old rising found = refl
-put_is n change (row ∷ rows) old rising found =
-    elim (cases_Bool (has_number n row)) [
-      | inl is ↦
-          let here : row ≡ old = cc (sym (ap (λ b. cond b (Some row) (find (has_number n) rows)) is) ∙ found) in
-          let later = subst (λ m. AllByRecursion (λ (other : Service). m < other.number) rows) (eqb-true row.number n is) rising.0 in
-          rw (is, unmapped n (λ (r : Service). change old) rows later, unmapped n change rows later, here) refl
-      | inr other ↦
-          let next : find (has_number n) rows ≡ Some old = sym (ap (λ b. cond b (Some row) (find (has_number n) rows)) other) ∙ found in
-          rw other (ap (λ rest. row ∷ rest) (put_is n change rows old rising.1 next))
-    ]
+-- the configuration that is left of an exchange is the one that the service had
+pub exchanged_some : (found : Option Service) (parts : Configured) → is_some found ≡ true
+    → Some (left_by (λ (row : Service). configured row.config) found parts).config ≡ option_map (λ (row : Service). row.config) found
+exchanged_some None parts some = absurd cc
+exchanged_some (Some row) parts some = refl
 
-pub found_number : (n : ℕ) (rows : List Service) (old : Service) → find (has_number n) rows ≡ Some old → old.number ≡ n
-found_number n [] old found = absurd (cc found)
-found_number n (row ∷ rows) old found =
-    elim (cases_Bool (has_number n row)) [
-      | inl is ↦
-          let here : row ≡ old = cc (sym (ap (λ b. cond b (Some row) (find (has_number n) rows)) is) ∙ found) in
-          sym (ap number_of here) ∙ eqb-true row.number n is
-      | inr other ↦ found_number n rows old (sym (ap (λ b. cond b (Some row) (find (has_number n) rows)) other) ∙ found)
-    ]
-
-pub exchanged : (rows after : List Service) (row old : Service) (n : ℕ) (config : Config) → AreRisingBy number_of rows
-    → find (has_number n) rows ≡ Some old → row ≡ record old { config = config }
-    → after ≡ map (altered_at number_of row.number (λ (other : Service). row)) rows
-    → after ≡ map (altered_at number_of n (with_config config)) rows
-exchanged rows after row old n config rising found is changed =
-    let change : Service → Service = λ (r : Service). record r { config = config } in
-    let number : row.number ≡ n = ap number_of is ∙ found_number n rows old found in
-    changed ∙ ap (λ m. map (λ (r : Service). cond (eqb r.number m) row r) rows) number
-    ∙ ap (λ (s : Service). map (λ (r : Service). cond (has_number n r) s r) rows) is
-    ∙ put_is n change rows old rising found
+pub exchanged_none : (found : Option Service) → is_some found ≡ false → None ≡ option_map (λ (row : Service). row.config) found
+exchanged_none None none = refl
+exchanged_none (Some row) none = absurd cc
 
 -- what is told of a configuration is told of its service
 pub none_configured : (o : Option Service) → None ≡ option_map (λ (row : Service). row.config) o → o ≡ None

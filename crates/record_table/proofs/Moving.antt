@@ -12,7 +12,7 @@ use Rattle.row_slab.specs.Rowed.{Rowed, AreRisingBy, altered_at}
 use Rattle.record_table.specs.declared.texts.KeptTexts.{KeptTexts}
 use Rattle.record_table.specs.declared.texts.Spare.{Spare}
 use Rattle.record_table.specs.declared.table.RecordTable.TheInside.{Inside}
-use Rattle.record_table.specs.Kept.{AreOf, ChangeEach, HasRoom, HasTexts, KeepEach, KeepRooms, MoveEach, Moves, Tells, moved}
+use Rattle.record_table.specs.Kept.{AreOf, ChangeEach, HasRoom, HasTexts, KeepEach, KeepRooms, MoveEach, Moves, Indexes, relisted}
 use Rattle.record_table.specs.Recorded.{number_of, has_number, spare_of, with_config}
 use Rattle.record_table.proofs.Groups as groups
 use Rattle.record_table.proofs.Groups.{numbers_if}
@@ -21,9 +21,9 @@ module _ (text_of : Config → List ℕ) where
   abbrev has_text : List ℕ → Service → Bool
   has_text text row = same_text (text_of row.config) text
 
-  listed : (before after : UnderName) (rows : List Service) (new : Service) (text : List ℕ) → Tells has_text before rows
+  listed : (before after : UnderName) (rows : List Service) (new : Service) (text : List ℕ) → Indexes has_text before rows
       → text ≡ text_of new.config → AllByRecursion (λ (row : Service). row.number < new.number) rows
-      → Changes before after text (λ numbers. with_number numbers new.number) → Tells has_text after (rows ++ new ∷ [])
+      → Changes before after text (λ numbers. with_number numbers new.number) → Indexes has_text after (rows ++ new ∷ [])
   listed before after rows new text lists is above changes q =
       changes.lists q ∙ ap (λ g. cond (same_text g q) (with_number (at before q) new.number) (at before q)) is
       ∙ ap (λ l. cond (same_text (text_of new.config) q) (with_number l new.number) l) (lists q)
@@ -41,27 +41,28 @@ module _ (text_of : Config → List ℕ) where
         | false ↦ λ e. sym (groups.unlisted (has_text q) rows gone n rising found e)
       ] refl
 
-  left : (before after : UnderName) (rows : List Service) (gone : Service) (n : ℕ) → Tells has_text before rows → AreRisingBy number_of rows
+  left : (before after : UnderName) (rows : List Service) (gone : Service) (n : ℕ) → Indexes has_text before rows
+      → AreRisingBy number_of rows
       → find (has_number n) rows ≡ Some gone
       → Changes before after (text_of gone.config) (λ numbers. without_number numbers n)
-      → Tells has_text after (filter (λ (row : Service). not (has_number n row)) rows)
+      → Indexes has_text after (filter (λ (row : Service). not (has_number n row)) rows)
   left before after rows gone n lists rising found takes q =
       takes.lists q ∙ ap (λ l. cond (same_text (text_of gone.config) q) (without_number l n) l) (lists q)
       ∙ less rows gone n rising found q ∙ sym (groups.removed (has_text q) rows n)
 
-  exchanged_text : (before after : UnderName) (rows : List Service) (old : Service) (n : ℕ) (config : Config) → Tells has_text before rows
+  exchanged_text : (before after : UnderName) (rows : List Service) (old : Service) (n : ℕ) (config : Config) → Indexes has_text before rows
       → AreRisingBy number_of rows → find (has_number n) rows ≡ Some old
-      → Moves before after (text_of old.config) (text_of config) n → Tells has_text after
+      → Moves before after (text_of old.config) (text_of config) n → Indexes has_text after
       (map (altered_at number_of n (with_config config)) rows)
   exchanged_text before after rows old n config lists rising found moves q =
-      moves q ∙ ap (moved (text_of old.config) (text_of config) n q) (lists q)
+      moves q ∙ ap (relisted (text_of old.config) (text_of config) n q) (lists q)
       ∙ ap (λ l. cond (same_text (text_of config) q) (with_number l n) l) (less rows old n rising found q)
       ∙ sym (groups.replaced (has_text q) rows old n (with_config config) (same_text (text_of config) q) (λ (row : Service). refl)
       (λ (row : Service). refl) rising found)
 
-  lives_on : (lists : UnderName) (rows : List Service) (change : Service → Service) → Tells has_text lists rows
+  lives_on : (lists : UnderName) (rows : List Service) (change : Service → Service) → Indexes has_text lists rows
       → ((row : Service) → (change row).number ≡ row.number) → ((row : Service) → (change row).config ≡ row.config)
-      → Tells has_text lists (map change rows)
+      → Indexes has_text lists (map change rows)
   lives_on lists rows change told numbers configs q = told q ∙ sym (groups.same_members (has_text q) change rows numbers
       (λ (row : Service). ap (λ (c : Config). same_text (text_of c) q) (configs row)))
 

@@ -13,29 +13,29 @@ use Rattle.record_table.specs.Recorded.{Recorded, is_displayed, is_member, is_na
 -- ## Lists under texts
 
 -- the list under each text is that of the services that have it
-abbrev pub Tells : (List ℕ → Service → Bool) → UnderName → List Service → Type 0
-Tells has_text lists rows = (text : List ℕ) → at lists text ≡ numbers_with (has_text text) rows
+abbrev pub Indexes : (List ℕ → Service → Bool) → UnderName → List Service → Type 0
+Indexes has_text lists rows = (text : List ℕ) → at lists text ≡ numbers_with (has_text text) rows
 
 -- each text has the same numbers under it
 abbrev pub Keeps : UnderName → UnderName → Type 0
 Keeps old new = (text : List ℕ) → at new text ≡ at old text
 
 -- a number leaves the list of one text and comes into that of another
-abbrev pub moved : List ℕ → List ℕ → ℕ → List ℕ → List ℕ → List ℕ
-moved before after number text numbers =
+abbrev pub relisted : List ℕ → List ℕ → ℕ → List ℕ → List ℕ → List ℕ
+relisted before after number text numbers =
     let less = if same_text before text then without_number numbers number else numbers in
     if same_text after text then with_number less number else less
 
 abbrev pub Moves : UnderName → UnderName → List ℕ → List ℕ → ℕ → Type 0
 Moves old new before after number =
-    (text : List ℕ) → at new text ≡ moved before after number text (at old text)
+    (text : List ℕ) → at new text ≡ relisted before after number text (at old text)
 
 -- ## The same of names, display names and groups
 
 pub record AreOf (texts : KeptTexts) (rows : List Service) : Type 0 where
-  pub names : Tells is_named texts.names rows
-  pub displays : Tells is_displayed texts.displays rows
-  pub groups : Tells is_member texts.groups rows
+  pub names : Indexes is_named texts.names rows
+  pub displays : Indexes is_displayed texts.displays rows
+  pub groups : Indexes is_member texts.groups rows
 
 pub record KeepEach (old new : KeptTexts) : Type 0 where
   pub names : Keeps old.names new.names

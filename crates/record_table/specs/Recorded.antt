@@ -43,8 +43,8 @@ abbrev pub service_at : List Service → Option ℕ → Option Service
 service_at rows number = option_and_then (λ (n : ℕ). find (has_number n) rows) number
 
 -- the configuration of the service with a number
-abbrev pub config_at : List Service → ℕ → Option Config
-config_at rows number = option_map (λ (row : Service). row.config) (find (has_number number) rows)
+abbrev pub config_of_number : List Service → ℕ → Option Config
+config_of_number rows number = option_map (λ (row : Service). row.config) (find (has_number number) rows)
 
 abbrev pub with_config : Config → Service → Service
 with_config config row = record row { config = config }

@@ -1,8 +1,9 @@
-ghost use Rattle.record_table.specs.Recorded.{lived};
+ghost use Rattle.record_table.specs.Recorded.{lived, with_config};
 ghost use Rattle.std.proofs.Common.{refl};
 
-use row_slab::Change;
-use scm_model::{Service, Status};
+use row_slab::{Change, Exchange};
+use scm_model::{Config, Service, Status};
+use std::mem;
 
 /// What changes of a service while it lives.
 #[derive(Clone, Copy)]
@@ -26,5 +27,23 @@ impl Change<Service> for Live {
         row.process = self.process;
         row.failures = self.failures;
         row.last_failure = self.last_failure;
+    }
+}
+
+/// A configuration that a service is given, and then the one that it had.
+#[derive(Drop)]
+pub struct Configured {
+    pub config: Config,
+}
+
+impl Exchange<Service> for Configured {
+    ghost exchanged = { λ parts. with_config parts.config };
+
+    ghost left = { λ parts row. record { config = row.config } };
+
+    ghost keeps = { λ parts row. refl };
+
+    fn exchange(&mut self, row: &mut Service) {
+        mem::swap(&mut self.config, &mut row.config);
     }
 }

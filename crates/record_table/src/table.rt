@@ -5,13 +5,15 @@ ghost use Rattle.number_lists.specs.Rising.{AreRising};
 ghost use Rattle.row_slab.specs.Rowed.{AreRisingBy, is_above};
 ghost use Rattle.scm_model.specs.declared.flat.Service.{Service};
 ghost use Rattle.record_table.specs.Recorded.{altered, altered_each, change_at, changed_to};
-ghost use Rattle.record_table.specs.Recorded.{config_at, empty, first_with, has_number, inserted};
+ghost use Rattle.record_table.specs.Recorded.{config_of_number, empty, first_with, has_number};
+ghost use Rattle.record_table.specs.Recorded.{inserted};
 ghost use Rattle.record_table.specs.Recorded.{is_displayed, is_member, is_named, lived, number_of};
-ghost use Rattle.record_table.specs.Recorded.{numbers_with, removed, replaced, reserved, service_at};
+ghost use Rattle.record_table.specs.Recorded.{numbers_with, removed, replaced, reserved};
+ghost use Rattle.record_table.specs.Recorded.{service_at};
 ghost use Rattle.record_table.specs.Recorded.{spare_of, unreserved, with_config};
 
 use super::iter::Services;
-use super::live::Live;
+use super::live::{Configured, Live};
 use super::texts::{
     KeptTexts, Spare, enter_texts, exchange_room, forget_room, leave_texts, move_texts,
     reserve_texts,
@@ -43,39 +45,21 @@ impl Model for RecordTable {
     ghost invariant = { IsKept };
 }
 
-/// A service with another configuration.
-fn configured(row: &Service, config: Config) -> Service
-    ensures { result ≡ with_config config row.now }
-{
-    Service {
-        number: row.number,
-        config,
-        status: row.status,
-        marked: row.marked,
-        process: row.process,
-        failures: row.failures,
-        last_failure: row.last_failure,
-    }
-}
-
-/// The configuration of a service that is let go.
-fn config_of(row: Service) -> Config
-    ensures { result ≡ row.config }
-{
-    row.config
-}
-
+#[tactic(auto, using(crate::proofs::Finding::exchanged_some, crate::proofs::Finding::exchanged_none))]
 /// Gives the service with a number another configuration, and answers the one that it had.
 fn exchange(rows: &mut Rows<Service>, number: u64, config: Config) -> Option<Config>
-    requires { AreRisingBy number_of rows.old.items }
-    ensures config { result ≡ config_at rows.old.items number }
+    ensures config { result ≡ config_of_number rows.old.items number }
     ensures items { rows.new.items ≡ change_at number (with_config config) rows.old.items }
     ensures room { rows.new.room ≡ rows.old.room }
 {
-    let row = configured(rows.get(number)?, config);
-    match rows.replace(row) {
-        Some(row) => Some(config_of(row)),
-        None => None,
+    let mut parts = Configured { config };
+    let is_found = rows.exchange(number, &mut parts);
+    let Configured { config } = parts;
+    if is_found {
+        Some(config)
+    } else {
+        drop(config);
+        None
     }
 }
 
@@ -160,7 +144,7 @@ impl RecordTable {
     /// had. Where no service has the number nothing changes. It takes no memory.
     pub fn replace(&mut self, number: u64, config: Config) -> Option<Config>
         requires spare { self.old.spare ≡ Some (spare_of config) }
-        ensures config { result ≡ config_at self.old.services number }
+        ensures config { result ≡ config_of_number self.old.services number }
         ensures table { self.new ≡ replaced self.old number config }
     {
         let before = exchange(&mut self.rows, number, config)?;

@@ -1,4 +1,4 @@
-//! Runs of the small object behind a turn, by one thread and by many.
+//! Runs of the small object that threads take turns at, by one thread and by many.
 #![tactic(auto)]
 
 #[cfg(test)]

@@ -2,7 +2,7 @@
 use Rattle.std.proofs.Common.{ℕ, ◌≡◌, ◌≢◌, ◌<◌, ◌≤◌, ◌∙◌, zero, suc, true, not, List, [], ◌∷◌, ◌++◌, Option, Some, None, refl, sym, ap}
 use Rattle.std.proofs.Common.{subst, is_some, length, get_or, filter, find, map, arith, remove}
 use Rattle.std.specs.Prelude.{slice_get, slice_index_or, option_map}
-use Rattle.std.specs.List.{AllByRecursion}
+use Rattle.std.specs.List.{AllByRecursion, HoldsAt}
 use Rattle.std.proofs.lemmas.Bool.{eq-eqb, ne_eqb, lt-ltb, le-ltb}
 use Rattle.std.specs.Prelude.{IfSome}
 use Rattle.slab.specs.Slab.{Slab, get, Updates}
@@ -29,12 +29,29 @@ module _ {T : Type 0} (number_of : T → ℕ) where
       (λ (other : Place). place.number < other.number) places j d kept.1 (omega arith)
   ordered slots (place ∷ places) kept (suc i) (suc j) d lt within = ordered slots places kept.2 i j d (omega arith) (omega arith)
 
+  -- a later place is of a higher number
+  lower : (slots : List (Option T)) (place : Place) (places : List Place) (i : ℕ) (d : Place) → AreKept number_of slots (place ∷ places)
+      → i < length places → place.number < (get_or places i d).number
+  lower slots place places i d kept lt = all_places (λ (other : Place). place.number < other.number) places i d kept.1 lt
+
   -- at each place there is a row
   pub there : (slots : List (Option T)) (places : List Place) (i : ℕ) (d : Place) → AreKept number_of slots places → i < length places
       → IsRowOf number_of (get_or places i d).number (at slots (get_or places i d).key)
   there slots [] i d kept lt = absurd (omega arith)
   there slots (place ∷ places) zero d kept lt = kept.0
   there slots (place ∷ places) (suc i) d kept lt = there slots places i d kept.2 (omega arith)
+
+  -- no row has two numbers
+  clash : (o : Option T) (m n : ℕ) → IsRowOf number_of m o → IsRowOf number_of n o → m < n → ⊥
+  clash None m n a b lt = a
+  clash (Some row) m n a b lt = omega (arith, a, b, lt)
+
+  -- a later place has another key
+  other_key : (slots : List (Option T)) (place : Place) (places : List Place) (i : ℕ) (d : Place)
+      → AreKept number_of slots (place ∷ places) → i < length places → place.key ≢ (get_or places i d).key
+  other_key slots place places i d kept lt = λ same.
+      let row = subst (λ k. IsRowOf number_of (get_or places i d).number (at slots k)) (sym same) (there slots places i d kept.2 lt) in
+      clash (at slots place.key) place.number (get_or places i d).number kept.0 row (lower slots place places i d kept lt)
 
   -- ## A row is found
 
@@ -49,8 +66,7 @@ module _ {T : Type 0} (number_of : T → ℕ) where
         | Some row ↦ λ h. rw (eq-eqb (number_of row) n (h ∙ is)) refl
       ] kept.0
   found slots (place ∷ places) (suc i) n d kept lt is =
-      let less : place.number < (get_or places i d).number = all_places (λ (other : Place). place.number < other.number) places i d kept.1
-      (omega arith) in
+      let less = lower slots place places i d kept (omega arith) in
       elim (at slots place.key) as (λ o. IsRowOf number_of place.number o
       → find (is_at number_of n) (cons_row o (rows_at slots places)) ≡ at slots (get_or places i d).key) [
         | None ↦ λ h. absurd h
@@ -149,13 +165,9 @@ module _ {T : Type 0} (number_of : T → ℕ) where
       → AllByRecursion (λ (other : Place). n < other.number) places → AreKept number_of slots places → IsApart key places
   apart_above slots key n [] row above kept = tt
   apart_above slots key n (place ∷ places) row above kept = (
-    λ same. clash (at slots key) place.number row (subst (λ k. IsRowOf number_of place.number (at slots k)) same kept.0) above.0,
+    λ same. clash (at slots key) n place.number row (subst (λ k. IsRowOf number_of place.number (at slots k)) same kept.0) above.0,
     apart_above slots key n places row above.1 kept.2,
   )
-    where
-      clash : (o : Option T) (m : ℕ) → IsRowOf number_of n o → IsRowOf number_of m o → n < m → ⊥
-      clash None m a b lt = a
-      clash (Some r) m a b lt = omega (arith, a, b, lt)
 
   -- ## A row more
 
@@ -226,23 +238,14 @@ module _ {T : Type 0} (number_of : T → ℕ) where
             (all_rows place.number old places kept.2 kept.1))))
       ] kept.0
   removed old new (place ∷ places) (suc i) n d kept lt is others =
-      let less : place.number < (get_or places i d).number = all_places (λ (other : Place). place.number < other.number) places i d kept.1
-      (omega arith) in
-      let differs : place.key ≢ (get_or places i d).key = λ same. clash (at old place.key) kept.0
-      (subst (λ k. IsRowOf number_of (get_or places i d).number (at old k)) (sym same) (there old places i d kept.2 (omega arith))) less
-      in
-      rw (others place.key differs, removed old new places i n d kept.2 (omega arith) is others)
+      let less = lower old place places i d kept (omega arith) in
+      rw (others place.key (other_key old place places i d kept (omega arith)), removed old new places i n d kept.2 (omega arith) is others)
       (elim (at old place.key) as (λ o. IsRowOf number_of place.number o
       → cons_row o (filter (λ (row : T). not (is_at number_of n row)) (rows_at old places)) ≡ filter
       (λ (row : T). not (is_at number_of n row)) (cons_row o (rows_at old places))) [
         | None ↦ λ h. absurd h
         | Some row ↦ λ h. rw (ne_eqb (number_of row) n (omega (arith, h, less, is))) refl
       ] kept.0)
-    where
-      clash : (o : Option T) → IsRowOf number_of place.number o → IsRowOf number_of (get_or places i d).number o
-          → place.number < (get_or places i d).number → ⊥
-      clash None a b lt = a
-      clash (Some r) a b lt = omega (arith, a, b, lt)
 
   all_removed : (P : Place → Type 0) (places : List Place) (i : ℕ) → AllByRecursion P places → AllByRecursion P (remove places i)
   all_removed P [] zero all = tt
@@ -256,21 +259,11 @@ module _ {T : Type 0} (number_of : T → ℕ) where
   kept_removed old new [] i d kept lt others = absurd (omega arith)
   kept_removed old new (place ∷ places) zero d kept lt others = still_kept old new place.key places others
       (apart_above old place.key place.number places kept.0 kept.1 kept.2) kept.2
-  kept_removed old new (place ∷ places) (suc i) d kept lt others =
-      let less : place.number < (get_or places i d).number = all_places (λ (other : Place). place.number < other.number) places i d kept.1
-      (omega arith) in
-      let differs : place.key ≢ (get_or places i d).key = λ same. clash (at old place.key) kept.0
-      (subst (λ k. IsRowOf number_of (get_or places i d).number (at old k)) (sym same) (there old places i d kept.2 (omega arith))) less
-      in (
-        rw (others place.key differs) kept.0,
-        all_removed (λ (other : Place). place.number < other.number) places i kept.1,
-        kept_removed old new places i d kept.2 (omega arith) others,
-      )
-    where
-      clash : (o : Option T) → IsRowOf number_of place.number o → IsRowOf number_of (get_or places i d).number o
-          → place.number < (get_or places i d).number → ⊥
-      clash None a b lt = a
-      clash (Some r) a b lt = omega (arith, a, b, lt)
+  kept_removed old new (place ∷ places) (suc i) d kept lt others = (
+    rw (others place.key (other_key old place places i d kept (omega arith))) kept.0,
+    all_removed (λ (other : Place). place.number < other.number) places i kept.1,
+    kept_removed old new places i d kept.2 (omega arith) others,
+  )
 
   -- a number that is nowhere takes no row out
   pub stays : (slots : List (Option T)) (places : List Place) (n : ℕ) → AreKept number_of slots places
@@ -307,23 +300,17 @@ module _ {T : Type 0} (number_of : T → ℕ) where
       (all_rows place.number old places kept.2 kept.1)) in
       rw (was, now, eq-eqb (number_of row) n (number ∙ is), rest, alike) refl
   altered old new (place ∷ places) (suc i) n d row change kept lt is others was now =
-      let less : place.number < (get_or places i d).number = all_places (λ (other : Place). place.number < other.number) places i d kept.1
-      (omega arith) in
-      let differs : place.key ≢ (get_or places i d).key = λ same. clash (at old place.key) kept.0
-      (subst (λ k. IsRowOf number_of (get_or places i d).number (at old k)) (sym same) (there old places i d kept.2 (omega arith))) less
-      in
-      rw (others place.key differs, altered old new places i n d row change kept.2 (omega arith) is others was now)
+      let less = lower old place places i d kept (omega arith) in
+      rw (
+        others place.key (other_key old place places i d kept (omega arith)),
+        altered old new places i n d row change kept.2 (omega arith) is others was now,
+      )
       (elim (at old place.key) as (λ o. IsRowOf number_of place.number o
       → cons_row o (map (altered_at number_of n change) (rows_at old places)) ≡ map (altered_at number_of n change)
       (cons_row o (rows_at old places))) [
         | None ↦ λ h. absurd h
         | Some head ↦ λ h. rw (ne_eqb (number_of head) n (omega (arith, h, less, is))) refl
       ] kept.0)
-    where
-      clash : (o : Option T) → IsRowOf number_of place.number o → IsRowOf number_of (get_or places i d).number o
-          → place.number < (get_or places i d).number → ⊥
-      clash None a b lt = a
-      clash (Some r) a b lt = omega (arith, a, b, lt)
 
   pub kept_altered : (old new : List (Option T)) (places : List Place) (i : ℕ) (d : Place) (row changed : T) → AreKept number_of old places
       → i < length places
@@ -338,17 +325,11 @@ module _ {T : Type 0} (number_of : T → ℕ) where
         still_kept old new place.key places others
             (apart_above old place.key place.number places kept.0 kept.1 kept.2) kept.2,
       )
-  kept_altered old new (place ∷ places) (suc i) d row changed kept lt others was now same =
-      let less : place.number < (get_or places i d).number = all_places (λ (other : Place). place.number < other.number) places i d kept.1
-      (omega arith) in
-      let differs : place.key ≢ (get_or places i d).key = λ e. clash (at old place.key) kept.0
-      (subst (λ k. IsRowOf number_of (get_or places i d).number (at old k)) (sym e) (there old places i d kept.2 (omega arith))) less in
-      (rw (others place.key differs) kept.0, kept.1, kept_altered old new places i d row changed kept.2 (omega arith) others was now same)
-    where
-      clash : (o : Option T) → IsRowOf number_of place.number o → IsRowOf number_of (get_or places i d).number o
-          → place.number < (get_or places i d).number → ⊥
-      clash None a b lt = a
-      clash (Some r) a b lt = omega (arith, a, b, lt)
+  kept_altered old new (place ∷ places) (suc i) d row changed kept lt others was now same = (
+    rw (others place.key (other_key old place places i d kept (omega arith))) kept.0,
+    kept.1,
+    kept_altered old new places i d row changed kept.2 (omega arith) others was now same,
+  )
 
   -- a number that is nowhere changes no row
   pub unaltered : (slots : List (Option T)) (places : List Place) (n : ℕ) (change : T → T) → AreKept number_of slots places
@@ -408,55 +389,38 @@ module _ {T : Type 0} (number_of : T → ℕ) where
             (no_next slots places n kept.2 (λ k e before. below (suc k) e (omega arith)))
       ] kept.0
 
-  -- a write at a place of the slab
-  module _ (old new : Slab T) (places : List Place) (i : ℕ) (place : Place) (kept : AreKept number_of old.slots places)
-      (lt : i < length places) (is : place ≡ get_or places i place) where
-    row_there : IsRowOf number_of place.number (get old place.key)
-    row_there = subst (λ (p : Place). IsRowOf number_of p.number (get old p.key)) (sym is) (there old.slots places i place kept lt)
+  -- ## A write at a place of the slab
 
-    others_there : {slot : Option T} → Updates old new place.key slot → (other : ℕ) → other ≢ (get_or places i place).key
-        → at new.slots other ≡ at old.slots other
-    others_there updates other differs = updates.others other (λ same. differs (same ∙ ap (λ (p : Place). p.key) is))
+  -- the slot of a key was changed, and holds the row with a number
+  pub record IsWritten (old new : Slab T) (places : List Place) (key n : ℕ) (change : T → T) : Type 0 where
+    pub some : is_some (get old key) ≡ true
+    pub found : find (is_at number_of n) (rows_at old.slots places) ≡ get old key
+    pub items : rows_at new.slots places ≡ map (altered_at number_of n change) (rows_at old.slots places)
+    pub kept : AreKept number_of new.slots places
 
-    at_place : (slots : List (Option T)) → at slots (get_or places i place).key ≡ at slots place.key
-    at_place slots = ap (λ (p : Place). at slots p.key) (sym is)
+  pub written : (old new : Slab T) (places : List Place) (i n : ℕ) (place : Place) (change : T → T) → AreKept number_of old.slots places
+      → (i < length places) × HoldsAt (λ (p : Place). p.number ≡ n) places i → place ≡ get_or places i place
+      → IfSome (get old place.key) (λ row. Updates old new place.key (Some (change row)))
+      → ((row : T) → number_of (change row) ≡ number_of row) → IsWritten old new places place.key n change
+  written old new places i n place change kept here is updates same = by (get old place.key) refl row_there updates
+    where
+      row_there : IsRowOf number_of place.number (get old place.key)
+      row_there = subst (λ (p : Place). IsRowOf number_of p.number (get old p.key)) (sym is) (there old.slots places i place kept here.0)
 
-    pub some_there : is_some (get old place.key) ≡ true
-    some_there = by (get old place.key) row_there
-      where
-        by : (o : Option T) → IsRowOf number_of place.number o → is_some o ≡ true
-        by None h = absurd h
-        by (Some row) h = refl
+      at_place : (slots : List (Option T)) → at slots (get_or places i place).key ≡ at slots place.key
+      at_place slots = ap (λ (p : Place). at slots p.key) (sym is)
 
-    module _ (change : T → T) (n : ℕ) (number : (get_or places i place).number ≡ n) (updates : (row : T) → get old place.key ≡ Some row
-        → Updates old new place.key (Some (change row))) where
-      pub rows_changed : rows_at new.slots places ≡ map (altered_at number_of n change) (rows_at old.slots places)
-      rows_changed = by (get old place.key) refl row_there
-        where
-          by : (o : Option T) → get old place.key ≡ o → IsRowOf number_of place.number o
-              → rows_at new.slots places ≡ map (altered_at number_of n change) (rows_at old.slots places)
-          by None e h = absurd h
-          by (Some row) e h =
-              let u = updates row e in
-              altered old.slots new.slots places i n place row change kept lt number (others_there u) (at_place old.slots ∙ e)
-              (at_place new.slots ∙ u.changed)
-
-      pub still : ((row : T) → get old place.key ≡ Some row → number_of (change row) ≡ number_of row) → AreKept number_of new.slots places
-      still same = by (get old place.key) refl row_there
-        where
-          by : (o : Option T) → get old place.key ≡ o → IsRowOf number_of place.number o → AreKept number_of new.slots places
-          by None e h = absurd h
-          by (Some row) e h =
-              let u = updates row e in
-              kept_altered old.slots new.slots places i place row (change row) kept lt (others_there u) (at_place old.slots ∙ e)
-              (at_place new.slots ∙ u.changed) (same row e)
-
-    pub number_there : (row : T) → get old place.key ≡ Some row → number_of row ≡ (get_or places i place).number
-    number_there row e = subst (λ o. IsRowOf number_of place.number o) e row_there ∙ ap (λ (p : Place). p.number) is
-
-    pub found_there : (n : ℕ) → (get_or places i place).number ≡ n → find (is_at number_of n) (rows_at old.slots places) ≡ get old place.key
-    found_there n number = found old.slots places i n place kept lt number ∙ at_place old.slots
-
--- what is said of the value, if there is one
-pub if_some : {T : Type 0} (o : Option T) (P : T → Type 0) → IfSome o P → (row : T) → o ≡ Some row → P row
-if_some o P h row e = rw e at h
+      by : (o : Option T) → get old place.key ≡ o → IsRowOf number_of place.number o
+          → IfSome o (λ row. Updates old new place.key (Some (change row))) → IsWritten old new places place.key n change
+      by None e row updates = absurd row
+      by (Some row) e number updates =
+          let others : (other : ℕ) → other ≢ (get_or places i place).key → at new.slots other ≡ at old.slots other =
+          λ other differs. updates.others other (λ same. differs (same ∙ ap (λ (p : Place). p.key) is)) in
+          let was = at_place old.slots ∙ e in
+          let now = at_place new.slots ∙ updates.changed in
+          record {
+            some = ap is_some e;
+            found = found old.slots places i n place kept here.0 (here.1 place) ∙ at_place old.slots;
+            items = altered old.slots new.slots places i n place row change kept here.0 (here.1 place) others was now;
+            kept = kept_altered old.slots new.slots places i place row (change row) kept here.0 others was now (same row);
+          }

@@ -23,10 +23,10 @@ use Rattle.rpc_pdu.specs.declared.pdu.PduRead.TheVariants.{Whole}
 use Rattle.rpc_pdu.specs.declared.pdu.PduKind.TheVariants as kinds
 use Rattle.rpc_pdu.specs.Header.{type_of, whole_fault, has_flag}
 use Rattle.rpc_pdu.specs.Pdu.{bind_at, ack_at, results_place, pdu_at, header_of, pdu_body, IsSettled}
-use Rattle.rpc_pdu.specs.Written.{pdu_header, written, flags_of, object_bytes, fault_bytes, nak_bytes, bytes_16, bytes_32, zeros}
+use Rattle.rpc_pdu.specs.Written.{pdu_header, encoded, flags_of, object_bytes, fault_bytes, nak_bytes, le_16, le_32, zeros}
 use Rattle.rpc_pdu.specs.Written.{IsWritable, request_pdu_bytes, request_front, response_bytes, response_front, bind_bytes, bind_front}
 use Rattle.rpc_pdu.specs.Written.{ack_bytes, ack_front, ack_size, address_padding, result_count}
-use Rattle.rpc_pdu.specs.ReadBack.{IsRequest, IsResponse, IsFault, IsBind, IsAck, IsNak, IsExactPdu, IsReadBack, reader_of}
+use Rattle.rpc_pdu.specs.ReadBack.{IsRequest, IsResponse, IsFault, IsBind, IsAck, IsNak, IsExactPdu, IsPduReadBack, reader_of}
 use Rattle.rpc_pdu.proofs.Settled.{settled}
 
 -- a header that is written
@@ -78,7 +78,7 @@ any_fragment flags size call = either (has_flag 1 flags && has_flag 2 flags) whe
 
 module _ (first last : Bool) (call hint context size : ℕ) (stub : List ℕ) where
   abbrev response : List ℕ
-  response = pdu_header 2 (flags_of first last) size call ++ bytes_32 hint ++ bytes_16 context ++ zeros 2 ++ stub
+  response = pdu_header 2 (flags_of first last) size call ++ le_32 hint ++ le_16 context ++ zeros 2 ++ stub
 
   response_body : hint < 2 ^ 32 → context < 2 ^ 16 →
       pdu_body types.Response (made 2 (flags_of first last) size call) response
@@ -91,7 +91,7 @@ response_back : (r : ResponsePdu (List ℕ)) → 24 + length r.stub < 2 ^ 16 →
     → pdu_at Client (response_bytes r) ≡ Whole (pdus.Response r) (length (response_bytes r))
 unfolding response_bytes response_front
 response_back r s x =
-    read_whole Client 2 types.Response (flags_of r.first r.last) (24 + length r.stub) r.call (bytes_32 r.hint ++ bytes_16 r.context
+    read_whole Client 2 types.Response (flags_of r.first r.last) (24 + length r.stub) r.call (le_32 r.hint ++ le_16 r.context
     ++ zeros 2 ++ r.stub) (pdus.Response r)
     refl (any_fragment (flags_of r.first r.last) (24 + length r.stub) r.call) (omega arith) s x.call
     (response_body r.first r.last r.call r.hint r.context (24 + length r.stub) r.stub x.hint x.context)
@@ -125,21 +125,25 @@ no_object_told false false = refl
 plus_none : (n : ℕ) → n + 0 ≡ n
 plus_none n = omega arith
 
+-- the fragment of a request that these make
+abbrev request_pdu : Bool → Bool → ℕ → ℕ → ℕ → ℕ → Option (List ℕ) → List ℕ → RequestPdu (List ℕ)
+request_pdu first last call hint context opnum object stub = record {
+  call = call;
+  first = first;
+  last = last;
+  hint = hint;
+  context = context;
+  opnum = opnum;
+  object = object;
+  stub = stub;
+}
+
 module _ (first last : Bool) (call hint context opnum size : ℕ) where
   abbrev request_start : ℕ → List ℕ
-  request_start flags = pdu_header 0 flags size call ++ bytes_32 hint ++ bytes_16 context ++ bytes_16 opnum
+  request_start flags = pdu_header 0 flags size call ++ le_32 hint ++ le_16 context ++ le_16 opnum
 
   abbrev request_is : Option (List ℕ) → List ℕ → Option (Pdu (List ℕ))
-  request_is object stub = Some (pdus.Request (record {
-    call = call;
-    first = first;
-    last = last;
-    hint = hint;
-    context = context;
-    opnum = opnum;
-    object = object;
-    stub = stub;
-  }))
+  request_is object stub = Some (pdus.Request (request_pdu first last call hint context opnum object stub))
 
   plain_body : (stub : List ℕ) → hint < 2 ^ 32 → context < 2 ^ 16 → opnum < 2 ^ 16 →
       pdu_body types.Request (made 0 (flags_of first last) size call) (request_start (flags_of first last) ++ stub) ≡ request_is None stub
@@ -182,46 +186,21 @@ RequestBack r = 24 + length (object_bytes r.object) + length r.stub < 2 ^ 16 →
     → pdu_at Server (request_pdu_bytes r) ≡ Whole (pdus.Request r) (length (request_pdu_bytes r))
 
 request_back : (first last : Bool) (call hint context opnum : ℕ) (object : Option (List ℕ)) (stub : List ℕ) →
-    RequestBack (record {
-      call = call;
-      first = first;
-      last = last;
-      hint = hint;
-      context = context;
-      opnum = opnum;
-      object = object;
-      stub = stub;
-    })
+    RequestBack (request_pdu first last call hint context opnum object stub)
 unfolding request_pdu_bytes request_front
 request_back first last call hint context opnum None stub s x =
     let size = 24 + length stub in
     let plain : flags_of first last + 0 ≡ flags_of first last = plus_none (flags_of first last) in
-    rw plain (read_whole Server 0 types.Request (flags_of first last) size call (bytes_32 hint ++ bytes_16 context ++ bytes_16 opnum
-    ++ stub) (pdus.Request (record {
-      call = call;
-      first = first;
-      last = last;
-      hint = hint;
-      context = context;
-      opnum = opnum;
-      object = None;
-      stub = stub;
-    }))
+    rw plain (read_whole Server 0 types.Request (flags_of first last) size call (le_32 hint ++ le_16 context ++ le_16 opnum
+    ++ stub)
+    (pdus.Request (request_pdu first last call hint context opnum None stub))
     refl (any_request (flags_of first last) size call) (omega arith) (omega (arith, s)) x.call
     (plain_body first last call hint context opnum size stub x.hint x.context x.opnum))
 request_back first last call hint context opnum (Some object) stub s x =
     let size = 24 + length object + length stub in
-    read_whole Server 0 types.Request (flags_of first last + 128) size call (bytes_32 hint ++ bytes_16 context ++ bytes_16 opnum
-    ++ (object ++ stub)) (pdus.Request (record {
-      call = call;
-      first = first;
-      last = last;
-      hint = hint;
-      context = context;
-      opnum = opnum;
-      object = Some object;
-      stub = stub;
-    }))
+    read_whole Server 0 types.Request (flags_of first last + 128) size call (le_32 hint ++ le_16 context ++ le_16 opnum
+    ++ (object ++ stub))
+    (pdus.Request (request_pdu first last call hint context opnum (Some object) stub))
     refl (any_request (flags_of first last + 128) size call) (omega (arith, length-append object stub)) s x.call
     (object_body first last call hint context opnum size object stub x.object x.hint x.context x.opnum)
 
@@ -229,7 +208,7 @@ request_back first last call hint context opnum (Some object) stub s x =
 
 fault_back : (f : FaultPdu) → IsFault f → pdu_at Client (fault_bytes f) ≡ Whole (pdus.Fault f) (length (fault_bytes f))
 fault_back f x =
-    read_whole Client 3 types.Fault 3 32 f.call (bytes_32 f.hint ++ bytes_16 f.context ++ zeros 2 ++ bytes_32 f.status ++ zeros 4)
+    read_whole Client 3 types.Fault 3 32 f.call (le_32 f.hint ++ le_16 f.context ++ zeros 2 ++ le_32 f.status ++ zeros 4)
     (pdus.Fault f)
     refl refl (omega arith) (omega arith) x.call
     (rw (
@@ -240,14 +219,14 @@ fault_back f x =
 
 nak_back : (n : Nak) → IsNak n → pdu_at Client (nak_bytes n) ≡ Whole (pdus.BindNak n) (length (nak_bytes n))
 nak_back n x =
-    read_whole Client 13 types.BindNak 3 21 n.call (bytes_16 n.reason ++ (1 ∷ 5 ∷ 0 ∷ [])) (pdus.BindNak n)
+    read_whole Client 13 types.BindNak 3 21 n.call (le_16 n.reason ++ (1 ∷ 5 ∷ 0 ∷ [])) (pdus.BindNak n)
     refl refl (omega arith) (omega arith) x.call
     (rw (from_le_bytes-to_le_bytes_2 n.reason x.reason) refl)
 
 -- ---- binds and alter_contexts
 
 abbrev bind_start : ℕ → ℕ → Bind (List ℕ) → List ℕ
-bind_start kind size b = pdu_header kind 3 size b.call ++ bytes_16 b.transmit ++ bytes_16 b.receive ++ bytes_32 b.group
+bind_start kind size b = pdu_header kind 3 size b.call ++ le_16 b.transmit ++ le_16 b.receive ++ le_32 b.group
     ++ (b.count ∷ zeros 3)
 
 abbrev with_auth : Bind (List ℕ) → ℕ → Option (Bind (List ℕ))
@@ -280,7 +259,7 @@ bind_back : (b : Bind (List ℕ)) → 28 + length b.contexts < 2 ^ 16 → b.auth
 unfolding bind_bytes bind_front
 bind_back b s a x =
     let size = 28 + length b.contexts in
-    read_whole Server 11 types.Bind 3 size b.call (bytes_16 b.transmit ++ bytes_16 b.receive ++ bytes_32 b.group ++ (b.count ∷ zeros 3)
+    read_whole Server 11 types.Bind 3 size b.call (le_16 b.transmit ++ le_16 b.receive ++ le_32 b.group ++ (b.count ∷ zeros 3)
     ++ b.contexts) (pdus.Bind b)
     refl refl (omega arith) s x.call (ap (option_map pdus.Bind) (bind_body 11 size b a x))
 
@@ -289,15 +268,15 @@ alter_back : (b : Bind (List ℕ)) → 28 + length b.contexts < 2 ^ 16 → b.aut
 unfolding bind_bytes bind_front
 alter_back b s a x =
     let size = 28 + length b.contexts in
-    read_whole Server 14 types.Alter 3 size b.call (bytes_16 b.transmit ++ bytes_16 b.receive ++ bytes_32 b.group ++ (b.count ∷ zeros 3)
+    read_whole Server 14 types.Alter 3 size b.call (le_16 b.transmit ++ le_16 b.receive ++ le_32 b.group ++ (b.count ∷ zeros 3)
     ++ b.contexts) (pdus.Alter b)
     refl refl (omega arith) s x.call (ap (option_map pdus.Alter) (bind_body 14 size b a x))
 
 -- ---- answers to binds
 
 abbrev ack_start : ℕ → ℕ → Ack (List ℕ) → List ℕ
-ack_start kind size a = pdu_header kind 3 size a.call ++ bytes_16 a.transmit ++ bytes_16 a.receive ++ bytes_32 a.group
-    ++ bytes_16 (length a.address)
+ack_start kind size a = pdu_header kind 3 size a.call ++ le_16 a.transmit ++ le_16 a.receive ++ le_32 a.group
+    ++ le_16 (length a.address)
 
 -- what stands behind an address
 abbrev ack_tail : Ack (List ℕ) → List ℕ
@@ -374,7 +353,7 @@ ack_parts kind a =
 -- what stands behind the header of an answer
 abbrev behind_header : Ack (List ℕ) → List ℕ
 behind_header a =
-    (((bytes_16 a.transmit ++ bytes_16 a.receive ++ bytes_32 a.group ++ bytes_16 (length a.address)) ++ a.address)
+    (((le_16 a.transmit ++ le_16 a.receive ++ le_32 a.group ++ le_16 (length a.address)) ++ a.address)
     ++ zeros (address_padding (length a.address)))
     ++ ((a.count ∷ 0 ∷ 0 ∷ 0 ∷ []) ++ a.results)
 
@@ -392,8 +371,8 @@ module _ (a : Ack (List ℕ)) (s : ack_size a < 2 ^ 16) (x : IsAck a) where
 
 -- ---- all of them
 
-read_alone : (pdu : Pdu (List ℕ)) → IsWritable pdu → IsExactPdu pdu → pdu_at (reader_of pdu) (written pdu) ≡ Whole pdu
-    (length (written pdu))
+read_alone : (pdu : Pdu (List ℕ)) → IsWritable pdu → IsExactPdu pdu → pdu_at (reader_of pdu) (encoded pdu) ≡ Whole pdu
+    (length (encoded pdu))
 read_alone (pdus.Request r) s x = request_back r.first r.last r.call r.hint r.context r.opnum r.object r.stub s x
 read_alone (pdus.Response r) s x = response_back r s x
 read_alone (pdus.Fault f) s x = fault_back f x
@@ -403,7 +382,7 @@ read_alone (pdus.BindAck a) s x = bind_ack_back a s x
 read_alone (pdus.AlterAck a) s x = alter_ack_back a s x
 read_alone (pdus.BindNak n) s x = nak_back n x
 
-pub read_back : (pdu : Pdu (List ℕ)) → IsWritable pdu → IsExactPdu pdu → IsReadBack pdu
+pub read_back : (pdu : Pdu (List ℕ)) → IsWritable pdu → IsExactPdu pdu → IsPduReadBack pdu
 read_back pdu s x more =
     let alone = read_alone pdu s x in
-    settled (reader_of pdu) (written pdu) more (subst IsSettled (sym alone) tt) ∙ alone
+    settled (reader_of pdu) (encoded pdu) more (subst IsSettled (sym alone) tt) ∙ alone

@@ -18,7 +18,7 @@ use Rattle.rpc_pdu.specs.declared.pdu.Pdu.{Pdu}
 use Rattle.rpc_pdu.specs.declared.pdu.Pdu.TheVariants as pdus
 use Rattle.rpc_pdu.specs.declared.pdu.PduRead.{PduRead}
 use Rattle.rpc_pdu.specs.declared.pdu.PduRead.TheVariants.{Whole, Short, Bad}
-use Rattle.rpc_pdu.specs.Number.{number_16, number_32}
+use Rattle.rpc_pdu.specs.Number.{short_at, long_at}
 use Rattle.rpc_pdu.specs.Header.{header_at, header_fault, whole_fault, has_flag}
 use Rattle.rpc_pdu.specs.Contexts.{are_contexts}
 
@@ -28,9 +28,9 @@ request_pdu_from stub object h pdu =
       call = h.call;
       first = has_flag 1 h.flags;
       last = has_flag 2 h.flags;
-      hint = number_32 pdu 16;
-      context = number_16 pdu 20;
-      opnum = number_16 pdu 22;
+      hint = long_at pdu 16;
+      context = short_at pdu 20;
+      opnum = short_at pdu 22;
       object = object;
       stub = drop stub pdu;
     })
@@ -45,8 +45,8 @@ response_at h pdu =
       call = h.call;
       first = has_flag 1 h.flags;
       last = has_flag 2 h.flags;
-      hint = number_32 pdu 16;
-      context = number_16 pdu 20;
+      hint = long_at pdu 16;
+      context = short_at pdu 20;
       stub = drop 24 pdu;
     })
 
@@ -54,12 +54,12 @@ abbrev pub fault_at : Header → List ℕ → Option FaultPdu
 fault_at h pdu =
     if nat_lt (length pdu) 32 then None else Some (record {
       call = h.call;
-      hint = number_32 pdu 16;
-      context = number_16 pdu 20;
-      status = number_32 pdu 24;
+      hint = long_at pdu 16;
+      context = short_at pdu 20;
+      status = long_at pdu 24;
     })
 
--- with a nonzero authentication length nothing behind the header is read
+-- if the authentication length isn't 0, nothing after the header is read
 abbrev pub unread_bind : Header → Bind (List ℕ)
 unread_bind h = record { call = h.call; auth = h.auth; transmit = 0; receive = 0; group = 0; count = 0; contexts = [] }
 
@@ -68,9 +68,9 @@ read_bind h pdu false = None
 read_bind h pdu true = Some (record {
   call = h.call;
   auth = h.auth;
-  transmit = number_16 pdu 16;
-  receive = number_16 pdu 18;
-  group = number_32 pdu 20;
+  transmit = short_at pdu 16;
+  receive = short_at pdu 18;
+  group = long_at pdu 20;
   count = slice_index pdu 24;
   contexts = drop 28 pdu;
 })
@@ -81,7 +81,7 @@ bind_at h pdu =
     if nat_lt (length pdu) 28 then None else
     read_bind h pdu (are_contexts (slice_index pdu 24) (drop 28 pdu))
 
--- where the count of results stands behind an address of this length: at the next multiple of 4
+-- the place of the count of results after an address of this length: the next multiple of 4
 abbrev pub results_place : ℕ → ℕ
 results_place address = 26 + address + (2 + 3 * address) % 4
 
@@ -90,9 +90,9 @@ ack_from address place h pdu =
     if nat_lt (length pdu) (place + 4) then None else
     if nat_lt (length pdu) (place + 4 + 24 * slice_index pdu place) then None else Some (record {
       call = h.call;
-      transmit = number_16 pdu 16;
-      receive = number_16 pdu 18;
-      group = number_32 pdu 20;
+      transmit = short_at pdu 16;
+      receive = short_at pdu 18;
+      group = long_at pdu 20;
       address = take address (drop 26 pdu);
       count = slice_index pdu place;
       results = take (24 * slice_index pdu place) (drop (place + 4) pdu);
@@ -100,10 +100,10 @@ ack_from address place h pdu =
 
 abbrev pub ack_at : Header → List ℕ → Option (Ack (List ℕ))
 ack_at h pdu =
-    if nat_lt (length pdu) 26 then None else ack_from (number_16 pdu 24) (results_place (number_16 pdu 24)) h pdu
+    if nat_lt (length pdu) 26 then None else ack_from (short_at pdu 24) (results_place (short_at pdu 24)) h pdu
 
 abbrev pub nak_at : Header → List ℕ → Option Nak
-nak_at h pdu = if nat_lt (length pdu) 21 then None else Some (record { call = h.call; reason = number_16 pdu 16 })
+nak_at h pdu = if nat_lt (length pdu) 21 then None else Some (record { call = h.call; reason = short_at pdu 16 })
 
 abbrev pub pdu_body : PduType → Header → List ℕ → Option (Pdu (List ℕ))
 pdu_body types.Request h pdu = option_map pdus.Request (request_pdu_at h pdu)
@@ -127,7 +127,7 @@ of_body used (Some pdu) = Whole pdu used
 abbrev pub whole_at : PduType → Header → List ℕ → PduRead (List ℕ)
 whole_at kind h pdu = or_bad (whole_fault kind h) (of_body h.length (pdu_body kind h pdu))
 
--- what stands behind a header
+-- how the bytes from this header on are read
 abbrev pub after_header : Header → List ℕ → Result PduType PduKind → PduRead (List ℕ)
 after_header h bytes (Err kind) = Bad kind
 after_header h bytes (Ok kind) =

@@ -13,7 +13,7 @@ use Rattle.rpc_pdu.specs.declared.pdu.Pdu.TheVariants as pdus
 use Rattle.rpc_pdu.specs.declared.pdu.PduRead.TheVariants.{Whole}
 use Rattle.rpc_pdu.specs.Contexts.{are_contexts}
 use Rattle.rpc_pdu.specs.Pdu.{pdu_at}
-use Rattle.rpc_pdu.specs.Written.{written}
+use Rattle.rpc_pdu.specs.Written.{encoded}
 
 -- the end that reads a PDU's type
 abbrev pub reader_of : Pdu (List ℕ) → End
@@ -75,6 +75,6 @@ IsExactPdu (pdus.BindAck a) = IsAck a
 IsExactPdu (pdus.AlterAck a) = IsAck a
 IsExactPdu (pdus.BindNak n) = IsNak n
 
--- the bytes of a PDU are read as it, whatever comes behind them
-abbrev pub IsReadBack : Pdu (List ℕ) → Type 0
-IsReadBack pdu = (more : List ℕ) → pdu_at (reader_of pdu) (written pdu ++ more) ≡ Whole pdu (length (written pdu))
+-- the bytes of a PDU are read as that PDU, whatever bytes follow them
+abbrev pub IsPduReadBack : Pdu (List ℕ) → Type 0
+IsPduReadBack pdu = (more : List ℕ) → pdu_at (reader_of pdu) (encoded pdu ++ more) ≡ Whole pdu (length (encoded pdu))

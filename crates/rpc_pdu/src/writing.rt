@@ -1,11 +1,13 @@
 ghost use Rattle.std.specs.Prelude.{ℕ, ◌≡◌, ◌++◌, ◌+◌, ◌<◌, ◌≤◌, ◌^◌, [], ◌∷◌, length, OnOk, OnErr};
 ghost use Rattle.rpc_pdu.specs.Pdu.{seen_request, seen_response, seen_bind, seen_ack, seen_pdu};
-ghost use Rattle.rpc_pdu.specs.ReadBack.{IsExactPdu, IsReadBack};
-ghost use Rattle.rpc_pdu.specs.Written.{flags_of, address_padding, zeros, object_bytes, object_flag};
+ghost use Rattle.rpc_pdu.specs.ReadBack.{IsExactPdu, IsPduReadBack};
+ghost use Rattle.rpc_pdu.specs.Written.{flags_of, address_padding, zeros, object_bytes};
+ghost use Rattle.rpc_pdu.specs.Written.{object_flag};
 ghost use Rattle.rpc_pdu.specs.Written.{pdu_header, response_front, request_front, bind_front};
 ghost use Rattle.rpc_pdu.specs.Written.{ack_front, ack_size, request_pdu_bytes, response_bytes};
-ghost use Rattle.rpc_pdu.specs.Written.{fault_bytes, bind_bytes, ack_bytes, nak_bytes, result_count};
-ghost use Rattle.rpc_pdu.specs.Written.{written, IsWritable};
+ghost use Rattle.rpc_pdu.specs.Written.{fault_bytes, bind_bytes, ack_bytes, nak_bytes};
+ghost use Rattle.rpc_pdu.specs.Written.{result_count};
+ghost use Rattle.rpc_pdu.specs.Written.{encoded, IsWritable};
 
 use crate::pdu::{Ack, Bind, FaultPdu, Nak, Pdu, RequestPdu, ResponsePdu};
 use scm_text::{Items, OutOfMemory};
@@ -139,7 +141,7 @@ fn write_request(r: &RequestPdu<&[u8]>, out: &mut Items<u8>) -> Result<(), OutOf
     Ok(())
 }
 
-/// The padding behind an address of this length, and what stands behind three zeros.
+/// The padding after an address of this length, and what follows the three zeros at the front.
 #[tactic(auto, unfolding(crate::specs::Written::result_count))]
 fn behind_padding(padded: &[u8; 7], address: usize) -> &[u8]
     requires { address < 2 ^ 16 }
@@ -176,7 +178,7 @@ fn write_ack(kind: u8, a: &Ack<&[u8]>, out: &mut Items<u8>) -> Result<(), OutOfM
 #[tactic(auto, unfolding(crate::specs::Written::bind_bytes, crate::specs::Written::response_bytes))]
 fn append_pdu(pdu: &Pdu<&[u8]>, out: &mut Items<u8>) -> Result<(), OutOfMemory>
     requires { IsWritable (seen_pdu pdu.now) }
-    ensures ok { OnOk result (out.new ≡ out.old ++ written (seen_pdu pdu.now)) }
+    ensures ok { OnOk result (out.new ≡ out.old ++ encoded (seen_pdu pdu.now)) }
     ensures err { OnErr result (out.new ≡ out.old) }
 {
     match pdu {
@@ -195,10 +197,10 @@ fn append_pdu(pdu: &Pdu<&[u8]>, out: &mut Items<u8>) -> Result<(), OutOfMemory>
 /// written.
 pub fn write_pdu(pdu: &Pdu<&[u8]>, out: &mut Items<u8>) -> Result<(), OutOfMemory>
     requires { IsWritable (seen_pdu pdu.now) }
-    ensures ok { OnOk result (out.new ≡ out.old ++ written (seen_pdu pdu.now)) }
+    ensures ok { OnOk result (out.new ≡ out.old ++ encoded (seen_pdu pdu.now)) }
     ensures err { OnErr result (out.new ≡ out.old) }
-    // What is written is read again as the PDU, whatever comes behind it.
-    ensures read_back { IsExactPdu (seen_pdu pdu.now) → IsReadBack (seen_pdu pdu.now) }
+    // What is written is read back as the PDU, whatever bytes follow it.
+    ensures read_back { IsExactPdu (seen_pdu pdu.now) → IsPduReadBack (seen_pdu pdu.now) }
 {
     append_pdu(pdu, out)
 }

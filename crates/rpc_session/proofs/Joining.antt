@@ -11,7 +11,7 @@ use Rattle.rpc_session.specs.declared.state.Terms.{Terms}
 use Rattle.rpc_session.specs.declared.state.State.{State}
 use Rattle.rpc_session.specs.declared.state.Unfinished.{Unfinished}
 use Rattle.rpc_session.specs.declared.state.Incoming.{Incoming}
-use Rattle.rpc_session.specs.Moves.{Gives, Joins, OutOfOrder, Passes, session_move, limit, joined, unfinished_of, continued, continues}
+use Rattle.rpc_session.specs.Moves.{Gives, Joins, OutOfOrder, Passes, session_move, limit, move_joined, unfinished_of, continued, continues}
 use Rattle.rpc_session.specs.Moves.{fragment_move, alter_by, with_unfinished, item_of, HasGrown, HasJoined, Moved}
 use Rattle.rpc_session.specs.Items.{StepJoins}
 use Rattle.rpc_session.specs.Held.{Held, further}
@@ -27,7 +27,7 @@ joins_by true last n item s u t e = absurd cc
 joins_by false true n item s u t e = absurd cc
 joins_by false false n item s u t e = cc
 
-joins : (s : State) (last : Bool) (u : Unfinished) (t : State) → joined s last u ≡ Joins t → with_unfinished s (Some u) ≡ t
+joins : (s : State) (last : Bool) (u : Unfinished) (t : State) → move_joined s last u ≡ Joins t → with_unfinished s (Some u) ≡ t
 joins s last u t e = joins_by (nat_lt limit (length u.body)) last (length u.body) (item_of s u) (with_unfinished s None)
     (with_unfinished s (Some u)) t e
 
@@ -40,7 +40,7 @@ since old s u t is grown e = subst (HasJoined s) e (record {
 })
 
 by_fragment : (ok : Bool) (old : Option Unfinished) (s : State) (last : Bool) (u : Unfinished) (t : State) → s.unfinished ≡ old
-    → HasGrown old (Some u) → cond ok (joined s last u) OutOfOrder ≡ Joins t → HasJoined s t
+    → HasGrown old (Some u) → cond ok (move_joined s last u) OutOfOrder ≡ Joins t → HasJoined s t
 by_fragment true old s last u t is grown e = since old s u t is grown (joins s last u t e)
 by_fragment false old s last u t is grown e = absurd cc
 

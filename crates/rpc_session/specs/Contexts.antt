@@ -49,8 +49,8 @@ abbrev pub context_answer : Context (List ℕ) → Answer
 context_answer c = answer_by (interface_of c.abstract_syntax) (offers (length c.transfer_syntaxes / 20) c.transfer_syntaxes)
 
 -- a context without where its bytes lie in memory
-abbrev pub seen : Context (Bor (List ℕ)) → Context (List ℕ)
-seen c = record { id = c.id; abstract_syntax = c.abstract_syntax.now; transfer_syntaxes = c.transfer_syntaxes.now }
+abbrev pub as_value : Context (Bor (List ℕ)) → Context (List ℕ)
+as_value c = record { id = c.id; abstract_syntax = c.abstract_syntax.now; transfer_syntaxes = c.transfer_syntaxes.now }
 
 abbrev pub no_syntax : List ℕ
 no_syntax = 0 ∷ 0 ∷ 0 ∷ 0 ∷ 0 ∷ 0 ∷ 0 ∷ 0 ∷ 0 ∷ 0 ∷ 0 ∷ 0 ∷ 0 ∷ 0 ∷ 0 ∷ 0 ∷ 0 ∷ 0 ∷ 0 ∷ 0 ∷ []

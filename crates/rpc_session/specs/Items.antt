@@ -25,7 +25,7 @@ pub data StreamEnd : Type 0 where
   BadPdu : ℕ → PduKind → StreamEnd
   TooLong : ℕ → StreamEnd
 
--- the items, and the end behind them
+-- the items, and how the stream ends after them
 pub record Told : Type 0 where
   pub items : List Incoming
   pub ending : StreamEnd
@@ -33,7 +33,7 @@ pub record Told : Type 0 where
 abbrev pub ends_stream : StreamEnd → Told
 ends_stream ending = record { items = []; ending = ending }
 
--- items, and then what is told
+-- these items, and then the items and the end of `told`
 abbrev pub before : List Incoming → Told → Told
 before given told = record { items = given ++ told.items; ending = told.ending }
 
@@ -145,17 +145,17 @@ fault_of_read s place (Short needed) = None
 unfoldable pub front_fault : Seen → Option SessionFault
 front_fault s = fault_of_read s.state s.held.place (pdu_at Server s.held.rest)
 
--- a fault that was told stands first
+-- a fault that was returned stands first
 abbrev pub IsStuck : Seen → SessionFault → Type 0
 IsStuck s (faults.BadPdu place kind) = front_fault s ≡ Some (faults.BadPdu place kind)
 IsStuck s (faults.TooLong length) = front_fault s ≡ Some (faults.TooLong length)
 IsStuck s faults.OutOfMemory = Unit {0}
 
--- a fault that stands first is told again, and changes nothing
+-- a fault that stands first is returned again, and changes nothing
 abbrev pub TellsAgain : {A : Type 0} → Seen → Seen → Result A SessionFault → Type 0
 TellsAgain old new result = IfSome (front_fault old) (λ fault. (result ≡ Err fault) × (new ≡ old))
 
--- ---- want of memory
+-- ---- out of memory
 
 -- what holds where there was no memory
 abbrev pub OnWant : {A : Type 0} → Result A SessionFault → Type 0 → Type 0

@@ -114,8 +114,8 @@ IsFor terms _ = Unit {0}
 abbrev pub item_of : State → Unfinished → Incoming
 item_of s u = item_by (verdict_of s.known u.context u.opnum) (transmit_of s.terms) u
 
-abbrev pub with_body : Unfinished → List ℕ → Unfinished
-with_body u body = record { call = u.call; context = u.context; opnum = u.opnum; body = body }
+abbrev pub with_payload : Unfinished → List ℕ → Unfinished
+with_payload u body = record { call = u.call; context = u.context; opnum = u.opnum; body = body }
 
 abbrev pub with_unfinished : State → Option Unfinished → State
 with_unfinished s u = record { terms = s.terms; known = s.known; unfinished = u }
@@ -124,8 +124,8 @@ abbrev pub limit : ℕ
 limit = 1048576
 
 -- a request with its fragments so far
-abbrev pub joined : State → Bool → Unfinished → Move
-joined s last u =
+abbrev pub move_joined : State → Bool → Unfinished → Move
+move_joined s last u =
     if nat_lt limit (length u.body) then Passes (length u.body) else
     if last then Gives (item_of s u) (with_unfinished s None) else Joins (with_unfinished s (Some u))
 
@@ -133,18 +133,18 @@ abbrev pub unfinished_of : RequestPdu (List ℕ) → Unfinished
 unfinished_of r = record { call = r.call; context = r.context; opnum = r.opnum; body = r.stub }
 
 abbrev pub continued : Unfinished → RequestPdu (List ℕ) → Unfinished
-continued u r = with_body u (u.body ++ r.stub)
+continued u r = with_payload u (u.body ++ r.stub)
 
 abbrev pub continues : Unfinished → RequestPdu (List ℕ) → Bool
 continues u r = not r.first && u.call == r.call && u.context == r.context && u.opnum == r.opnum
 
 abbrev pub joined_onto : Option Unfinished → State → RequestPdu (List ℕ) → Move
 joined_onto None s r = OutOfOrder
-joined_onto (Some u) s r = joined s r.last (continued u r)
+joined_onto (Some u) s r = move_joined s r.last (continued u r)
 
 abbrev pub fragment_move : Option Unfinished → State → RequestPdu (List ℕ) → Move
-fragment_move None s r = if r.first then joined s r.last (unfinished_of r) else OutOfOrder
-fragment_move (Some u) s r = if continues u r then joined s r.last (continued u r) else OutOfOrder
+fragment_move None s r = if r.first then move_joined s r.last (unfinished_of r) else OutOfOrder
+fragment_move (Some u) s r = if continues u r then move_joined s r.last (continued u r) else OutOfOrder
 
 -- a further fragment of the unfinished request
 abbrev pub going_on : State → RequestPdu (List ℕ) → Move
@@ -191,12 +191,12 @@ body_length (Some u) = Some (length u.body)
 abbrev pub cut_to : Option ℕ → Option Unfinished → Option Unfinished
 cut_to None u = None
 cut_to (Some n) None = None
-cut_to (Some n) (Some u) = Some (with_body u (take n u.body))
+cut_to (Some n) (Some u) = Some (with_payload u (take n u.body))
 
--- a request that was unfinished is so still, with more behind its body
+-- a request that was unfinished still is, with more at the end of its body
 abbrev pub HasGrown : Option Unfinished → Option Unfinished → Type 0
 HasGrown None now = Unit {0}
-HasGrown (Some u) now = (more : List ℕ) × (now ≡ Some (with_body u (u.body ++ more)))
+HasGrown (Some u) now = (more : List ℕ) × (now ≡ Some (with_payload u (u.body ++ more)))
 
 -- what came of a state by joining fragments alone
 pub record HasJoined (old new : State) : Type 0 where

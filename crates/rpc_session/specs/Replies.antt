@@ -4,7 +4,7 @@ use Rattle.std.specs.Prelude.{Some, None}
 use Rattle.rpc_pdu.specs.Written.{response_bytes}
 use Rattle.rpc_session.specs.declared.state.Terms.{Terms}
 
--- the greatest multiple of 8 that fits behind the 24 bytes of a response's fields
+-- the greatest multiple of 8 that fits after the 24 bytes of a response's fields
 abbrev pub room_of : ℕ → ℕ
 room_of transmit = (transmit - 24) / 8 * 8
 
@@ -31,6 +31,6 @@ abbrev pub reply_fragments : ℕ → ℕ → ℕ → List ℕ → List ℕ
 reply_fragments transmit call context body = fragments (length body) transmit call context true body
 
 -- a bind_ack's transmit size is held between two bounds
-abbrev pub HasRoom : Option Terms → Type 0
-HasRoom None = Unit {0}
-HasRoom (Some terms) = (1432 ≤ terms.transmit) × (terms.transmit ≤ 5840)
+abbrev pub FitsSize : Option Terms → Type 0
+FitsSize None = Unit {0}
+FitsSize (Some terms) = (1432 ≤ terms.transmit) × (terms.transmit ≤ 5840)

@@ -1,7 +1,8 @@
 ghost use Rattle.std.specs.Prelude.{◌/◌, ◌*◌, ◌≤◌, ◌<◌, ◌≡◌, length, IfOk, OnOk};
 ghost use Rattle.rpc_pdu.specs.Contexts.{contexts_of};
 ghost use Rattle.rpc_session.specs.Contexts.{same_syntax, interface_of, offers, context_answer};
-ghost use Rattle.rpc_session.specs.Contexts.{result_bytes, results_of, accepted_by, AreBelow, seen};
+ghost use Rattle.rpc_session.specs.Contexts.{result_bytes, results_of, accepted_by, AreBelow};
+ghost use Rattle.rpc_session.specs.Contexts.{as_value};
 
 use rpc_pdu::{Context, read_context};
 use scm_text::{Items, OutOfMemory};
@@ -75,7 +76,7 @@ fn offers_ndr(syntaxes: &[u8]) -> bool
 }
 
 pub fn answer_of(context: &Context<&[u8]>) -> Answer
-    ensures { result ≡ context_answer (seen context.now) }
+    ensures { result ≡ context_answer (as_value context.now) }
 {
     match served(context.abstract_syntax) {
         None => Answer::NotServed,

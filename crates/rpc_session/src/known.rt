@@ -86,7 +86,8 @@ impl Known {
     /// Takes the answers to this many contexts, or none. All their ids are below `room`.
     pub fn take(&mut self, room: usize, count: u8, contexts: &[u8]) -> Result<(), OutOfMemory>
         requires { AreBelow room (contexts_of count contexts.now) }
-        ensures ok { OnOk result (self.new ≡ known_after self.old (contexts_of count contexts.now)) }
+        ensures ok { OnOk result (self.new ≡
+            known_after self.old (contexts_of count contexts.now)) }
         ensures err { OnErr result (self.new ≡ self.old) }
     {
         widen(&mut self.table, room)?;

@@ -22,7 +22,7 @@ fn lay(buffer: &mut [u8], r: &ResponsePdu<&[u8]>) -> usize
     size
 }
 
-/// The next stub, and the rest behind it.
+/// The next stub, and the rest after it.
 fn cut(rest: &[u8], room: usize) -> (&[u8], &[u8])
     ensures bound { length result.0.now ≤ room }
     ensures front { result.0.now ≡ take room rest.now }

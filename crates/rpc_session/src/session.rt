@@ -3,7 +3,7 @@ ghost use Rattle.std.specs.Prelude.{IfSome, IsSome, Some, ◌≤◌, ◌+◌, �
 ghost use Rattle.rpc_session.specs.declared.state.Incoming.{Incoming};
 ghost use Rattle.rpc_session.specs.declared.session.SessionFault.{SessionFault};
 ghost use Rattle.rpc_pdu.specs.Written.{fault_bytes};
-ghost use Rattle.rpc_session.specs.Replies.{HasRoom, reply_fragments};
+ghost use Rattle.rpc_session.specs.Replies.{FitsSize, reply_fragments};
 ghost use Rattle.rpc_session.specs.Moves.{IsFor, HasJoined};
 ghost use Rattle.outside.specs.Causes.{HasCause};
 ghost use Rattle.outside.specs.Written.{Writes};
@@ -58,7 +58,7 @@ fn take_pdu(
     ensures within { ahead.new ≤ length stream.now.rest }
     ensures comes { StepComes (ahead_by state.old stream.now ahead.old)
         (ahead_by state.new stream.now ahead.new) result }
-    ensures room { HasRoom state.old.terms → HasRoom state.new.terms }
+    ensures room { FitsSize state.old.terms → FitsSize state.new.terms }
     ensures transmit { IfOk result (λ taken. IfSome taken (IsFor state.new.terms)) }
     ensures kept { IfSome state.old.terms (λ terms. state.new.terms ≡ Some terms) }
     ensures further { IfOk result (λ taken. IfSome taken (λ _. ahead.old < ahead.new)) }
@@ -93,7 +93,7 @@ fn find_item(
     ensures within { ahead.new ≤ length stream.now.rest }
     ensures comes { Comes (ahead_by state.old stream.now ahead.old)
         (ahead_by state.new stream.now ahead.new) result }
-    ensures room { HasRoom state.old.terms → HasRoom state.new.terms }
+    ensures room { FitsSize state.old.terms → FitsSize state.new.terms }
     ensures transmit { IfOk result (IsFor state.new.terms) }
     ensures kept { IfSome state.old.terms (λ terms. state.new.terms ≡ Some terms) }
     ensures further { IfOk result (λ item. IfSome item (λ _. ahead.old < ahead.new)) }
@@ -121,7 +121,7 @@ fn next_item(
 ) -> Result<Option<Incoming>, SessionFault>
     ensures comes { Comes (record { state = state.old; held = stream.old })
         (record { state = state.new; held = stream.new }) result }
-    ensures room { HasRoom state.old.terms → HasRoom state.new.terms }
+    ensures room { FitsSize state.old.terms → FitsSize state.new.terms }
     ensures transmit { IfOk result (IsFor state.new.terms) }
     ensures kept { IfSome state.old.terms (λ terms. state.new.terms ≡ Some terms) }
     ensures shorter { IfOk result (λ item. IfSome item
@@ -173,9 +173,9 @@ impl Model for Session {
 
     ghost view = { λ s. record { state = s.state; held = s.stream } };
 
-    ghost use Rattle.rpc_session.specs.Replies.{HasRoom};
+    ghost use Rattle.rpc_session.specs.Replies.{FitsSize};
 
-    ghost invariant = { λ s. HasRoom s.state.terms };
+    ghost invariant = { λ s. FitsSize s.state.terms };
 }
 
 impl Session {
@@ -198,8 +198,8 @@ impl Session {
         }
     }
 
-    /// Appends a piece to the stream. An `Err` leaves the session as it was. Where the stream would
-    /// be longer than a `u64` can say, this too is want of memory.
+    /// Appends a piece to the stream. An `Err` leaves the session as it was. A stream that would be
+    /// longer than a `u64` can say results in `OutOfMemory` too.
     pub fn feed(&mut self, piece: &[u8]) -> Result<(), OutOfMemory>
         ensures ok { OnOk result (self.new ≡ record {
           state = self.old.state;
@@ -208,7 +208,7 @@ impl Session {
         ensures err { OnErr result (self.new ≡ self.old) }
         ensures gave { OnOk result ((stream : List ℕ) (given : List Incoming)
             → Gave stream given self.old → Gave (stream ++ piece.now) given self.new) }
-        // A fault that was told is told whatever comes.
+        // A fault that `next` returned stays, whatever bytes follow.
         ensures stuck { (fault : SessionFault) → IsStuck self.old fault → IsStuck self.new fault }
     {
         self.stream.feed(piece)
@@ -232,7 +232,7 @@ impl Session {
         ensures shorter { IfOk result (λ item. IfSome item
             (λ _. length self.new.held.rest < length self.old.held.rest)) }
         ensures no_longer { length self.new.held.rest ≤ length self.old.held.rest }
-        // A fault other than want of memory is told at each later call.
+        // Each later call returns a fault again, unless it was `OutOfMemory`.
         ensures stuck { IfErr result (IsStuck self.new) }
         ensures again { TellsAgain self.old self.new result }
         // Where there is no memory for the item, or for a fragment before it, the session is as it

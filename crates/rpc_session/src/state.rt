@@ -2,13 +2,14 @@ ghost use Rattle.std.specs.Prelude.{◌≡◌, ◌++◌, IfErr, IsSome, ◌≤�
 ghost use Rattle.std.specs.Prelude.{IfSome, OnErr, OnOk, is_some, ◌==◌, Some, None, if◌then◌else◌};
 ghost use Rattle.rpc_pdu.specs.Pdu.{seen_bind, seen_request, seen_pdu, seen_ack};
 ghost use Rattle.rpc_pdu.specs.Written.{nak_bytes, ack_bytes, fault_bytes, ack_size};
-ghost use Rattle.rpc_session.specs.Replies.{HasRoom};
+ghost use Rattle.rpc_session.specs.Replies.{FitsSize};
 ghost use Rattle.rpc_session.specs.Contexts.{results_of};
 ghost use Rattle.rpc_session.specs.Moves.{held_size, terms_of, ack_to, bind_move, alter_move};
 ghost use Rattle.rpc_session.specs.Moves.{request_move, session_move, is_served, verdict_of};
 ghost use Rattle.rpc_session.specs.Moves.{item_by, transmit_of, IsFor, Moved, Grown, body_length};
-ghost use Rattle.rpc_session.specs.Moves.{cut_to, with_unfinished, going_on, with_body, continues};
-ghost use Rattle.rpc_session.specs.Moves.{joined, unfinished_of, accepted};
+ghost use Rattle.rpc_session.specs.Moves.{cut_to, with_unfinished, going_on, with_payload};
+ghost use Rattle.rpc_session.specs.Moves.{continues};
+ghost use Rattle.rpc_session.specs.Moves.{move_joined, unfinished_of, accepted};
 ghost use Rattle.rpc_session.specs.declared.state.Refusal.TheVariants.{OutOfMemory};
 
 use crate::contexts::{Interface, answer_all};
@@ -91,7 +92,7 @@ fn held(size: u16) -> u16
 
 fn offered_terms(bind: &Bind<&[u8]>) -> Terms
     ensures value { result ≡ terms_of (seen_bind bind.now) }
-    ensures room { HasRoom (Some result) }
+    ensures room { FitsSize (Some result) }
 {
     Terms {
         transmit: held(bind.receive),
@@ -227,7 +228,7 @@ fn item(alloc: Global, known: &Known, transmit: u16, u: Unfinished) -> Result<In
 
 /// Joins a stub. An `Err` leaves the request.
 fn grow(u: &mut Unfinished, stub: &[u8]) -> Result<(), Refusal>
-    ensures { Grown u.old u.new result (with_body u.old (u.old.body ++ stub.now)) }
+    ensures { Grown u.old u.new result (with_payload u.old (u.old.body ++ stub.now)) }
 {
     let length = u.body.as_slice().len() + stub.len();
     if length > LIMIT {
@@ -251,7 +252,7 @@ impl State {
         requires same { IfSome self.old.terms (λ old. old ≡ terms) }
         ensures moved { Moved self.old self.new result
             (accepted alter address.now self.old terms (seen_bind bind.now)) }
-        ensures room { HasRoom (Some terms) → HasRoom self.old.terms → HasRoom self.new.terms }
+        ensures room { FitsSize (Some terms) → FitsSize self.old.terms → FitsSize self.new.terms }
         ensures kept { IfSome self.old.terms (λ terms. self.new.terms ≡ Some terms) }
         ensures transmit { IfOk result (IsFor self.new.terms) }
     {
@@ -273,7 +274,7 @@ impl State {
 
     fn take_bind(&mut self, alloc: Global, bind: &Bind<&[u8]>) -> Result<Option<Incoming>, Refusal>
         ensures moved { Moved self.old self.new result (bind_move self.old (seen_bind bind.now)) }
-        ensures room { HasRoom self.old.terms → HasRoom self.new.terms }
+        ensures room { FitsSize self.old.terms → FitsSize self.new.terms }
         ensures kept { IfSome self.old.terms (λ terms. self.new.terms ≡ Some terms) }
         ensures transmit { IfOk result (IsFor self.new.terms) }
     {
@@ -289,7 +290,7 @@ impl State {
 
     fn take_alter(&mut self, alloc: Global, bind: &Bind<&[u8]>) -> Result<Option<Incoming>, Refusal>
         ensures moved { Moved self.old self.new result (alter_move self.old (seen_bind bind.now)) }
-        ensures room { HasRoom self.old.terms → HasRoom self.new.terms }
+        ensures room { FitsSize self.old.terms → FitsSize self.new.terms }
         ensures kept { IfSome self.old.terms (λ terms. self.new.terms ≡ Some terms) }
         ensures transmit { IfOk result (IsFor self.new.terms) }
     {
@@ -307,8 +308,8 @@ impl State {
         requires bound { IsSome self.old.terms }
         requires free { self.old.unfinished ≡ None }
         ensures moved { Moved self.old self.new result
-            (joined self.old r.now.last (unfinished_of (seen_request r.now))) }
-        ensures room { HasRoom self.old.terms → HasRoom self.new.terms }
+            (move_joined self.old r.now.last (unfinished_of (seen_request r.now))) }
+        ensures room { FitsSize self.old.terms → FitsSize self.new.terms }
         ensures kept { IfSome self.old.terms (λ terms. self.new.terms ≡ Some terms) }
         ensures transmit { IfOk result (IsFor self.new.terms) }
     {
@@ -336,7 +337,7 @@ impl State {
         requires bound { IsSome self.old.terms }
         requires held { IsSome self.old.unfinished }
         ensures moved { Moved self.old self.new result (going_on self.old (seen_request r.now)) }
-        ensures room { HasRoom self.old.terms → HasRoom self.new.terms }
+        ensures room { FitsSize self.old.terms → FitsSize self.new.terms }
         ensures kept { IfSome self.old.terms (λ terms. self.new.terms ≡ Some terms) }
         ensures transmit { IfOk result (IsFor self.new.terms) }
     {
@@ -369,7 +370,7 @@ impl State {
     ) -> Result<Option<Incoming>, Refusal>
         ensures moved { Moved self.old self.new result
             (request_move self.old (seen_request r.now)) }
-        ensures room { HasRoom self.old.terms → HasRoom self.new.terms }
+        ensures room { FitsSize self.old.terms → FitsSize self.new.terms }
         ensures kept { IfSome self.old.terms (λ terms. self.new.terms ≡ Some terms) }
         ensures transmit { IfOk result (IsFor self.new.terms) }
     {
@@ -398,7 +399,7 @@ impl State {
     #[tactic(auto, unfolding(crate::specs::Moves::session_move))]
     pub fn take(&mut self, alloc: Global, pdu: &Pdu<&[u8]>) -> Result<Option<Incoming>, Refusal>
         ensures moved { Moved self.old self.new result (session_move self.old (seen_pdu pdu.now)) }
-        ensures room { HasRoom self.old.terms → HasRoom self.new.terms }
+        ensures room { FitsSize self.old.terms → FitsSize self.new.terms }
         ensures kept { IfSome self.old.terms (λ terms. self.new.terms ≡ Some terms) }
         ensures transmit { IfOk result (IsFor self.new.terms) }
     {

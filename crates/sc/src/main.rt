@@ -1,4 +1,4 @@
-//! `sc`: asks a service control manager for one thing, by the words behind the program's name.
+//! `sc`: asks a service control manager for one thing, which the program's arguments name.
 #![tactic(auto)]
 
 use outside::{Sink, WriteSink};

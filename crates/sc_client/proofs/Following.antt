@@ -16,7 +16,7 @@ use Rattle.sc_client.specs.declared.held.Held.{Held}
 use Rattle.sc_client.specs.declared.talk.Talk.{Talk}
 use Rattle.sc_client.specs.Along.{told_with, read_so_far}
 use Rattle.sc_client.specs.Requests.{bind_text}
-use Rattle.sc_client.specs.Talks.{Followed, Over, Bad, Early, after_move, due, talk_end, followed, followed_by, followed_of, is_over}
+use Rattle.sc_client.specs.Talks.{Followed, Over, Bad, Early, after_move, due, talk_end, talk_of, followed_by, followed_of, is_over}
 use Rattle.sc_client.specs.Talks.{pdu_move, not_bound}
 
 at_pdu : (c : Command) (place : ℕ) (pdu : Pdu (List ℕ)) (cut : Cut) (t : Talk) (text : List ℕ) → is_over c t ≡ false
@@ -123,8 +123,8 @@ unfolding told_with
 text_to_come c t h text more = let cut = pdus_from Client h.place (h.bytes ++ more) in text_stays c cut.pdus cut.ending t text
 
 -- the bind comes first
-pub bind_first : (c : Command) → Begins bind_text (followed c []).text
-unfolding followed
+pub bind_first : (c : Command) → Begins bind_text (talk_of c []).text
+unfolding talk_of
 bind_first c = let cut = pdus_from Client 0 [] in text_stays c cut.pdus cut.ending not_bound bind_text
 
 -- ## Ends

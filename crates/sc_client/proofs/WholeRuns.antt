@@ -16,7 +16,7 @@ use Rattle.sc_client.specs.declared.talk.Talk.{Talk}
 use Rattle.sc_client.specs.Along.{CutOff, Turn, Turned, told_with}
 use Rattle.sc_client.specs.Requests.{bind_text}
 use Rattle.sc_client.specs.Runs.{EndsSo, IsOpen, IsRun}
-use Rattle.sc_client.specs.Talks.{Bad, Early, Over, followed, not_bound, is_over}
+use Rattle.sc_client.specs.Talks.{Bad, Early, Over, talk_of, not_bound, is_over}
 use Rattle.sc_client.proofs.Following.{text_to_come, over_to_come, bind_first}
 
 -- how far a run came
@@ -25,13 +25,13 @@ pub record SoFar (c : Command) (t : Talk) (h : Held) (left left_now held held_no
   pub text : List ℕ
   pub consumed : Consumes left left_now read
   pub written : Appends held held_now text
-  pub same : (more : List ℕ) → followed c (read ++ more) ≡ told_with c t h text more
+  pub same : (more : List ℕ) → talk_of c (read ++ more) ≡ told_with c t h text more
 
 -- the bind is written
 pub begun : (c : Command) (t : Talk) (h : Held) (left held held_now : Option (List ℕ)) → t ≡ not_bound
     → h ≡ record { bytes = []; place = 0 } → Appends held held_now bind_text
     → SoFar c t h left left held held_now
-unfolding followed told_with
+unfolding talk_of told_with
 begun c t h left held held_now e f w = record {
   read = [];
   text = bind_text;
@@ -50,7 +50,7 @@ module _ (c : Command) (t u : Talk) (h k : Held) (left mid left_now held between
     text = s.text ++ x.written;
     consumed = Consumes-trans left mid left_now s.read x.read s.consumed x.consumed;
     written = Appends-trans held between held_now s.text x.written s.written x.appended;
-    same = λ more. ap (followed c) (append_assoc s.read x.read more) ∙ s.same (x.read ++ more) ∙ x.same s.text more;
+    same = λ more. ap (talk_of c) (append_assoc s.read x.read more) ∙ s.same (x.read ++ more) ∙ x.same s.text more;
   }
 
   unread : Consumes mid left_now [] → Consumes left left_now s.read
@@ -60,7 +60,7 @@ module _ (c : Command) (t u : Talk) (h k : Held) (left mid left_now held between
   unwritten x = subst (Appends held held_now) (append-nil s.text) (Appends-trans held between held_now s.text [] s.written x)
 
   open_now : ((text : List ℕ) → told_with c t h text [] ≡ record { talk = t; text = text; ending = Early }) → IsOpen c s.read s.text
-  open_now e = record { talk = t; told = ap (followed c) (sym (append-nil s.read)) ∙ s.same [] ∙ e s.text }
+  open_now e = record { talk = t; told = ap (talk_of c) (sym (append-nil s.read)) ∙ s.same [] ∙ e s.text }
 
   -- a turn failed
   pub failed : (fault : ClientFault) → Turn c t u h k mid left_now between held_now (Err fault)
@@ -93,7 +93,7 @@ module _ (c : Command) (t u : Talk) (h k : Held) (left mid left_now held between
     written = Appends-trans held between held_now s.text x.appended.front s.written x.appended.held;
     reached =
         let all = text_to_come c x.talk x.rest (s.text ++ x.written) [] in
-        let due = ap (λ f. f.text) (ap (followed c) (sym (append-nil s.read)) ∙ s.same [] ∙ x.same s.text []) in
+        let due = ap (λ f. f.text) (ap (talk_of c) (sym (append-nil s.read)) ∙ s.same [] ∙ x.same s.text []) in
         let front = x.appended.begins in (
           front.0 ++ all.0,
           due ∙ all.1 ∙ ap (λ w. (s.text ++ w) ++ all.0) front.1 ∙ ap (λ w. w ++ all.0) (sym (append_assoc s.text x.appended.front front.0))
@@ -107,7 +107,7 @@ module _ (c : Command) (t u : Talk) (h k : Held) (left mid left_now held between
     written = unwritten x.1;
     reached =
         let all = text_to_come c t h s.text [] in
-        (s.read, (x.0.0, refl), (all.0, ap (λ f. f.text) (ap (followed c) (sym (append-nil s.read)) ∙ s.same []) ∙ all.1));
+        (s.read, (x.0.0, refl), (all.0, ap (λ f. f.text) (ap (talk_of c) (sym (append-nil s.read)) ∙ s.same []) ∙ all.1));
   }
 
   -- too many turns
@@ -119,7 +119,7 @@ module _ (c : Command) (t u : Talk) (h k : Held) (left mid left_now held between
     written = s.written;
     reached =
         let all = text_to_come c t h s.text [] in
-        (s.read, ([], sym (append-nil s.read)), (all.0, ap (λ f. f.text) (ap (followed c) (sym (append-nil s.read)) ∙ s.same []) ∙ all.1));
+        (s.read, ([], sym (append-nil s.read)), (all.0, ap (λ f. f.text) (ap (talk_of c) (sym (append-nil s.read)) ∙ s.same []) ∙ all.1));
   })
 
   -- all is answered
@@ -140,7 +140,7 @@ no_bind c left held fault e = subst (λ f. IsRun c left left held held (Err f)) 
   text = [];
   consumed = Consumes-nil left;
   written = Appends-nil held;
-  reached = ([], ([], refl), ((followed c []).text, refl));
+  reached = ([], ([], refl), ((talk_of c []).text, refl));
 })
 
 -- the bind wasn't written

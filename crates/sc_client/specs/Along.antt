@@ -16,10 +16,10 @@ use Rattle.sc_client.specs.declared.talk.Talk.{Talk}
 use Rattle.sc_client.specs.Talks.{Followed, Bad, Early, due, followed_of, is_over, request_after}
 
 -- the talk went where it leads, or it leads nowhere
-abbrev pub Takes : {A : Type 0} → Option A → A → Result Bool OutOfMemory → Type 0
-Takes told new (Ok true) = told ≡ Some new
-Takes told new (Ok false) = told ≡ None
-Takes told new (Err fault) = Unit {0}
+abbrev pub Leads : {A : Type 0} → Option A → A → Result Bool OutOfMemory → Type 0
+Leads told new (Ok true) = told ≡ Some new
+Leads told new (Ok false) = told ≡ None
+Leads told new (Err fault) = Unit {0}
 
 -- what will be told once more bytes have come, to a client that came so far and wrote this text
 unfoldable pub told_with : Command → Talk → Held → (text more : List ℕ) → Followed

@@ -1,7 +1,7 @@
 -- What a client writes: its bind, and each request in fragments.
 use Rattle.std.specs.Prelude.{ℕ, zero, suc, Bool, true, false, nat_le, List, [], ◌∷◌, ◌++◌, length, take, drop, None}
 use Rattle.rpc_pdu.specs.declared.pdu.Pdu.TheVariants as pdus
-use Rattle.rpc_pdu.specs.Written.{request_pdu_bytes as pdu_bytes, written}
+use Rattle.rpc_pdu.specs.Written.{request_pdu_bytes as pdu_bytes, encoded}
 use Rattle.sc_client.specs.declared.requests.TheConstants.{SVCCTL, NDR}
 use Rattle.scm_bodies.specs.Requests.{request_bytes}
 use Rattle.scm_model.specs.declared.calls.Request.{Request}
@@ -13,6 +13,7 @@ use Rattle.scm_model.specs.declared.codes.TheConstants.{R_CONTROL_SERVICE, R_CRE
 use Rattle.scm_model.specs.declared.codes.TheConstants.{R_GET_SERVICE_DISPLAY_NAME_W, R_GET_SERVICE_KEY_NAME_W, R_LOCK_SERVICE_DATABASE}
 use Rattle.scm_model.specs.declared.codes.TheConstants.{R_OPEN_SC_MANAGER_W, R_OPEN_SERVICE_W, R_QUERY_SERVICE_CONFIG2_W}
 use Rattle.scm_model.specs.declared.codes.TheConstants.{R_QUERY_SERVICE_CONFIG_W, R_QUERY_SERVICE_LOCK_STATUS_W, R_QUERY_SERVICE_STATUS}
+use Rattle.scm_model.specs.declared.codes.TheConstants.{R_QUERY_SERVICE_OBJECT_SECURITY, R_SET_SERVICE_OBJECT_SECURITY}
 use Rattle.scm_model.specs.declared.codes.TheConstants.{R_SET_SERVICE_STATUS, R_START_SERVICE_W, R_UNLOCK_SERVICE_DATABASE}
 
 -- ## The bind
@@ -22,7 +23,7 @@ abbrev pub contexts : List ℕ
 contexts = (0 ∷ 0 ∷ 1 ∷ 0 ∷ []) ++ (SVCCTL ++ NDR)
 
 unfoldable pub bind_text : List ℕ
-bind_text = written (pdus.Bind (record { call = 1; auth = 0; transmit = 5840; receive = 5840; group = 0; count = 1; contexts = contexts }))
+bind_text = encoded (pdus.Bind (record { call = 1; auth = 0; transmit = 5840; receive = 5840; group = 0; count = 1; contexts = contexts }))
 
 -- ## Methods
 abbrev pub opnum_of : Request → ℕ
@@ -30,6 +31,8 @@ opnum_of (request.Close handle) = R_CLOSE_SERVICE_HANDLE
 opnum_of (request.Control handle control) = R_CONTROL_SERVICE
 opnum_of (request.Delete handle) = R_DELETE_SERVICE
 opnum_of (request.Lock handle) = R_LOCK_SERVICE_DATABASE
+opnum_of (request.QuerySecurity handle parts size) = R_QUERY_SERVICE_OBJECT_SECURITY
+opnum_of (request.SetSecurity handle parts bytes) = R_SET_SERVICE_OBJECT_SECURITY
 opnum_of (request.QueryStatus handle) = R_QUERY_SERVICE_STATUS
 opnum_of (request.SetStatus handle status) = R_SET_SERVICE_STATUS
 opnum_of (request.Unlock handle) = R_UNLOCK_SERVICE_DATABASE
@@ -54,20 +57,20 @@ opnum_of (request.CloseNotify handle) = R_CLOSE_NOTIFY_HANDLE
 -- ## Fragments
 
 -- how many stub bytes a fragment has at most
-abbrev pub room : ℕ
-room = 1408
+abbrev pub fragment_room : ℕ
+fragment_room = 1408
 
 -- the fragment that the rest of a body begins with
 unfoldable pub request_fragment : ℕ → ℕ → Bool → List ℕ → List ℕ
 request_fragment call opnum first rest = pdu_bytes (record {
   call = call;
   first = first;
-  last = nat_le (length rest) room;
+  last = nat_le (length rest) fragment_room;
   hint = length rest;
   context = 0;
   opnum = opnum;
   object = None;
-  stub = take room rest;
+  stub = take fragment_room rest;
 })
 
 -- the rest of a body in at most this many fragments, each as full as may be
@@ -75,7 +78,7 @@ unfoldable pub request_fragments : ℕ → ℕ → ℕ → Bool → List ℕ →
 request_fragments zero call opnum first rest = []
 request_fragments (suc n) call opnum first [] = []
 request_fragments (suc n) call opnum first (b ∷ rest) =
-    request_fragment call opnum first (b ∷ rest) ++ request_fragments n call opnum false (drop room (b ∷ rest))
+    request_fragment call opnum first (b ∷ rest) ++ request_fragments n call opnum false (drop fragment_room (b ∷ rest))
 
 -- a body in fragments, of which each takes a byte at least
 abbrev pub fragmented : ℕ → ℕ → List ℕ → List ℕ

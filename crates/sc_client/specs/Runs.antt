@@ -8,21 +8,21 @@ use Rattle.sc_words.specs.declared.command.Command.{Command}
 use Rattle.sc_client.specs.declared.fault.ClientFault.{ClientFault}
 use Rattle.sc_client.specs.declared.fault.ClientFault.TheVariants as faults
 use Rattle.sc_client.specs.declared.talk.Talk.{Talk}
-use Rattle.sc_client.specs.Talks.{TalkEnd, Over, Bad, Early, followed}
+use Rattle.sc_client.specs.Talks.{TalkEnd, Over, Bad, Early, talk_of}
 
 -- whatever follows, what was read ends so, and all that is due was written
 pub record EndsSo (c : Command) (read text : List ℕ) (ending : TalkEnd) : Type 0 where
   pub talk : Talk
-  pub told : (more : List ℕ) → followed c (read ++ more) ≡ record { talk = talk; text = text; ending = ending }
+  pub told : (more : List ℕ) → talk_of c (read ++ more) ≡ record { talk = talk; text = text; ending = ending }
 
 -- an answer wasn't there yet, and all that was due was written
 pub record IsOpen (c : Command) (read text : List ℕ) : Type 0 where
   pub talk : Talk
-  pub told : followed c read ≡ record { talk = talk; text = text; ending = Early }
+  pub told : talk_of c read ≡ record { talk = talk; text = text; ending = Early }
 
 -- what was written is a front of what is due by what was read
 abbrev pub IsFrontDue : Command → (read text : List ℕ) → Type 0
-IsFrontDue c read text = Begins text (followed c read).text
+IsFrontDue c read text = Begins text (talk_of c read).text
 
 -- how far a command came, by what it answered
 abbrev pub HasComeTo : Command → Result (List Heard) ClientFault → (read : List ℕ) → (left : Option (List ℕ)) → (text : List ℕ) → Type 0

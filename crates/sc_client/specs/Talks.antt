@@ -12,7 +12,7 @@ use Rattle.rpc_pdu.specs.declared.pdu.ResponsePdu.{ResponsePdu}
 use Rattle.sc_client.specs.declared.requests.TheConstants.{NDR}
 use Rattle.rpc_session.specs.Pdus.{Cut, CutEnd, Nothing, Part, BadAt, pdus_from}
 use Rattle.scm_bodies.specs.declared.call.Call.{Call}
-use Rattle.scm_bodies.specs.Calls.{call_of}
+use Rattle.scm_bodies.specs.Calls.{to_call}
 use Rattle.scm_bodies.specs.Replies.{reply_at}
 use Rattle.scm_model.specs.declared.calls.Request.{Request}
 use Rattle.sc_words.specs.declared.calls.Heard.{Heard}
@@ -30,12 +30,12 @@ call_after hs = length hs + 2
 
 -- the call that is to be answered next
 unfoldable pub expected : Command → List Heard → Option Call
-expected c hs = option_and_then call_of (asks c hs)
+expected c hs = option_and_then to_call (asks c hs)
 
 -- what a whole stub tells in answer to a call
-unfoldable pub told_by : Option Call → List ℕ → Option Heard
-told_by None stub = None
-told_by (Some call) stub = option_map heard.Reply (result_ok (reply_at call stub))
+unfoldable pub heard_of : Option Call → List ℕ → Option Heard
+heard_of None stub = None
+heard_of (Some call) stub = option_map heard.Reply (result_ok (reply_at call stub))
 
 abbrev pub stub_limit : ℕ
 stub_limit = 1048576
@@ -52,7 +52,7 @@ is_whole t = length t.part == 0
 abbrev pub with_stub : Command → Talk → Bool → List ℕ → Option Talk
 with_stub c t last stub =
     if nat_lt stub_limit (length stub) then None
-    else if last then option_map (hearing t) (told_by (expected c t.heard) stub)
+    else if last then option_map (hearing t) (heard_of (expected c t.heard) stub)
     else Some (record { bound = t.bound; heard = t.heard; part = stub })
 
 -- an answer is to the request that waits for one
@@ -143,6 +143,6 @@ followed_of c cut t text = followed_by c cut.pdus cut.ending t text
 abbrev pub not_bound : Talk
 not_bound = record { bound = false; heard = []; part = [] }
 
--- what the peer's bytes tell a client: it writes its bind, and then the first request and one more behind each answer
-unfoldable pub followed : Command → List ℕ → Followed
-followed c stream = followed_of c (pdus_from Client 0 stream) not_bound bind_text
+-- what the peer's bytes tell a client: it writes its bind, and then the first request and one more after each answer
+unfoldable pub talk_of : Command → List ℕ → Followed
+talk_of c stream = followed_of c (pdus_from Client 0 stream) not_bound bind_text

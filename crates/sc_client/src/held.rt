@@ -39,7 +39,7 @@ impl Held {
         Ok(())
     }
 
-    /// Reads a piece behind what is held.
+    /// Reads a piece, and appends it to what is held.
     pub fn read_more<S: Source>(&mut self, source: &mut S) -> Result<(), ClientFault>
         ensures read { ReadsMore (S.left source.old) (S.left source.new) self.old self.new result }
         ensures grows { S.faults source.old ≤ S.faults source.new }

@@ -12,7 +12,8 @@ use scm_model::codes::{
     R_GET_SERVICE_DISPLAY_NAME_W, R_GET_SERVICE_KEY_NAME_W, R_LOCK_SERVICE_DATABASE,
     R_NOTIFY_SERVICE_STATUS_CHANGE, R_OPEN_SC_MANAGER_W, R_OPEN_SERVICE_W,
     R_QUERY_SERVICE_CONFIG_W, R_QUERY_SERVICE_CONFIG2_W, R_QUERY_SERVICE_LOCK_STATUS_W,
-    R_QUERY_SERVICE_STATUS, R_QUERY_SERVICE_STATUS_EX, R_SET_SERVICE_STATUS, R_START_SERVICE_W,
+    R_QUERY_SERVICE_OBJECT_SECURITY, R_QUERY_SERVICE_STATUS, R_QUERY_SERVICE_STATUS_EX,
+    R_SET_SERVICE_OBJECT_SECURITY, R_SET_SERVICE_STATUS, R_START_SERVICE_W,
     R_UNLOCK_SERVICE_DATABASE,
 };
 use scm_text::{Items, OutOfMemory};
@@ -68,6 +69,8 @@ fn opnum_of(request: &Request) -> u16
         Request::Control { .. } => R_CONTROL_SERVICE,
         Request::Delete { .. } => R_DELETE_SERVICE,
         Request::Lock { .. } => R_LOCK_SERVICE_DATABASE,
+        Request::QuerySecurity { .. } => R_QUERY_SERVICE_OBJECT_SECURITY,
+        Request::SetSecurity { .. } => R_SET_SERVICE_OBJECT_SECURITY,
         Request::QueryStatus { .. } => R_QUERY_SERVICE_STATUS,
         Request::SetStatus { .. } => R_SET_SERVICE_STATUS,
         Request::Unlock { .. } => R_UNLOCK_SERVICE_DATABASE,
@@ -91,7 +94,7 @@ fn opnum_of(request: &Request) -> u16
     }
 }
 
-/// The front of some bytes in a fragment, and the rest behind it.
+/// The front of some bytes in a fragment, and the rest after it.
 fn cut(rest: &[u8]) -> (&[u8], &[u8])
     ensures bound { length result.0.now ≤ 1408 }
     ensures front { result.0.now ≡ take 1408 rest.now }
@@ -150,8 +153,8 @@ fn fragmented(alloc: Global, call: u32, opnum: u16, body: &[u8]) -> Result<Items
     Ok(text)
 }
 
-/// The bytes of a request under a call id. Memory is told to be wanting for a body of 2^32 bytes or
-/// more, whose length no hint can say.
+/// The bytes of a request under a call id. A body of 2^32 bytes or more results in `OutOfMemory`:
+/// no hint can say its length.
 #[tactic(auto, unfolding(crate::specs::Requests::request_text))]
 pub fn request_text(alloc: Global, call: u32, request: &Request) -> Result<Items<u8>, OutOfMemory>
     ensures { IfOk result (λ text. text ≡ request_text call request.now) }

@@ -51,7 +51,7 @@ fn turn<S: Source, T: Sink>(
 
 /// Makes the calls of a command over a connection to a manager, and gives the answers to them. The
 /// bind is written first, and then each request once the answers before it were read. What the peer
-/// sends behind the last answer isn't looked at.
+/// sends after the last answer isn't looked at.
 pub fn run_command<S: Source, T: Sink>(
     alloc: Global,
     command: &Command,

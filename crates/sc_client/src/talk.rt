@@ -4,10 +4,10 @@ ghost use Rattle.ndr_body.specs.declared.fault.BodyFault.{BodyFault as ABodyFaul
 ghost use Rattle.ndr_body.specs.Reading.{Gives};
 ghost use Rattle.rpc_pdu.specs.Pdu.{seen_ack, seen_pdu, seen_response};
 ghost use Rattle.scm_model.specs.declared.calls.Reply.{Reply as AReply};
-ghost use Rattle.sc_client.specs.Along.{Takes};
+ghost use Rattle.sc_client.specs.Along.{Leads};
 ghost use Rattle.sc_client.specs.Talks.{acceptance, ack_move, answers, expected, fault_move};
 ghost use Rattle.sc_client.specs.Talks.{is_next_fragment, hearing, is_whole, pdu_move};
-ghost use Rattle.sc_client.specs.Talks.{response_move, told_by, not_bound, with_stub};
+ghost use Rattle.sc_client.specs.Talks.{response_move, heard_of, not_bound, with_stub};
 
 use ndr_body::BodyFault;
 use rpc_pdu::{Ack, FaultPdu, Pdu, ResponsePdu};
@@ -81,9 +81,9 @@ fn or_none(read: Result<Reply, BodyFault>) -> Result<Option<Reply>, OutOfMemory>
 }
 
 /// What a whole stub tells in answer to a call.
-#[tactic(auto, unfolding(crate::specs::Talks::told_by))]
+#[tactic(auto, unfolding(crate::specs::Talks::heard_of))]
 fn told_by(alloc: Global, call: Option<Call>, stub: &[u8]) -> Result<Option<Heard>, OutOfMemory>
-    ensures { IfOk result (λ heard. heard ≡ told_by call stub.now) }
+    ensures { IfOk result (λ heard. heard ≡ heard_of call stub.now) }
 {
     let Some(call) = call else {
         return Ok(None);
@@ -164,7 +164,7 @@ impl Talk {
 
     /// Takes what is heard, if anything is.
     fn hear_some(&mut self, alloc: Global, heard: Option<Heard>) -> Result<bool, OutOfMemory>
-        ensures { Takes (option_map (hearing self.old) heard) self.new result }
+        ensures { Leads (option_map (hearing self.old) heard) self.new result }
     {
         match heard {
             Some(heard) => {
@@ -183,7 +183,7 @@ impl Talk {
         last: bool,
         stub: &[u8],
     ) -> Result<bool, OutOfMemory>
-        ensures { Takes (with_stub command.now self.old last
+        ensures { Leads (with_stub command.now self.old last
             (self.old.part ++ stub.now)) self.new result }
     {
         self.part.append(stub)?;
@@ -206,7 +206,7 @@ impl Talk {
         command: &Command,
         r: &ResponsePdu<&[u8]>,
     ) -> Result<bool, OutOfMemory>
-        ensures { Takes (response_move command.now self.old (seen_response r.now)) self.new result }
+        ensures { Leads (response_move command.now self.old (seen_response r.now)) self.new result }
     {
         if !self.answers(r.call, r.context) || !is_next_fragment(self, r) {
             return Ok(false);
@@ -217,7 +217,7 @@ impl Talk {
     /// Takes a fault.
     #[tactic(auto, unfolding(crate::specs::Talks::fault_move))]
     fn take_fault(&mut self, alloc: Global, f: &FaultPdu) -> Result<bool, OutOfMemory>
-        ensures { Takes (fault_move self.old f.now) self.new result }
+        ensures { Leads (fault_move self.old f.now) self.new result }
     {
         if !self.answers(f.call, f.context) || !self.is_whole() {
             return Ok(false);
@@ -229,7 +229,7 @@ impl Talk {
     /// Takes the answer to the bind.
     #[tactic(auto, unfolding(crate::specs::Talks::ack_move))]
     fn take_ack(&mut self, a: &Ack<&[u8]>) -> Result<bool, OutOfMemory>
-        ensures { Takes (ack_move self.old (seen_ack a.now)) self.new result }
+        ensures { Leads (ack_move self.old (seen_ack a.now)) self.new result }
     {
         let accepted = !self.bound && a.call == 1 && is_acceptance(a.results);
         if !accepted {
@@ -247,7 +247,7 @@ impl Talk {
         command: &Command,
         pdu: &Pdu<&[u8]>,
     ) -> Result<bool, OutOfMemory>
-        ensures { Takes (pdu_move command.now self.old (seen_pdu pdu.now)) self.new result }
+        ensures { Leads (pdu_move command.now self.old (seen_pdu pdu.now)) self.new result }
     {
         match pdu {
             Pdu::Response(response) => self.take_response(alloc, command, response),

@@ -1,4 +1,4 @@
--- What is told of the one connection of a dialer in memory.
+-- What is known of the one connection of a dialer in memory.
 use Rattle.std.specs.Prelude.{ℕ, List, [], ◌∷◌, Option, None, Some}
 use Rattle.sc_dial.specs.declared.memory.MemoryLine.{MemoryLine}
 use Rattle.sc_dial.specs.declared.memory.MemoryLine.TheVariants as line
@@ -15,13 +15,13 @@ dialled_of line.Out address = address
 dialled_of _ address = None
 
 -- it, once it is given back
-abbrev pub past_of : MemoryLine → Option (List ℕ) → List PastConnection
-past_of (line.Past connection) address = record {
+abbrev pub line_past : MemoryLine → Option (List ℕ) → List PastConnection
+line_past (line.Past connection) address = record {
   address = address;
   left = Some connection.input.source.left;
   written = Some connection.output.sink.held;
 } ∷ []
-past_of _ address = []
+line_past _ address = []
 
 -- where the only connection led that was given back
 abbrev pub only_address : Option (List PastConnection) → Option (List ℕ)

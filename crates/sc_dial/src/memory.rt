@@ -1,5 +1,6 @@
 ghost use Rattle.std.specs.Prelude.{◌≡◌, [], Some, option_map};
-ghost use Rattle.sc_dial.specs.InMemory.{dialled_of, only_address, only_written, next_of, past_of};
+ghost use Rattle.sc_dial.specs.InMemory.{dialled_of, only_address, only_written, next_of};
+ghost use Rattle.sc_dial.specs.InMemory.{line_past};
 
 use super::counted::{CountedSink, CountedSource, fail};
 use super::dialer::{Connection, Dialer};
@@ -21,9 +22,9 @@ pub enum MemoryLine {
     Past(MemoryConnection),
 }
 
-/// One connection in memory, to whatever address is dialled. Each `true` of a list of fails, taken
-/// from its end, is a call that fails; no other does, but a dial behind the first connection, and
-/// one that finds no memory.
+/// One connection in memory, to any address that is dialled. Each `true` of a list of fails, taken
+/// from its end, is a call that fails. No other call fails, except a dial after the first
+/// connection, and one that finds no memory.
 #[derive(Drop)]
 pub struct MemoryDialer {
     alloc: Global,
@@ -86,7 +87,7 @@ impl Dialer for MemoryDialer {
 
     ghost dialled = { λ d. dialled_of d.line d.address };
 
-    ghost past = { λ d. Some (past_of d.line d.address) };
+    ghost past = { λ d. Some (line_past d.line d.address) };
 
     ghost faults = { λ d. d.faults };
 

@@ -2,14 +2,14 @@
 use Rattle.std.specs.Prelude.{ℕ, ◌==◌, Bool, true, false, not, List, [], ◌∷◌, ◌++◌, drop, codes, decimal, if◌then◌else◌}
 use Rattle.std.specs.List.{flat_map}
 use Rattle.sc_lines.specs.Lines.{Field, Number, Text, Word, lines}
-use Rattle.sc_lines.specs.Reading.{number_at, rows, text_at}
+use Rattle.sc_lines.specs.Reading.{u32_at, rows, units_at}
 
 abbrev pub description_fields : (name description : List ℕ) → List Field
 description_fields name description = Text (codes "SERVICE_NAME: ") name ∷ Text (codes "DESCRIPTION: ") description ∷ []
 
 -- an offset, and the text there
 abbrev pub description_text : (name bytes : List ℕ) → List ℕ
-description_text name bytes = lines (description_fields name (text_at bytes (number_at bytes 0)))
+description_text name bytes = lines (description_fields name (units_at bytes (u32_at bytes 0)))
 
 -- ## What is done after failures
 
@@ -26,7 +26,7 @@ action_text name delay = codes "FAILURE_ACTIONS: " ++ (name ++ (codes " -- Delay
 
 -- an action, and its delay
 abbrev pub action_line : List ℕ → List ℕ
-action_line row = action_text (action_name (number_at row 0)) (decimal (number_at row 4))
+action_line row = action_text (action_name (u32_at row 0)) (decimal (u32_at row 4))
 
 -- seconds; the greatest number is INFINITE
 abbrev pub period_field : ℕ → Field
@@ -41,8 +41,8 @@ failure_fields name reset message command =
 -- the reset period, the offsets of the message and of the command, and how many actions stand where
 abbrev pub failure_text : (name bytes : List ℕ) → List ℕ
 failure_text name bytes =
-    lines (failure_fields name (number_at bytes 0) (text_at bytes (number_at bytes 4)) (text_at bytes (number_at bytes 8)))
-    ++ flat_map action_line (rows 8 (number_at bytes 12) (drop (number_at bytes 16) bytes))
+    lines (failure_fields name (u32_at bytes 0) (units_at bytes (u32_at bytes 4)) (units_at bytes (u32_at bytes 8)))
+    ++ flat_map action_line (rows 8 (u32_at bytes 12) (drop (u32_at bytes 16) bytes))
 
 -- ## Flags
 
@@ -52,7 +52,7 @@ flag_name false = codes "FALSE"
 
 -- whether a flag is on
 abbrev pub is_on : List ℕ → Bool
-is_on bytes = not (number_at bytes 0 == 0)
+is_on bytes = not (u32_at bytes 0 == 0)
 
 abbrev pub flag_fields : (name flag : List ℕ) → List Field
 flag_fields name flag = Text (codes "SERVICE_NAME: ") name ∷ Word (codes "FAILURE_ACTIONS_ON_NONCRASH_FAILURES: ") flag ∷ []

@@ -2,7 +2,7 @@
 use Rattle.std.specs.Prelude.{ℕ, List, [], ◌∷◌, ◌++◌, codes}
 use Rattle.std.specs.List.{flat_map}
 use Rattle.sc_lines.specs.Lines.{Field, Text, lines}
-use Rattle.sc_lines.specs.Reading.{number_at, rows, text_at}
+use Rattle.sc_lines.specs.Reading.{u32_at, rows, units_at}
 use Rattle.sc_lines.specs.Statuses.{status_at, status_fields}
 
 abbrev pub name_fields : (name display : List ℕ) → List Field
@@ -11,7 +11,7 @@ name_fields name display = Text (codes "SERVICE_NAME: ") name ∷ Text (codes "D
 -- the offsets of the name and of the display name, and the status; and an empty line
 abbrev pub entry_text : List ℕ → List ℕ → List ℕ
 entry_text bytes row =
-    lines (name_fields (text_at bytes (number_at row 0)) (text_at bytes (number_at row 4)))
+    lines (name_fields (units_at bytes (u32_at row 0)) (units_at bytes (u32_at row 4)))
     ++ (lines (status_fields (status_at row 8)) ++ codes "\n")
 
 -- as many records as a reply says, as far as they are whole

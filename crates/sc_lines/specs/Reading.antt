@@ -6,8 +6,8 @@ abbrev pub byte_at : List ℕ → ℕ → ℕ
 byte_at bytes at = unwrap_or (slice_get bytes at) 0
 
 -- a number of four bytes, the low one first
-unfoldable pub number_at : List ℕ → ℕ → ℕ
-number_at bytes at = from_le_bytes w32 (byte_at bytes at ∷ byte_at bytes (at + 1) ∷ byte_at bytes (at + 2) ∷ byte_at bytes (at + 3) ∷ [])
+unfoldable pub u32_at : List ℕ → ℕ → ℕ
+u32_at bytes at = from_le_bytes w32 (byte_at bytes at ∷ byte_at bytes (at + 1) ∷ byte_at bytes (at + 2) ∷ byte_at bytes (at + 3) ∷ [])
 
 -- the unit of two bytes, the low one first
 abbrev pub unit : ℕ → ℕ → ℕ
@@ -20,8 +20,8 @@ units (low ∷ []) = []
 units (low ∷ high ∷ bytes) = if unit low high == 0 then [] else unit low high ∷ units bytes
 
 -- the text at a place; 0 is the place of none
-unfoldable pub text_at : List ℕ → ℕ → List ℕ
-text_at bytes at = if at == 0 then [] else units (drop at bytes)
+unfoldable pub units_at : List ℕ → ℕ → List ℕ
+units_at bytes at = if at == 0 then [] else units (drop at bytes)
 
 -- the rows of a size at the front that are whole, at most so many of them
 unfoldable pub rows : (size most : ℕ) → List ℕ → List (List ℕ)

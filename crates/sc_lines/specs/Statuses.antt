@@ -4,7 +4,7 @@ use Rattle.scm_model.specs.declared.codes.TheConstants.{SERVICE_STOPPED, SERVICE
 use Rattle.scm_model.specs.declared.codes.TheConstants.{SERVICE_CONTINUE_PENDING, SERVICE_PAUSE_PENDING, SERVICE_PAUSED}
 use Rattle.scm_model.specs.declared.flat.Status.{Status}
 use Rattle.sc_lines.specs.Lines.{Field, Named, Number, Text, lines}
-use Rattle.sc_lines.specs.Reading.{number_at}
+use Rattle.sc_lines.specs.Reading.{u32_at}
 
 abbrev pub state_name : ℕ → List ℕ
 state_name state =
@@ -30,17 +30,17 @@ status_text name s = lines (Text (codes "SERVICE_NAME: ") name ∷ []) ++ lines 
 -- a status that begins at a place
 abbrev pub status_at : List ℕ → ℕ → Status
 status_at bytes at = record {
-  kind = number_at bytes at;
-  state = number_at bytes (at + 4);
-  accepted = number_at bytes (at + 8);
-  win32 = number_at bytes (at + 12);
-  specific = number_at bytes (at + 16);
-  checkpoint = number_at bytes (at + 20);
-  hint = number_at bytes (at + 24);
+  kind = u32_at bytes at;
+  state = u32_at bytes (at + 4);
+  accepted = u32_at bytes (at + 8);
+  win32 = u32_at bytes (at + 12);
+  specific = u32_at bytes (at + 16);
+  checkpoint = u32_at bytes (at + 20);
+  hint = u32_at bytes (at + 24);
 }
 
 -- a status and the process, in the nine numbers of SERVICE_STATUS_PROCESS
 abbrev pub process_text : List ℕ → List ℕ → List ℕ
 process_text name bytes =
-    status_text name (status_at bytes 0) ++ lines (Number (codes "PID: ") (number_at bytes 28) ∷ Number (codes "FLAGS: ")
-    (number_at bytes 32) ∷ [])
+    status_text name (status_at bytes 0) ++ lines (Number (codes "PID: ") (u32_at bytes 28) ∷ Number (codes "FLAGS: ")
+    (u32_at bytes 32) ∷ [])

@@ -3,13 +3,13 @@ ghost use Rattle.sc_lines.specs.Lines.{lines};
 ghost use Rattle.sc_lines.specs.Configs.{automatic_name, config_fields, config_text, error_name};
 ghost use Rattle.sc_lines.specs.Configs.{start_name};
 
-use super::lines::{Line, add_lines};
+use super::lines::{Appended, Line, add_lines};
 use scm_model::Shown;
 use scm_model::codes::{
     SERVICE_AUTO_START, SERVICE_DEMAND_START, SERVICE_DISABLED, SERVICE_ERROR_CRITICAL,
     SERVICE_ERROR_IGNORE, SERVICE_ERROR_NORMAL, SERVICE_ERROR_SEVERE,
 };
-use scm_text::{Items, OutOfMemory};
+use scm_text::Items;
 use std::alloc::Global;
 
 fn automatic_name(delayed: bool) -> &'static str
@@ -55,26 +55,23 @@ fn add_fields<'a>(
     config: &'a Shown,
     start: &'a str,
     error: &'a str,
-) -> Result<(), OutOfMemory>
+) -> Appended
     ensures { OnOk result (text.new
         ≡ text.old ++ lines (config_fields name.now config.now start.now error.now)) }
 {
-    add_lines(
-        text,
-        alloc,
-        &[
-            Line::Text("SERVICE_NAME: ", name),
-            Line::Number("TYPE: ", config.kind),
-            Line::Named("START_TYPE: ", config.start, start),
-            Line::Named("ERROR_CONTROL: ", config.error, error),
-            Line::Text("BINARY_PATH_NAME: ", config.path.units()),
-            Line::Text("LOAD_ORDER_GROUP: ", config.group.units()),
-            Line::Number("TAG: ", config.tag),
-            Line::Text("DISPLAY_NAME: ", config.display.units()),
-            Line::Text("DEPENDENCIES: ", config.needs.units()),
-            Line::Text("SERVICE_START_NAME: ", config.account.units()),
-        ],
-    )
+    let fields = [
+        Line::Text("SERVICE_NAME: ", name),
+        Line::Number("TYPE: ", config.kind),
+        Line::Named("START_TYPE: ", config.start, start),
+        Line::Named("ERROR_CONTROL: ", config.error, error),
+        Line::Text("BINARY_PATH_NAME: ", config.path.units()),
+        Line::Text("LOAD_ORDER_GROUP: ", config.group.units()),
+        Line::Number("TAG: ", config.tag),
+        Line::Text("DISPLAY_NAME: ", config.display.units()),
+        Line::Text("DEPENDENCIES: ", config.needs.units()),
+        Line::Text("SERVICE_START_NAME: ", config.account.units()),
+    ];
+    add_lines(text, alloc, &fields)
 }
 
 /// Appends a service's configuration. `delayed` is whether an automatic start waits.
@@ -84,7 +81,7 @@ pub fn add_config(
     name: &[u16],
     config: &Shown,
     delayed: bool,
-) -> Result<(), OutOfMemory>
+) -> Appended
     ensures { OnOk result (text.new ≡ text.old ++ config_text name.now config.now delayed) }
 {
     let start = start_name(config.start, delayed);

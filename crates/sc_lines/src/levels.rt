@@ -5,9 +5,9 @@ ghost use Rattle.sc_lines.specs.Levels.{description_text, failure_fields, failur
 ghost use Rattle.sc_lines.specs.Levels.{flag_fields, flag_name, flag_text, is_on, period_field};
 ghost use Rattle.sc_lines.specs.Lines.{lines, seen_line};
 
-use super::lines::{Line, add_lines};
+use super::lines::{Appended, Line, add_lines};
 use super::reading::{after, number_at, rows, text_at};
-use scm_text::{Items, OutOfMemory};
+use scm_text::Items;
 use std::alloc::Global;
 
 /// Appends a name and a description.
@@ -16,27 +16,19 @@ fn add_described<'a>(
     alloc: Global,
     name: &'a [u16],
     description: &'a [u16],
-) -> Result<(), OutOfMemory>
+) -> Appended
     ensures { OnOk result (text.new ≡ text.old ++ lines
         (description_fields name.now description.now)) }
 {
-    add_lines(
-        text,
-        alloc,
-        &[
-            Line::Text("SERVICE_NAME: ", name),
-            Line::Text("DESCRIPTION: ", description),
-        ],
-    )
+    let fields = [
+        Line::Text("SERVICE_NAME: ", name),
+        Line::Text("DESCRIPTION: ", description),
+    ];
+    add_lines(text, alloc, &fields)
 }
 
 /// Appends a description: bytes begin with its offset.
-pub fn add_description(
-    text: &mut Items<u8>,
-    alloc: Global,
-    name: &[u16],
-    bytes: &[u8],
-) -> Result<(), OutOfMemory>
+pub fn add_description(text: &mut Items<u8>, alloc: Global, name: &[u16], bytes: &[u8]) -> Appended
     ensures { OnOk result (text.new ≡ text.old ++ description_text name.now bytes.now) }
 {
     let description = text_at(alloc, bytes, number_at(bytes, 0))?;
@@ -56,7 +48,7 @@ fn action_name(what: u32) -> &'static str
 }
 
 /// Appends the name of an action, and its delay in milliseconds.
-fn add_delayed(text: &mut Items<u8>, name: &str, delay: &str) -> Result<(), OutOfMemory>
+fn add_delayed(text: &mut Items<u8>, name: &str, delay: &str) -> Appended
     ensures { OnOk result (text.new ≡ text.old ++ action_text name.now delay.now) }
 {
     text.append_pair(b"FAILURE_ACTIONS: ", name.as_bytes())?;
@@ -65,7 +57,7 @@ fn add_delayed(text: &mut Items<u8>, name: &str, delay: &str) -> Result<(), OutO
 }
 
 /// Appends an action and its delay.
-fn add_action(text: &mut Items<u8>, row: &[u8]) -> Result<(), OutOfMemory>
+fn add_action(text: &mut Items<u8>, row: &[u8]) -> Appended
     ensures { OnOk result (text.new ≡ text.old ++ action_line row.now) }
 {
     let name = action_name(number_at(row, 0));
@@ -73,7 +65,7 @@ fn add_action(text: &mut Items<u8>, row: &[u8]) -> Result<(), OutOfMemory>
 }
 
 /// Appends actions.
-fn add_actions(text: &mut Items<u8>, list: &[&[u8]]) -> Result<(), OutOfMemory>
+fn add_actions(text: &mut Items<u8>, list: &[&[u8]]) -> Appended
     ensures { OnOk result (text.new ≡ text.old ++ flat_map action_line
         (map (λ row. row.now) list.now)) }
 {
@@ -102,30 +94,22 @@ fn add_failure_head<'a>(
     reset: u32,
     message: &'a [u16],
     command: &'a [u16],
-) -> Result<(), OutOfMemory>
+) -> Appended
     ensures { OnOk result (text.new
         ≡ text.old ++ lines (failure_fields name.now reset message.now command.now)) }
 {
-    add_lines(
-        text,
-        alloc,
-        &[
-            Line::Text("SERVICE_NAME: ", name),
-            period_line(reset),
-            Line::Text("REBOOT_MESSAGE: ", message),
-            Line::Text("COMMAND_LINE: ", command),
-        ],
-    )
+    let fields = [
+        Line::Text("SERVICE_NAME: ", name),
+        period_line(reset),
+        Line::Text("REBOOT_MESSAGE: ", message),
+        Line::Text("COMMAND_LINE: ", command),
+    ];
+    add_lines(text, alloc, &fields)
 }
 
 /// Appends what is done after failures: bytes begin with the reset period, the offsets of the
 /// message and of the command, the count of actions and their offset.
-pub fn add_failure(
-    text: &mut Items<u8>,
-    alloc: Global,
-    name: &[u16],
-    bytes: &[u8],
-) -> Result<(), OutOfMemory>
+pub fn add_failure(text: &mut Items<u8>, alloc: Global, name: &[u16], bytes: &[u8]) -> Appended
     ensures { OnOk result (text.new ≡ text.old ++ failure_text name.now bytes.now) }
 {
     let message = text_at(alloc, bytes, number_at(bytes, 4))?;
@@ -158,31 +142,18 @@ pub fn is_on(bytes: &[u8]) -> bool
 }
 
 /// Appends a name, and whether a stop with an error is a failure too.
-fn add_flagged<'a>(
-    text: &mut Items<u8>,
-    alloc: Global,
-    name: &'a [u16],
-    flag: &'a str,
-) -> Result<(), OutOfMemory>
+fn add_flagged<'a>(text: &mut Items<u8>, alloc: Global, name: &'a [u16], flag: &'a str) -> Appended
     ensures { OnOk result (text.new ≡ text.old ++ lines (flag_fields name.now flag.now)) }
 {
-    add_lines(
-        text,
-        alloc,
-        &[
-            Line::Text("SERVICE_NAME: ", name),
-            Line::Word("FAILURE_ACTIONS_ON_NONCRASH_FAILURES: ", flag),
-        ],
-    )
+    let fields = [
+        Line::Text("SERVICE_NAME: ", name),
+        Line::Word("FAILURE_ACTIONS_ON_NONCRASH_FAILURES: ", flag),
+    ];
+    add_lines(text, alloc, &fields)
 }
 
 /// Appends whether a stop with an error is a failure too: bytes are a number, which is 0 if not.
-pub fn add_flag(
-    text: &mut Items<u8>,
-    alloc: Global,
-    name: &[u16],
-    bytes: &[u8],
-) -> Result<(), OutOfMemory>
+pub fn add_flag(text: &mut Items<u8>, alloc: Global, name: &[u16], bytes: &[u8]) -> Appended
     ensures { OnOk result (text.new ≡ text.old ++ flag_text name.now bytes.now) }
 {
     add_flagged(text, alloc, name, flag_name(is_on(bytes)))

@@ -12,7 +12,7 @@ mod statuses;
 
 pub use configs::add_config;
 pub use levels::{add_description, add_failure, add_flag, is_on};
-pub use lines::{Line, add_lines};
+pub use lines::{Appended, Line, add_lines};
 pub use listings::add_listing;
 pub use locks::add_lock;
 pub use statuses::{add_process, add_status};

@@ -6,6 +6,9 @@ use super::printing::printed;
 use scm_text::{Items, OutOfMemory};
 use std::alloc::Global;
 
+/// What a function that appends returns: it fails only where memory is out.
+pub type Appended = Result<(), OutOfMemory>;
+
 /// A line: a label, and what it labels.
 #[derive(Clone, Copy)]
 pub enum Line<'a> {
@@ -18,7 +21,7 @@ pub enum Line<'a> {
 }
 
 /// Appends a label, what it labels, and a line feed.
-fn add_labelled(text: &mut Items<u8>, label: &str, rest: &str) -> Result<(), OutOfMemory>
+fn add_labelled(text: &mut Items<u8>, label: &str, rest: &str) -> Appended
     ensures { OnOk result (text.new ≡ text.old ++ labelled label.now rest.now) }
 {
     text.append_pair(label.as_bytes(), rest.as_bytes())?;
@@ -26,7 +29,7 @@ fn add_labelled(text: &mut Items<u8>, label: &str, rest: &str) -> Result<(), Out
 }
 
 /// Appends a label, a number with its name, and a line feed.
-fn add_named(text: &mut Items<u8>, label: &str, number: u32, name: &str) -> Result<(), OutOfMemory>
+fn add_named(text: &mut Items<u8>, label: &str, number: u32, name: &str) -> Appended
     ensures { OnOk result (text.new
         ≡ text.old ++ labelled label.now (decimal number ++ (codes " " ++ name.now))) }
 {
@@ -39,12 +42,7 @@ fn add_named(text: &mut Items<u8>, label: &str, number: u32, name: &str) -> Resu
 }
 
 /// Appends a label, a text, and a line feed.
-fn add_text(
-    text: &mut Items<u8>,
-    alloc: Global,
-    label: &str,
-    units: &[u16],
-) -> Result<(), OutOfMemory>
+fn add_text(text: &mut Items<u8>, alloc: Global, label: &str, units: &[u16]) -> Appended
     ensures { OnOk result (text.new ≡ text.old ++ labelled label.now (printed units.now)) }
 {
     match printed(alloc, units) {
@@ -54,7 +52,7 @@ fn add_text(
 }
 
 /// Appends a line.
-fn add_line(text: &mut Items<u8>, alloc: Global, line: &Line<'_>) -> Result<(), OutOfMemory>
+fn add_line(text: &mut Items<u8>, alloc: Global, line: &Line<'_>) -> Appended
     ensures { OnOk result (text.new ≡ text.old ++ field_text (seen_line line.now)) }
 {
     match line {
@@ -68,7 +66,7 @@ fn add_line(text: &mut Items<u8>, alloc: Global, line: &Line<'_>) -> Result<(), 
 }
 
 /// Appends lines.
-pub fn add_lines(text: &mut Items<u8>, alloc: Global, list: &[Line<'_>]) -> Result<(), OutOfMemory>
+pub fn add_lines(text: &mut Items<u8>, alloc: Global, list: &[Line<'_>]) -> Appended
     ensures { OnOk result (text.new ≡ text.old ++ lines (seen_lines list.now)) }
 {
     for line in list {

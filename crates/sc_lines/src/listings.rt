@@ -3,10 +3,10 @@ ghost use Rattle.std.specs.List.{flat_map};
 ghost use Rattle.sc_lines.specs.Listings.{entry_text, listing_text, name_fields};
 ghost use Rattle.sc_lines.specs.Lines.{lines};
 
-use super::lines::{Line, add_lines};
+use super::lines::{Appended, Line, add_lines};
 use super::reading::{number_at, rows, text_at};
 use super::statuses::{add_numbers, status_at};
-use scm_text::{Items, OutOfMemory};
+use scm_text::Items;
 use std::alloc::Global;
 
 /// Appends a name and a display name.
@@ -15,26 +15,18 @@ fn add_names<'a>(
     alloc: Global,
     name: &'a [u16],
     display: &'a [u16],
-) -> Result<(), OutOfMemory>
+) -> Appended
     ensures { OnOk result (text.new ≡ text.old ++ lines (name_fields name.now display.now)) }
 {
-    add_lines(
-        text,
-        alloc,
-        &[
-            Line::Text("SERVICE_NAME: ", name),
-            Line::Text("DISPLAY_NAME: ", display),
-        ],
-    )
+    let fields = [
+        Line::Text("SERVICE_NAME: ", name),
+        Line::Text("DISPLAY_NAME: ", display),
+    ];
+    add_lines(text, alloc, &fields)
 }
 
 /// Appends the service of a record, and an empty line.
-fn add_entry(
-    text: &mut Items<u8>,
-    alloc: Global,
-    bytes: &[u8],
-    row: &[u8],
-) -> Result<(), OutOfMemory>
+fn add_entry(text: &mut Items<u8>, alloc: Global, bytes: &[u8], row: &[u8]) -> Appended
     ensures { OnOk result (text.new ≡ text.old ++ entry_text bytes.now row.now) }
 {
     let name = text_at(alloc, bytes, number_at(row, 0))?;
@@ -45,12 +37,7 @@ fn add_entry(
 }
 
 /// Appends the services of records.
-fn add_entries(
-    text: &mut Items<u8>,
-    alloc: Global,
-    bytes: &[u8],
-    list: &[&[u8]],
-) -> Result<(), OutOfMemory>
+fn add_entries(text: &mut Items<u8>, alloc: Global, bytes: &[u8], list: &[&[u8]]) -> Appended
     ensures { OnOk result (text.new
         ≡ text.old ++ flat_map (entry_text bytes.now) (map (λ row. row.now) list.now)) }
 {
@@ -64,12 +51,7 @@ fn add_entries(
 /// are whole, each with the offsets of two texts and a status (ENUM_SERVICE_STATUSW, MS-SCMR
 /// 2.2.11).
 #[tactic(auto, unfolding(crate::specs::Listings::listing_text))]
-pub fn add_listing(
-    text: &mut Items<u8>,
-    alloc: Global,
-    returned: u32,
-    bytes: &[u8],
-) -> Result<(), OutOfMemory>
+pub fn add_listing(text: &mut Items<u8>, alloc: Global, returned: u32, bytes: &[u8]) -> Appended
     ensures { OnOk result (text.new ≡ text.old ++ listing_text returned bytes.now) }
 {
     let list = rows(alloc, 36, returned, bytes)?;

@@ -3,8 +3,8 @@ ghost use Rattle.sc_lines.specs.Locks.{lock_fields, lock_text};
 ghost use Rattle.sc_lines.specs.Lines.{lines};
 
 use super::levels::flag_name;
-use super::lines::{Line, add_lines};
-use scm_text::{Items, OutOfMemory};
+use super::lines::{Appended, Line, add_lines};
+use scm_text::Items;
 use std::alloc::Global;
 
 fn add_fields<'a>(
@@ -13,18 +13,15 @@ fn add_fields<'a>(
     held: &'a str,
     owner: &'a [u16],
     seconds: u32,
-) -> Result<(), OutOfMemory>
+) -> Appended
     ensures { OnOk result (text.new ≡ text.old ++ lines (lock_fields held.now owner.now seconds)) }
 {
-    add_lines(
-        text,
-        alloc,
-        &[
-            Line::Word("IsLocked: ", held),
-            Line::Text("LockOwner: ", owner),
-            Line::Named("LockDuration: ", seconds, "(seconds since acquired)"),
-        ],
-    )
+    let fields = [
+        Line::Word("IsLocked: ", held),
+        Line::Text("LockOwner: ", owner),
+        Line::Named("LockDuration: ", seconds, "(seconds since acquired)"),
+    ];
+    add_lines(text, alloc, &fields)
 }
 
 /// Appends whether the lock of the database is held, by whom and for how many seconds.
@@ -34,7 +31,7 @@ pub fn add_lock(
     held: u32,
     owner: &[u16],
     seconds: u32,
-) -> Result<(), OutOfMemory>
+) -> Appended
     ensures { OnOk result (text.new ≡ text.old ++ lock_text held owner.now seconds) }
 {
     add_fields(text, alloc, flag_name(held != 0), owner, seconds)

@@ -1,5 +1,5 @@
 ghost use Rattle.std.specs.Prelude.{◌≡◌, ◌≤◌, ◌^◌, IfOk, drop, map};
-ghost use Rattle.sc_lines.specs.Reading.{byte_at, number_at, rows, text_at, units};
+ghost use Rattle.sc_lines.specs.Reading.{byte_at, u32_at, rows, units_at, units};
 
 use scm_text::OutOfMemory;
 use std::alloc::Global;
@@ -15,10 +15,10 @@ fn byte_at(bytes: &[u8], at: usize) -> u8
 }
 
 /// The number of four bytes at a place.
-#[tactic(auto, unfolding(crate::specs::Reading::number_at))]
+#[tactic(auto, unfolding(crate::specs::Reading::u32_at))]
 pub fn number_at(bytes: &[u8], at: usize) -> u32
     requires { at ≤ 2 ^ 62 }
-    ensures { result ≡ number_at bytes.now at }
+    ensures { result ≡ u32_at bytes.now at }
 {
     u32::from_le_bytes([
         byte_at(bytes, at),
@@ -56,9 +56,9 @@ fn units(alloc: Global, bytes: &[u8]) -> Result<Vec<u16>, OutOfMemory>
 }
 
 /// The units of the text at a place, which is 0 where there is none.
-#[tactic(auto, unfolding(crate::specs::Reading::text_at))]
+#[tactic(auto, unfolding(crate::specs::Reading::units_at))]
 pub fn text_at(alloc: Global, bytes: &[u8], at: u32) -> Result<Vec<u16>, OutOfMemory>
-    ensures { IfOk result (λ found. found.items ≡ text_at bytes.now at) }
+    ensures { IfOk result (λ found. found.items ≡ units_at bytes.now at) }
 {
     if at == 0 {
         return Ok(Vec::new(alloc));

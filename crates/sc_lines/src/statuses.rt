@@ -3,14 +3,14 @@ ghost use Rattle.sc_lines.specs.Lines.{lines};
 ghost use Rattle.sc_lines.specs.Statuses.{process_text, state_name, status_at, status_fields};
 ghost use Rattle.sc_lines.specs.Statuses.{status_text};
 
-use super::lines::{Line, add_lines};
+use super::lines::{Appended, Line, add_lines};
 use super::reading::number_at;
 use scm_model::Status;
 use scm_model::codes::{
     SERVICE_CONTINUE_PENDING, SERVICE_PAUSE_PENDING, SERVICE_PAUSED, SERVICE_RUNNING,
     SERVICE_START_PENDING, SERVICE_STOP_PENDING, SERVICE_STOPPED,
 };
-use scm_text::{Items, OutOfMemory};
+use scm_text::Items;
 use std::alloc::Global;
 
 /// The name of a state.
@@ -30,31 +30,23 @@ fn state_name(state: u32) -> &'static str
 }
 
 /// Appends a status.
-pub fn add_numbers(text: &mut Items<u8>, alloc: Global, status: &Status) -> Result<(), OutOfMemory>
+pub fn add_numbers(text: &mut Items<u8>, alloc: Global, status: &Status) -> Appended
     ensures { OnOk result (text.new ≡ text.old ++ lines (status_fields status.now)) }
 {
-    add_lines(
-        text,
-        alloc,
-        &[
-            Line::Number("TYPE: ", status.kind),
-            Line::Named("STATE: ", status.state, state_name(status.state)),
-            Line::Number("ACCEPTED: ", status.accepted),
-            Line::Number("WIN32_EXIT_CODE: ", status.win32),
-            Line::Number("SERVICE_EXIT_CODE: ", status.specific),
-            Line::Number("CHECKPOINT: ", status.checkpoint),
-            Line::Number("WAIT_HINT: ", status.hint),
-        ],
-    )
+    let fields = [
+        Line::Number("TYPE: ", status.kind),
+        Line::Named("STATE: ", status.state, state_name(status.state)),
+        Line::Number("ACCEPTED: ", status.accepted),
+        Line::Number("WIN32_EXIT_CODE: ", status.win32),
+        Line::Number("SERVICE_EXIT_CODE: ", status.specific),
+        Line::Number("CHECKPOINT: ", status.checkpoint),
+        Line::Number("WAIT_HINT: ", status.hint),
+    ];
+    add_lines(text, alloc, &fields)
 }
 
 /// Appends a status under a service's name.
-pub fn add_status(
-    text: &mut Items<u8>,
-    alloc: Global,
-    name: &[u16],
-    status: &Status,
-) -> Result<(), OutOfMemory>
+pub fn add_status(text: &mut Items<u8>, alloc: Global, name: &[u16], status: &Status) -> Appended
     ensures { OnOk result (text.new ≡ text.old ++ status_text name.now status.now) }
 {
     add_lines(text, alloc, &[Line::Text("SERVICE_NAME: ", name)])?;
@@ -79,21 +71,13 @@ pub fn status_at(bytes: &[u8], at: usize) -> Status
 
 /// Appends what bytes hold of a service's status and its process, in the nine numbers of
 /// `SERVICE_STATUS_PROCESS` (MS-SCMR 2.2.49).
-pub fn add_process(
-    text: &mut Items<u8>,
-    alloc: Global,
-    name: &[u16],
-    bytes: &[u8],
-) -> Result<(), OutOfMemory>
+pub fn add_process(text: &mut Items<u8>, alloc: Global, name: &[u16], bytes: &[u8]) -> Appended
     ensures { OnOk result (text.new ≡ text.old ++ process_text name.now bytes.now) }
 {
     add_status(text, alloc, name, &status_at(bytes, 0))?;
-    add_lines(
-        text,
-        alloc,
-        &[
-            Line::Number("PID: ", number_at(bytes, 28)),
-            Line::Number("FLAGS: ", number_at(bytes, 32)),
-        ],
-    )
+    let fields = [
+        Line::Number("PID: ", number_at(bytes, 28)),
+        Line::Number("FLAGS: ", number_at(bytes, 32)),
+    ];
+    add_lines(text, alloc, &fields)
 }

@@ -24,35 +24,48 @@ system_message code =
 abbrev pub start_message : ℕ → List ℕ
 start_message code =
     if code == ERROR_CANTWRITE then codes "ERROR_CANTWRITE: The configuration registry key could not be written."
-    else if code == ERROR_DEPENDENT_SERVICES_RUNNING then codes "ERROR_DEPENDENT_SERVICES_RUNNING: A stop control has been sent to a service that other running services are dependent on."
-    else if code == ERROR_INVALID_SERVICE_CONTROL then codes "ERROR_INVALID_SERVICE_CONTROL: The requested control is not valid for this service."
-    else if code == ERROR_SERVICE_REQUEST_TIMEOUT then codes "ERROR_SERVICE_REQUEST_TIMEOUT: The service did not respond to the start or control request in a timely fashion."
+    else if code == ERROR_DEPENDENT_SERVICES_RUNNING
+    then codes "ERROR_DEPENDENT_SERVICES_RUNNING: A stop control has been sent to a service that other running services are dependent on."
+    else if code == ERROR_INVALID_SERVICE_CONTROL
+    then codes "ERROR_INVALID_SERVICE_CONTROL: The requested control is not valid for this service."
+    else if code == ERROR_SERVICE_REQUEST_TIMEOUT
+    then codes "ERROR_SERVICE_REQUEST_TIMEOUT: The service did not respond to the start or control request in a timely fashion."
     else if code == ERROR_SERVICE_NO_THREAD then codes "ERROR_SERVICE_NO_THREAD: A thread could not be created for the service."
     else if code == ERROR_SERVICE_DATABASE_LOCKED then codes "ERROR_SERVICE_DATABASE_LOCKED: The service database is locked."
     else if code == ERROR_SERVICE_ALREADY_RUNNING then codes "ERROR_SERVICE_ALREADY_RUNNING: An instance of the service is already running."
     else if code == ERROR_INVALID_SERVICE_ACCOUNT then codes "ERROR_INVALID_SERVICE_ACCOUNT: The account name is invalid or does not exist, or the password is invalid for the account name specified."
     else if code == ERROR_SERVICE_DISABLED then codes "ERROR_SERVICE_DISABLED: The service cannot be started, either because it is disabled or because it has no enabled devices associated with it."
     else if code == ERROR_CIRCULAR_DEPENDENCY then codes "ERROR_CIRCULAR_DEPENDENCY: Circular service dependency was specified."
-    else if code == ERROR_SERVICE_DOES_NOT_EXIST then codes "ERROR_SERVICE_DOES_NOT_EXIST: The specified service does not exist as an installed service."
-    else if code == ERROR_SERVICE_CANNOT_ACCEPT_CTRL then codes "ERROR_SERVICE_CANNOT_ACCEPT_CTRL: The service cannot accept control messages at this time."
+    else if code == ERROR_SERVICE_DOES_NOT_EXIST
+    then codes "ERROR_SERVICE_DOES_NOT_EXIST: The specified service does not exist as an installed service."
+    else if code == ERROR_SERVICE_CANNOT_ACCEPT_CTRL
+    then codes "ERROR_SERVICE_CANNOT_ACCEPT_CTRL: The service cannot accept control messages at this time."
     else unknown_message
 
 abbrev pub service_message : ℕ → List ℕ
 service_message code =
     if code == ERROR_SERVICE_NOT_ACTIVE then codes "ERROR_SERVICE_NOT_ACTIVE: The service has not been started."
     else if code == ERROR_DATABASE_DOES_NOT_EXIST then codes "ERROR_DATABASE_DOES_NOT_EXIST: The database specified does not exist."
-    else if code == ERROR_SERVICE_SPECIFIC_ERROR then codes "ERROR_SERVICE_SPECIFIC_ERROR: The service has returned a service-specific error code."
+    else if code == ERROR_SERVICE_SPECIFIC_ERROR
+    then codes "ERROR_SERVICE_SPECIFIC_ERROR: The service has returned a service-specific error code."
     else if code == ERROR_PROCESS_ABORTED then codes "ERROR_PROCESS_ABORTED: The process terminated unexpectedly."
-    else if code == ERROR_SERVICE_DEPENDENCY_FAIL then codes "ERROR_SERVICE_DEPENDENCY_FAIL: The dependency service or group failed to start."
+    else if code == ERROR_SERVICE_DEPENDENCY_FAIL
+    then codes "ERROR_SERVICE_DEPENDENCY_FAIL: The dependency service or group failed to start."
     else if code == ERROR_INVALID_SERVICE_LOCK then codes "ERROR_INVALID_SERVICE_LOCK: The specified service database lock is invalid."
-    else if code == ERROR_SERVICE_MARKED_FOR_DELETE then codes "ERROR_SERVICE_MARKED_FOR_DELETE: The specified service has been marked for deletion."
+    else if code == ERROR_SERVICE_MARKED_FOR_DELETE
+    then codes "ERROR_SERVICE_MARKED_FOR_DELETE: The specified service has been marked for deletion."
     else if code == ERROR_SERVICE_EXISTS then codes "ERROR_SERVICE_EXISTS: The specified service already exists."
-    else if code == ERROR_SERVICE_DEPENDENCY_DELETED then codes "ERROR_SERVICE_DEPENDENCY_DELETED: The dependency service does not exist or has been marked for deletion."
-    else if code == ERROR_SERVICE_NEVER_STARTED then codes "ERROR_SERVICE_NEVER_STARTED: No attempts to start the service have been made since the last boot."
-    else if code == ERROR_DUPLICATE_SERVICE_NAME then codes "ERROR_DUPLICATE_SERVICE_NAME: The name is already in use as either a service name or a service display name."
+    else if code == ERROR_SERVICE_DEPENDENCY_DELETED
+    then codes "ERROR_SERVICE_DEPENDENCY_DELETED: The dependency service does not exist or has been marked for deletion."
+    else if code == ERROR_SERVICE_NEVER_STARTED
+    then codes "ERROR_SERVICE_NEVER_STARTED: No attempts to start the service have been made since the last boot."
+    else if code == ERROR_DUPLICATE_SERVICE_NAME
+    then codes "ERROR_DUPLICATE_SERVICE_NAME: The name is already in use as either a service name or a service display name."
     else if code == ERROR_NOT_ENOUGH_QUOTA then codes "ERROR_NOT_ENOUGH_QUOTA: Not enough quota is available to process this command."
     else unknown_message
 
 -- the name of a code and its sentence
 abbrev pub message : ℕ → List ℕ
-message code = if nat_lt code ERROR_CANTWRITE then system_message code else if nat_lt code ERROR_SERVICE_NOT_ACTIVE then start_message code else service_message code
+message code = if nat_lt code ERROR_CANTWRITE then system_message code
+    else if nat_lt code ERROR_SERVICE_NOT_ACTIVE then start_message code
+    else service_message code

@@ -6,7 +6,7 @@ use Rattle.outside.specs.Written.{AppendsFront}
 use Rattle.sc_client.specs.declared.fault.ClientFault.{ClientFault}
 use Rattle.sc_client.specs.declared.fault.ClientFault.TheVariants as client
 use Rattle.sc_client.specs.Runs.{IsRun}
-use Rattle.sc_client.specs.Talks.{Followed, TalkEnd, Over, Bad, Early, followed}
+use Rattle.sc_client.specs.Talks.{Followed, TalkEnd, Over, Bad, Early, talk_of}
 use Rattle.sc_dial.specs.Connections.{PastConnection, IsGivenBack}
 use Rattle.sc_top.specs.declared.fault.ScFault.{ScFault}
 use Rattle.sc_top.specs.declared.fault.ScFault.TheVariants as faults
@@ -18,25 +18,25 @@ use Rattle.sc_words.specs.Told.{failure_of, told_text}
 
 -- ## Statuses
 
-abbrev pub status_of_fault : ScFault → ℕ
-status_of_fault (faults.Words place) = 2
-status_of_fault faults.Encoding = 2
-status_of_fault faults.Dial = 3
-status_of_fault (faults.Client client.ReadFault) = 3
-status_of_fault (faults.Client client.WriteFault) = 3
-status_of_fault faults.Output = 3
-status_of_fault (faults.Client (client.BadReply place)) = 4
-status_of_fault (faults.Client client.Truncated) = 4
-status_of_fault (faults.Client client.OutOfMemory) = 8
-status_of_fault faults.OutOfMemory = 8
+abbrev pub fault_status : ScFault → ℕ
+fault_status (faults.Words place) = 2
+fault_status faults.Encoding = 2
+fault_status faults.Dial = 3
+fault_status (faults.Client client.ReadFault) = 3
+fault_status (faults.Client client.WriteFault) = 3
+fault_status faults.Output = 3
+fault_status (faults.Client (client.BadReply place)) = 4
+fault_status (faults.Client client.Truncated) = 4
+fault_status (faults.Client client.OutOfMemory) = 8
+fault_status faults.OutOfMemory = 8
 
 -- the status of a run that printed its text, by whether a call was refused
 abbrev pub status_of_text : Bool → ℕ
 status_of_text refused = if refused then 1 else 0
 
-abbrev pub status_of : Result (Option Failure) ScFault → ℕ
-status_of (Ok failure) = status_of_text (is_some failure)
-status_of (Err fault) = status_of_fault fault
+abbrev pub command_status : Result (Option Failure) ScFault → ℕ
+command_status (Ok failure) = status_of_text (is_some failure)
+command_status (Err fault) = fault_status fault
 
 -- ## A run
 
@@ -84,32 +84,32 @@ IsDialerCaused client.WriteFault dialer dialer_now = Rose dialer dialer_now
 IsDialerCaused _ dialer dialer_now = Unit {0}
 
 -- What a command's run did by how it ended. With all answers its text was printed, and nothing is printed of fewer.
-abbrev pub HasRun : Command → Outside → Result (Option Failure) ScFault → Type 0
-HasRun c o (Ok failure) =
+abbrev pub RunEnded : Command → Outside → Result (Option Failure) ScFault → Type 0
+RunEnded c o (Ok failure) =
     (heard : List Heard) × IsCalled c o.next o.past o.past_now (Ok heard) × Appends o.held o.held_now (told_text c heard)
     × (failure ≡ failure_of c heard)
-HasRun c o (Err (faults.Words place)) = ⊥
-HasRun c o (Err faults.Encoding) = ⊥
-HasRun c o (Err faults.Dial) = (o.past_now ≡ o.past) × Rose o.dialer o.dialer_now × (o.held_now ≡ o.held)
-HasRun c o (Err (faults.Client fault)) = IsCalled c o.next o.past o.past_now (Err fault) × IsDialerCaused fault o.dialer o.dialer_now
+RunEnded c o (Err (faults.Words place)) = ⊥
+RunEnded c o (Err faults.Encoding) = ⊥
+RunEnded c o (Err faults.Dial) = (o.past_now ≡ o.past) × Rose o.dialer o.dialer_now × (o.held_now ≡ o.held)
+RunEnded c o (Err (faults.Client fault)) = IsCalled c o.next o.past o.past_now (Err fault) × IsDialerCaused fault o.dialer o.dialer_now
     × (o.held_now ≡ o.held)
-HasRun c o (Err faults.Output) =
+RunEnded c o (Err faults.Output) =
     (heard : List Heard) × IsCalled c o.next o.past o.past_now (Ok heard) × AppendsFront o.held o.held_now (told_text c heard)
     × Rose o.output o.output_now
-HasRun c o (Err faults.OutOfMemory) = ((o.past_now ≡ o.past) ⊎ ((heard : List Heard) × IsCalled c o.next o.past o.past_now (Ok heard)))
+RunEnded c o (Err faults.OutOfMemory) = ((o.past_now ≡ o.past) ⊎ ((heard : List Heard) × IsCalled c o.next o.past o.past_now (Ok heard)))
     × (o.held_now ≡ o.held)
 
 -- how a run ended, as the program tells it: by its status, and by a diagnostic on standard error
 pub record IsTold (words : List (List ℕ)) (how : Result (Option Failure) ScFault) (held held_now : Option (List ℕ))
     (faults faults_now status : ℕ) : Type 0 where
-  pub status_is : status ≡ status_of how
+  pub status_is : status ≡ command_status how
   pub written : IsWritten (diagnostic words how) held held_now faults faults_now
 
--- a command's run ended in a way that is told so
+-- a command's run ended in a way that the status and the errors tell
 pub record EndsWith (words : List (List ℕ)) (c : Command) (o : Outside) (held held_now : Option (List ℕ))
     (faults faults_now status : ℕ) : Type 0 where
   pub how : Result (Option Failure) ScFault
-  pub run : HasRun c o how
+  pub run : RunEnded c o how
   pub told : IsTold words how held held_now faults faults_now status
 
 -- arguments are no command, by the one at this place; or memory ran out
@@ -124,17 +124,17 @@ IsNoCommand words place held held_now before now status =
 abbrev pub IsUnlessMemory : (due status : ℕ) → Type 0
 IsUnlessMemory due status = (status ≡ due) ⊎ (status ≡ 8)
 
-abbrev pub status_at : TalkEnd → (refused : Bool) → ℕ
-status_at Over refused = status_of_text refused
-status_at (Bad place) refused = 4
-status_at Early refused = 4
+abbrev pub talk_status : TalkEnd → (refused : Bool) → ℕ
+talk_status Over refused = status_of_text refused
+talk_status (Bad place) refused = 4
+talk_status Early refused = 4
 
 -- the status that a command has by what its peer sends
 abbrev pub status_due : Command → Followed → ℕ
-status_due c f = status_at f.ending (is_some (failure_of c f.talk.heard))
+status_due c f = talk_status f.ending (is_some (failure_of c f.talk.heard))
 
 -- where no count rose and the dialer tells, the status is that of the peer's bytes
-abbrev pub IsComplete : Command → Outside → (status : ℕ) → Type 0
-IsComplete c o status =
+abbrev pub IsRunComplete : Command → Outside → (status : ℕ) → Type 0
+IsRunComplete c o status =
     IfSome o.next (λ bytes. (Rose o.dialer o.dialer_now → ⊥) → (Rose o.output o.output_now → ⊥)
-    → IsUnlessMemory (status_due c (followed c bytes)) status)
+    → IsUnlessMemory (status_due c (talk_of c bytes)) status)

@@ -1,5 +1,5 @@
 ghost use Rattle.std.specs.Prelude.{◌≡◌, ◌≤◌, IfErr, IfOk};
-ghost use Rattle.sc_top.specs.Runs.{EndsWith, HasRun, IsComplete, IsNoCommand, outside_of};
+ghost use Rattle.sc_top.specs.Runs.{EndsWith, RunEnded, IsRunComplete, IsNoCommand, outside_of};
 ghost use Rattle.sc_words.specs.Words.{command_of};
 
 use super::diagnostics::finish;
@@ -18,7 +18,7 @@ fn run<D: Dialer, O: Sink>(
     dialer: &mut D,
     output: &mut O,
 ) -> Result<Option<Failure>, ScFault>
-    ensures run { HasRun command.now (outside_of (D.next dialer.old) (D.past dialer.old)
+    ensures run { RunEnded command.now (outside_of (D.next dialer.old) (D.past dialer.old)
         (D.past dialer.new)
         (D.faults dialer.old) (D.faults dialer.new) (O.held output.old) (O.held output.new)
         (O.faults output.old) (O.faults output.new)) result }
@@ -47,7 +47,7 @@ fn run_to_status<D: Dialer, O: Sink, E: Sink>(
         (O.faults output.old) (O.faults output.new))
         (E.held errors.old) (E.held errors.new)
         (E.faults errors.old) (E.faults errors.new) result }
-    ensures complete { IsComplete command.now (outside_of (D.next dialer.old) (D.past dialer.old)
+    ensures complete { IsRunComplete command.now (outside_of (D.next dialer.old) (D.past dialer.old)
         (D.past dialer.new)
         (D.faults dialer.old) (D.faults dialer.new) (O.held output.old) (O.held output.new)
         (O.faults output.old) (O.faults output.new)) result }
@@ -70,8 +70,8 @@ pub fn sc_main<D: Dialer, O: Sink, E: Sink>(
     output: &mut O,
     errors: &mut E,
 ) -> u8
-    // Of arguments that are no command nothing is dialled or printed, and the first that doesn't
-    // fit is told.
+    // If the arguments are no command, nothing is dialled or printed, and the first that doesn't
+    // fit is reported.
     ensures words { IfErr (command_of words.now) (λ place. IsNoCommand words.now place
         (E.held errors.old) (E.held errors.new)
         (E.faults errors.old) (E.faults errors.new) result) }
@@ -80,7 +80,8 @@ pub fn sc_main<D: Dialer, O: Sink, E: Sink>(
     // Counts of faults never fall.
     ensures dialer { D.faults dialer.old ≤ D.faults dialer.new }
     ensures output { O.faults output.old ≤ O.faults output.new }
-    // What was dialled, read, written and printed, why the run ended, and what is told of that.
+    // What was dialled, read, written and printed, why the run ended, and what is reported of
+    // that.
     ensures run { IfOk (command_of words.now) (λ c. EndsWith words.now c (outside_of
         (D.next dialer.old) (D.past dialer.old) (D.past dialer.new)
         (D.faults dialer.old) (D.faults dialer.new) (O.held output.old) (O.held output.new)
@@ -88,7 +89,7 @@ pub fn sc_main<D: Dialer, O: Sink, E: Sink>(
         (E.held errors.old) (E.held errors.new)
         (E.faults errors.old) (E.faults errors.new) result) }
     // Nothing else ends a run without faults.
-    ensures complete { IfOk (command_of words.now) (λ c. IsComplete c (outside_of
+    ensures complete { IfOk (command_of words.now) (λ c. IsRunComplete c (outside_of
         (D.next dialer.old) (D.past dialer.old) (D.past dialer.new)
         (D.faults dialer.old) (D.faults dialer.new) (O.held output.old) (O.held output.new)
         (O.faults output.old) (O.faults output.new)) result) }

@@ -218,7 +218,7 @@ fn write_failure<E: Sink>(errors: &mut E, failed: Option<Failure>) -> Result<(),
     write_message(errors, itoa::Buffer::new().format(code), message(code))
 }
 
-/// Writes what is told of how a run ended.
+/// Writes the diagnostic of how a run ended.
 fn write_diagnostic<E: Sink>(
     errors: &mut E,
     words: &[Text],

@@ -1,5 +1,5 @@
 ghost use Rattle.std.specs.Prelude.{◌≡◌};
-ghost use Rattle.sc_top.specs.Runs.{status_of, status_of_fault};
+ghost use Rattle.sc_top.specs.Runs.{command_status, fault_status};
 
 use sc_client::ClientFault;
 use sc_words::Failure;
@@ -25,7 +25,7 @@ pub enum ScFault {
 
 /// The status of a run that didn't print its text.
 fn status_of_fault(fault: ScFault) -> u8
-    ensures { result ≡ status_of_fault fault }
+    ensures { result ≡ fault_status fault }
 {
     match fault {
         ScFault::Words(_) | ScFault::Encoding => 2,
@@ -38,7 +38,7 @@ fn status_of_fault(fault: ScFault) -> u8
 
 /// The status of a run, by why a call didn't succeed or why its text wasn't printed.
 pub fn status_of(how: Result<Option<Failure>, ScFault>) -> u8
-    ensures { result ≡ status_of how }
+    ensures { result ≡ command_status how }
 {
     match how {
         Ok(None) => 0,

@@ -1,7 +1,7 @@
 -- What a request is told answers it.
 use Rattle.std.proofs.Common.{ℕ, ◌≡◌, ◌≤◌, ◌==◌, if◌then◌else◌, true, false, cond, IsTrue, List, [], ◌∷◌, length, Option, None, Some, find}
 use Rattle.std.proofs.Common.{refl, arith, ltb-false}
-use Rattle.std.specs.Prelude.{All, IfSome, Bool, option_and_then}
+use Rattle.std.specs.Prelude.{All, IfSome, Bool, is_some, option_and_then}
 use Rattle.std.proofs.lemmas.Bool.{leb-true}
 use Rattle.std.proofs.lemmas.List.Elements.{All-head, All-tail}
 use Rattle.scm_text.specs.Fold.{same_text}
@@ -23,7 +23,9 @@ use Rattle.scm_model.specs.Notices.{registration_of}
 use Rattle.scm_model.specs.Refused.{refused, zero_process_status}
 use Rattle.scm_model.specs.Rows.{displayed, named}
 use Rattle.scm_calls.specs.Replies.{IsWhole, bytes_needed}
+use Rattle.scm_bodies.specs.Calls.{to_call as call_in_body}
 use Rattle.scm_bodies.specs.Replies.{Answers}
+use Rattle.scm_bodies.proofs.Codecs.{has_call}
 use Rattle.scm_rules.specs.Locks.{principal_name, owner_of}
 use Rattle.scm_rules.specs.OtherName.{display_in, name_in, name_or_empty}
 use Rattle.scm_rules.specs.QueryConfig.{query_config_refusals, query_config_verdict, shown_by, size_in}
@@ -56,14 +58,16 @@ listing_fits size rows le = bytes_of size (listing_size rows) (listing_bytes row
 
 -- ## Refusals
 
-pub of_refused : (asked : Request) (code : ℕ) → Answers asked (refused asked code)
-of_refused (request.EnumDependents handle states size) code = (refl, no_bytes size)
-of_refused (request.EnumServices handle kinds states size resume) code = (refl, no_bytes size)
-of_refused (request.QueryConfig2 handle level size) code = (refl, no_bytes size)
-of_refused (request.QueryStatusEx handle level size) code = (refl, no_bytes size)
-of_refused (request.DisplayName handle name size) code = (refl, omega arith)
-of_refused (request.KeyName handle name size) code = (refl, omega arith)
-of_refused asked code = (refl, tt)
+pub of_refused : (asked : Request) (code : ℕ) → IsTrue (is_some (call_in_body asked)) → Answers asked (refused asked code)
+of_refused (request.EnumDependents handle states size) code named = (refl, no_bytes size)
+of_refused (request.EnumServices handle kinds states size resume) code named = (refl, no_bytes size)
+of_refused (request.QueryConfig2 handle level size) code named = (refl, no_bytes size)
+of_refused (request.QueryStatusEx handle level size) code named = (refl, no_bytes size)
+of_refused (request.QuerySecurity handle parts size) code named = absurd cc
+of_refused (request.SetSecurity handle parts bytes) code named = absurd cc
+of_refused (request.DisplayName handle name size) code named = (refl, omega arith)
+of_refused (request.KeyName handle name size) code named = (refl, omega arith)
+of_refused asked code named = (refl, tt)
 
 -- a page has what fits
 page_told : (handle kinds states size : ℕ) (resume : Option ℕ) (rows : List Service) (code : ℕ) (more : Bool)
@@ -72,15 +76,18 @@ page_told : (handle kinds states size : ℕ) (resume : Option ℕ) (rows : List 
 page_told handle kinds states size resume rows code true = (refl, listing_fits size (page_in size rows) (page_fits size rows))
 page_told handle kinds states size resume rows code false = (refl, no_bytes size)
 
-of_told : (f : Flat) (caller : ℕ) (asked : Request) (code : ℕ) → Answers asked (told_refused f caller asked code)
-of_told f caller (request.DisplayName handle name size) code = (refl, omega arith)
-of_told f caller (request.KeyName handle name size) code = (refl, omega arith)
-of_told f caller (request.EnumDependents handle states size) code = (refl, no_bytes size)
-of_told f caller (request.EnumServices handle kinds states size resume) code =
+of_told : (f : Flat) (caller : ℕ) (asked : Request) (code : ℕ) → IsTrue (is_some (call_in_body asked))
+    → Answers asked (told_refused f caller asked code)
+of_told f caller (request.DisplayName handle name size) code named = (refl, omega arith)
+of_told f caller (request.KeyName handle name size) code named = (refl, omega arith)
+of_told f caller (request.EnumDependents handle states size) code named = (refl, no_bytes size)
+of_told f caller (request.EnumServices handle kinds states size resume) code named =
     page_told handle kinds states size resume (services_asked f kinds states resume) code (code == ERROR_MORE_DATA)
-of_told f caller (request.QueryConfig2 handle level size) code = (refl, no_bytes size)
-of_told f caller (request.QueryStatusEx handle level size) code = (refl, no_bytes size)
-of_told f caller asked code = (refl, tt)
+of_told f caller (request.QueryConfig2 handle level size) code named = (refl, no_bytes size)
+of_told f caller (request.QueryStatusEx handle level size) code named = (refl, no_bytes size)
+of_told f caller (request.QuerySecurity handle parts size) code named = absurd cc
+of_told f caller (request.SetSecurity handle parts bytes) code named = absurd cc
+of_told f caller asked code named = (refl, tt)
 
 -- ## What is told whole
 
@@ -188,6 +195,8 @@ of_done l f caller (request.EnumServices handle kinds states size resume) append
 of_done l f caller (request.QueryStatusEx handle level size) append short told range e =
     let status = process_status_by f caller handle in
     (refl, bytes_of size 36 (process_status_bytes status) (length_status status) (status_fits f caller handle level size e))
+of_done l f caller (request.QuerySecurity handle parts size) append short told range e = absurd cc
+of_done l f caller (request.SetSecurity handle parts bytes) append short told range e = absurd cc
 of_done l f caller (request.GetNotify handle) append short told range e =
     short_notice handle (option_and_then (registration_of f) (notify_of f caller handle)) (short_found f (notify_of f caller handle) told)
 of_done l f caller asked append short told range e = (refl, tt)
@@ -197,4 +206,5 @@ pub of_call : (l : Limits) (f : Flat) (caller : ℕ) (asked : Request) (append :
 of_call l f caller asked append short told range =
     by_verdict (λ r. Answers asked r.reply) (verdict l f caller asked append)
     (told_refused f caller asked (verdict l f caller asked append)) f (done_of l f caller asked)
-    (of_done l f caller asked append short told range) (λ e. of_told f caller asked (verdict l f caller asked append))
+    (of_done l f caller asked append short told range)
+    (λ e. of_told f caller asked (verdict l f caller asked append) (has_call asked range))

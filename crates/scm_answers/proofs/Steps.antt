@@ -3,6 +3,7 @@ use Rattle.std.proofs.Common.{ℕ, ◌≡◌, ◌==◌, Bool, true, false, cond,
 use Rattle.std.specs.Prelude.{All}
 use Rattle.scm_model.specs.declared.flat.Flat.{Flat}
 use Rattle.scm_model.specs.declared.flat.Limits.{Limits}
+use Rattle.scm_model.specs.declared.flat.Order.{Order}
 use Rattle.scm_model.specs.declared.flat.Service.{Service}
 use Rattle.scm_model.specs.declared.flat.Status.{Status}
 use Rattle.scm_model.specs.declared.calls.Reply.{Reply}
@@ -88,7 +89,7 @@ launch_untold : (g : Flat) (found : Option ℕ) → HasNoReply (finished g (laun
 launch_untold g None = tt
 launch_untold g (Some process) = tt
 
-control_untold : (g : Flat) (found : Option ℕ) → HasNoReply (finished g (control_sent found)).answer
+control_untold : (g : Flat) (found : Option Order) → HasNoReply (finished g (control_sent found)).answer
 control_untold g None = tt
 control_untold g (Some code) = tt
 
@@ -100,7 +101,8 @@ answers_step l f moment (EndStart caller plan) s ok = λ handle words. (refl, tt
 answers_step l f moment LaunchTaken s ok = launch_untold (settled l (launch_taken (with_moment f moment)).flat) (first_wanted f.wanted)
 answers_step l f moment (ControlTaken process) s ok = control_untold (settled l (control_taken (with_moment f moment) process).flat)
     (first_control (controls_of f process))
-answers_step l f moment (Report process status) s ok = report_untold (settled l (reported (with_moment f moment) process status).flat)
+answers_step l f moment (Report process service status) s ok = report_untold
+    (settled l (reported (with_moment f moment) process status).flat)
     (current_of f process) status
 answers_step l f moment (Ended process) s ok = end_untold (settled l (process_ended (with_moment f moment) process).flat)
     (current_of f process)

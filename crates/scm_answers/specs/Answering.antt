@@ -1,5 +1,5 @@
 -- Every reply answers its request.
-use Rattle.std.specs.Prelude.{ℕ, ◌≡◌, List, Option}
+use Rattle.std.specs.Prelude.{ℕ, ◌≡◌, IsTrue, List, Option, is_some}
 use Rattle.scm_model.specs.declared.flat.Flat.{Flat}
 use Rattle.scm_model.specs.declared.calls.Reply.{Reply}
 use Rattle.scm_model.specs.declared.calls.Reply.TheVariants as reply
@@ -11,9 +11,10 @@ use Rattle.scm_model.specs.declared.steps.Step.{Step}
 use Rattle.scm_model.specs.declared.steps.Step.TheVariants.{Call, EndStart, Raised}
 use Rattle.scm_model.specs.Entries.{Entry}
 use Rattle.scm_model.specs.Refused.{refused}
+use Rattle.scm_bodies.specs.Calls.{to_call}
 use Rattle.scm_bodies.specs.Replies.{Answers}
 
--- where a reply is told, it answers the request
+-- a reply, if there is one, answers the request
 abbrev pub RepliesTo : Request → Answer → Type 0
 RepliesTo asked (answer.Reply told) = Answers asked told
 RepliesTo asked told = Unit {0}
@@ -29,7 +30,7 @@ abbrev pub TellsCode : Answer → Type 0
 TellsCode (answer.Reply told) = IsCode told
 TellsCode told = Unit {0}
 
--- a call is told a reply to its request, the end of a start one to a start, and a raise a code; no
+-- the reply to a call answers its request, the reply at the end of a start answers a start, and the reply to a raise is a code; no
 -- other step has a reply
 abbrev pub RepliesRightly : Step → Answer → Type 0
 RepliesRightly (Call caller asked append) told = RepliesTo asked told
@@ -41,6 +42,6 @@ RepliesRightly step told = HasNoReply told
 abbrev pub LawOfAnswering : Flat → Entry → Answer → Flat → Type 0
 LawOfAnswering before e told after = RepliesRightly e.1 told
 
--- so does what a call is told that is refused with no more than its code
+-- if a call that is served is refused with no more than a code, this reply too answers the request
 abbrev pub RefusalsAnswer : Type 0
-RefusalsAnswer = (asked : Request) (code : ℕ) → Answers asked (refused asked code)
+RefusalsAnswer = (asked : Request) (code : ℕ) → IsTrue (is_some (to_call asked)) → Answers asked (refused asked code)

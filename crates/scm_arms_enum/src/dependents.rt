@@ -67,7 +67,7 @@ fn listed_dependents(
     listed_in(tables, order.as_slice(), states, alloc)
 }
 
-/// What is told of no services.
+/// The answer without services.
 fn refused(size: u32, code: u32, alloc: Global) -> Reply
     ensures { result ≡ reply.Listing size [] 0 0 code }
 {

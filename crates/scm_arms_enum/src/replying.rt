@@ -50,7 +50,7 @@ fn last_number(none: u32, rows: &[&Service]) -> u32
     last
 }
 
-/// The number behind which the next page begins, where one was read.
+/// The number after which the next page begins, if one was read.
 fn resumed(resume: Option<u32>, page: &[&Service]) -> Option<u32>
     ensures { result ≡ option_map (λ read. last_number read (map (λ s. s.now) page.now)) resume }
 {

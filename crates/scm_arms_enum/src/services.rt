@@ -14,7 +14,7 @@ use scm_tables::{Tables, mask_lacks};
 use scm_text::{Items, OutOfMemory};
 use std::alloc::Global;
 
-/// Whether a service is behind a number, of one of the types and in the states.
+/// Whether a service comes after a number, has one of the types and is in the states.
 fn is_asked(kinds: u32, states: u32, behind: u32, service: &Service) -> bool
     ensures { result ≡ is_asked kinds states behind service.now }
 {
@@ -23,7 +23,7 @@ fn is_asked(kinds: u32, states: u32, behind: u32, service: &Service) -> bool
         && is_in_states(states, service)
 }
 
-/// The services behind a number that are asked for.
+/// The services after a number that are asked for.
 fn services_behind<'a>(
     services: Services<'a>,
     kinds: u32,
@@ -43,7 +43,7 @@ fn services_behind<'a>(
     Ok(rows)
 }
 
-/// What is told of no services.
+/// The answer without services.
 fn refused(size: u32, resume: Option<u32>, code: u32, alloc: Global) -> Reply
     ensures { result ≡ reply.Page size [] 0 0 resume code }
 {

@@ -26,7 +26,7 @@ fn process_status_in(tables: &Tables, service: Option<&Service>) -> ProcessStatu
     }
 }
 
-/// What is told without bytes.
+/// The answer without bytes.
 pub fn refused(size: u32, needed: u32, code: u32, alloc: Global) -> Reply
     ensures { result ≡ reply.Bytes size [] needed code }
 {
@@ -47,7 +47,8 @@ pub fn query_status_ex(
     size: u32,
     alloc: Global,
 ) -> Result<Reply, OutOfMemory>
-    ensures { IfOk result (λ reply. reply ≡ query_ex_reply tables.now.flat caller handle level size) }
+    ensures { IfOk result (λ reply. reply
+        ≡ query_ex_reply tables.now.flat caller handle level size) }
 {
     let Some(opened) = tables.opened(caller, handle) else {
         return Ok(refused(size, 0, ERROR_INVALID_HANDLE, alloc));

@@ -1,8 +1,9 @@
-ghost use Rattle.std.specs.Prelude.{◌≡◌, ◌<◌, ◌^◌, ◌==◌, Some, codes, length, option_and_then, IfOk};
+ghost use Rattle.std.specs.Prelude.{◌≡◌, ◌<◌, ◌^◌, ◌==◌, Some, codes, length, option_and_then};
+ghost use Rattle.std.specs.Prelude.{IfOk};
 ghost use Rattle.std.specs.Prelude.{if◌then◌else◌};
 ghost use Rattle.scm_model.specs.Rows.{caller_of, owner_at, principal_in};
 ghost use Rattle.scm_rules.specs.Locks.{is_held, lock_owner, lock_size, principal_name};
-ghost use Rattle.scm_rules.specs.Locks.{query_lock_reply, query_lock_verdict, seconds_at};
+ghost use Rattle.scm_rules.specs.Locks.{query_lock_reply, query_lock_verdict, seconds_held};
 
 use scm_model::codes::{ERROR_ACCESS_DENIED, ERROR_INSUFFICIENT_BUFFER, ERROR_INVALID_HANDLE};
 use scm_model::{LockRow, Principal, Reply};
@@ -58,8 +59,8 @@ pub fn lock_owner(tables: &Tables, alloc: Global) -> Result<WText, OutOfMemory>
     }
 }
 
-/// How many bytes the owner takes with the numbers before it. No owner is longer than this is told
-/// of.
+/// How many bytes the owner takes with the numbers before it. No owner is longer than the
+/// precondition says.
 fn lock_size(owner: &WText) -> u32
     requires { length owner.now < 2 ^ 16 }
     ensures { result ≡ lock_size owner.now }
@@ -78,7 +79,7 @@ fn is_held(lock: Option<LockRow>) -> u32
 
 /// For how many whole seconds the lock is held, as far as numbers go.
 fn seconds_at(moment: u64, lock: Option<LockRow>) -> u32
-    ensures { result ≡ seconds_at moment lock }
+    ensures { result ≡ seconds_held moment lock }
 {
     match lock {
         Some(held) => (moment.saturating_sub(held.since) / 1000).min(0xFFFF_FFFF) as u32,

@@ -33,7 +33,8 @@ pub fn open_service_verdict(
     name: &WText,
     access: u32,
 ) -> u32
-    ensures { result ≡ open_service_verdict limits.now tables.now.flat caller handle name.now access }
+    ensures { result ≡ open_service_verdict limits.now tables.now.flat caller handle name.now
+        access }
 {
     if tables.manager_mask(caller, handle).is_none() {
         return ERROR_INVALID_HANDLE;

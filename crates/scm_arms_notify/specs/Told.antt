@@ -1,4 +1,4 @@
--- What a caller is told of the event that its registration was told of.
+-- The answer to a caller about the event that its registration was notified of.
 use Rattle.std.specs.Prelude.{ℕ, Option, None, Some}
 use Rattle.scm_model.specs.declared.calls.Reply.{Reply}
 use Rattle.scm_model.specs.declared.calls.Reply.TheVariants as reply

@@ -20,7 +20,7 @@ fn notify_of(tables: &Tables, caller: u64, handle: u64) -> Option<u64>
     }
 }
 
-/// How it is told that an event came, or that none did.
+/// The answer that an event came, or that none did.
 fn told(notice: Option<Notice>, code: u32) -> Reply
     ensures { result ≡ notice_told notice code }
 {

@@ -9,7 +9,7 @@ use Rattle.scm_model.specs.declared.flat.Flat.{Flat}
 use Rattle.scm_model.specs.declared.flat.Limits.{Limits}
 use Rattle.scm_model.specs.declared.flat.Service.{Service}
 use Rattle.scm_model.specs.Found.{if_found}
-use Rattle.scm_rules.specs.Controls.{with_control}
+use Rattle.scm_rules.specs.Controls.{order_to, with_control}
 use Rattle.scm_rules.specs.Raise.{all_triggered, gets_stop, triggered, with_stop}
 use Rattle.scm_rules.specs.Room.{is_started_at, starts}
 use Rattle.scm_rules.specs.Ticks.{with_restart}
@@ -17,18 +17,23 @@ use Rattle.start_triggers.specs.Triggers.{matching}
 use Rattle.scm_tables.specs.Firing.{HasPlanNumbers, HasStarts, one_if}
 use Rattle.scm_tables.specs.Tabled.{Spare, Tabled}
 use Rattle.scm_tables.proofs.Fired.{restarts}
+use Rattle.scm_arms_process.specs.declared.raising.Addressed.{Addressed}
 use Rattle.scm_arms_process.specs.Raised.{acted, action_in, started_among, started_at, starts_by, stopped_by, triggered_if}
 
 -- ## A service
 
 -- a STOP waits where one is got
 pub stopped_as : (l : Limits) (found : Option Service) (f : Flat)
-    → if_found (λ process g. with_control l g process SERVICE_CONTROL_STOP) (option_and_then (stopped_by l f) found) f ≡ if_found
+    → if_found (λ (stop : Addressed) g. with_control l g stop.process stop.order) (option_and_then (stopped_by l f) found) f ≡ if_found
     (with_stop l) found f
 stopped_as l None f = refl
 stopped_as l (Some row) f =
-    elim (gets_stop l f row) as (λ b. if_found (λ process g. with_control l g process SERVICE_CONTROL_STOP)
-    (cond b (Some row.process) None) f ≡ cond b (with_control l f row.process SERVICE_CONTROL_STOP) f) [ true ↦ refl | false ↦ refl ]
+    let order = order_to row.number SERVICE_CONTROL_STOP in
+    elim (gets_stop l f row) as (λ b. if_found (λ (stop : Addressed) g. with_control l g stop.process stop.order)
+    (cond b (Some (record { process = row.process; order = order })) None) f ≡ cond b (with_control l f row.process order) f) [
+      | true ↦ refl
+      | false ↦ refl
+    ]
 
 pub acts_start : (l : Limits) (action : ℕ) (found : Option Service) (f : Flat) → action ≡ SERVICE_TRIGGER_ACTION_SERVICE_START
     → if_found with_restart found f ≡ if_found (acted l action) found f
@@ -99,10 +104,11 @@ of_acted : (l : Limits) (action : ℕ) (row : Service) (f : Flat) → Leaves (st
 of_acted l action row f =
     elim (action == SERVICE_TRIGGER_ACTION_SERVICE_START) as (λ b. Leaves (one_if b) f (cond b (with_restart row f) (with_stop l row f))) [
       | true ↦ (let r = restarts row f in record { services = r.services; plans = r.plans; due = r.due })
-      | false ↦ elim (gets_stop l f row) as (λ b. Leaves 0 f (cond b (with_control l f row.process SERVICE_CONTROL_STOP) f)) [
-        | true ↦ record { services = refl; plans = omega arith; due = omega arith }
-        | false ↦ record { services = refl; plans = omega arith; due = omega arith }
-      ]
+      | false ↦ elim (gets_stop l f row) as (λ b. Leaves 0 f (cond b (with_control l f row.process
+          (order_to row.number SERVICE_CONTROL_STOP)) f)) [
+            | true ↦ record { services = refl; plans = omega arith; due = omega arith }
+            | false ↦ record { services = refl; plans = omega arith; due = omega arith }
+          ]
     ]
 
 of_triggered : (l : Limits) (subtype : List ℕ) (found : Option Service) (f : Flat)
@@ -219,7 +225,8 @@ acts_left action t u is left count has =
 
 stop_services : (l : Limits) (found : Option Service) (f : Flat) → (if_found (with_stop l) found f).services ≡ f.services
 stop_services l None f = refl
-stop_services l (Some row) f = elim (gets_stop l f row) as (λ b. (cond b (with_control l f row.process SERVICE_CONTROL_STOP) f).services ≡
+stop_services l (Some row) f = elim (gets_stop l f row) as (λ b. (cond b
+    (with_control l f row.process (order_to row.number SERVICE_CONTROL_STOP)) f).services ≡
     f.services) [ true ↦ refl | false ↦ refl ]
 
 -- a STOP takes none

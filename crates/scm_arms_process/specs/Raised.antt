@@ -3,12 +3,14 @@ use Rattle.std.specs.Prelude.{ℕ, ◌==◌, List, Option, None, Some, filter, l
 use Rattle.scm_model.specs.declared.flat.Flat.{Flat}
 use Rattle.scm_model.specs.declared.flat.Limits.{Limits}
 use Rattle.scm_model.specs.declared.flat.Service.{Service}
-use Rattle.scm_model.specs.declared.codes.TheConstants.{SERVICE_TRIGGER_ACTION_SERVICE_START}
+use Rattle.scm_model.specs.declared.codes.TheConstants.{SERVICE_CONTROL_STOP, SERVICE_TRIGGER_ACTION_SERVICE_START}
 use Rattle.scm_model.specs.Found.{if_found}
+use Rattle.scm_rules.specs.Controls.{order_to}
 use Rattle.scm_rules.specs.Raise.{gets_stop, raise_verdict, triggered}
 use Rattle.scm_rules.specs.Room.{is_started_at}
 use Rattle.scm_tables.specs.Firing.{one_if}
 use Rattle.start_triggers.specs.Triggers.{matching}
+use Rattle.scm_arms_process.specs.declared.raising.Addressed.{Addressed}
 
 -- how many of some services it starts
 abbrev pub started_among : List ℕ → List Service → ℕ
@@ -18,9 +20,10 @@ started_among subtype rows = length (filter (is_started_at subtype) rows)
 abbrev pub raise_starts : Flat → ℕ → List ℕ → ℕ
 raise_starts f caller subtype = if raise_verdict f caller == 0 then started_among subtype f.services else 0
 
--- the process of a service that gets a STOP
-abbrev pub stopped_by : Limits → Flat → Service → Option ℕ
-stopped_by l f row = if gets_stop l f row then Some row.process else None
+-- the STOP of a service that gets one
+abbrev pub stopped_by : Limits → Flat → Service → Option Addressed
+stopped_by l f row =
+    if gets_stop l f row then Some (record { process = row.process; order = order_to row.number SERVICE_CONTROL_STOP }) else None
 
 -- the action of a service's trigger, if it has one
 abbrev pub action_in : List ℕ → Option Service → Option ℕ

@@ -8,7 +8,7 @@ use control_dispatch::judge;
 use scm_model::codes::{
     ERROR_INVALID_SERVICE_CONTROL, ERROR_SERVICE_CANNOT_ACCEPT_CTRL, ERROR_SERVICE_NOT_ACTIVE,
 };
-use scm_model::{Answer, Opened, Reply, Service, Status, zero_status};
+use scm_model::{Answer, Opened, Order, Reply, Service, Status, zero_status};
 use scm_tables::{Tables, status_in};
 
 /// The rights of a handle, where it is one of a service.
@@ -21,7 +21,7 @@ fn granted_in(handle: Option<Opened>) -> Option<u32>
     }
 }
 
-/// How many controls wait for a service's process.
+/// How many orders wait for a service's process.
 pub fn waiting_for(tables: &Tables, service: Option<&Service>) -> u32
     ensures { result ≡ waiting_for tables.now.flat (option_copied service.entry) }
 {
@@ -50,7 +50,7 @@ pub fn control_verdict(tables: &Tables, caller: u64, handle: u64, control: u32) 
     )
 }
 
-/// Whether the service's status is told with a code that refuses a control.
+/// Whether the service's status is returned with a code that refuses a control.
 fn tells_status(code: u32) -> bool
     ensures { result ≡ tells_status code }
 {
@@ -59,7 +59,7 @@ fn tells_status(code: u32) -> bool
         || code == ERROR_SERVICE_NOT_ACTIVE
 }
 
-/// The status of a service that is told with a code that refuses a control.
+/// The status of a service that is returned with a code that refuses a control.
 fn status_told(code: u32, service: Option<&Service>) -> Status
     ensures { result ≡ status_told code (option_copied service.entry) }
 {
@@ -70,7 +70,7 @@ fn status_told(code: u32, service: Option<&Service>) -> Status
     }
 }
 
-/// A control more waits for a service's process; its status is told. It takes no memory.
+/// Queues a control for a service's process, and returns its status. It takes no memory.
 pub fn control(tables: &mut Tables, caller: u64, handle: u64, control: u32) -> Reply
     requires { tables.old.limits.controls ≤ 16 }
     ensures reply { result ≡ (answered (control_verdict tables.old.limits tables.old.flat caller
@@ -94,21 +94,25 @@ pub fn control(tables: &mut Tables, caller: u64, handle: u64, control: u32) -> R
     let status = status_in(service);
     if let Some(row) = service {
         let process = row.process;
-        tables.control(process, control);
+        let order = Order {
+            service: row.number,
+            code: control,
+        };
+        tables.control(process, order);
     }
     Reply::State { status, code: 0 }
 }
 
-/// The control that waits first for a process is taken in hand. It takes no memory.
+/// The first order that waits for a process is taken. It takes no memory.
 pub fn take_control(tables: &mut Tables, process: u64) -> Answer
     ensures answer { result ≡ (control_taken tables.old.flat process).answer }
     ensures flat { tables.new.flat ≡ (control_taken tables.old.flat process).flat }
     ensures limits { tables.new.limits ≡ tables.old.limits }
 {
-    let code = tables.first_control(process);
+    let order = tables.first_control(process);
     tables.take_control(process);
-    match code {
-        Some(code) => Answer::Control(code),
+    match order {
+        Some(order) => Answer::Control(order),
         None => Answer::Done,
     }
 }

@@ -13,7 +13,7 @@ use control_dispatch::judge;
 use scm_model::codes::{
     ERROR_ACCESS_DENIED, SERVICE_CONTROL_STOP, SERVICE_STOP, SERVICE_TRIGGER_ACTION_SERVICE_START,
 };
-use scm_model::{Answer, Principal, Reply, Service};
+use scm_model::{Answer, Order, Principal, Reply, Service};
 use scm_tables::Tables;
 use start_triggers::matching;
 
@@ -58,7 +58,7 @@ pub fn raise_starts(tables: &Tables, caller: u64, subtype: &[u8; 16]) -> usize
     }
 }
 
-/// Whether a service gets a STOP from whoever may stop it.
+/// Whether a service gets a STOP from a sender that may stop it.
 fn gets_stop(tables: &Tables, row: &Service) -> bool
     ensures { result ≡ gets_stop tables.now.limits tables.now.flat row.now }
 {
@@ -72,15 +72,29 @@ fn gets_stop(tables: &Tables, row: &Service) -> bool
     ) == 0
 }
 
-/// The process of a service that is there and gets a STOP.
-fn stopped_by(tables: &Tables, service: Option<&Service>) -> Option<u64>
+/// An order, and the process that is to get it.
+#[derive(Clone, Copy)]
+struct Addressed {
+    process: u64,
+    order: Order,
+}
+
+/// The STOP of a service that is there and gets one.
+fn stopped_by(tables: &Tables, service: Option<&Service>) -> Option<Addressed>
     ensures { result ≡ option_and_then (stopped_by tables.now.limits tables.now.flat)
         (option_copied service.entry) }
 {
     match service {
         Some(row) => {
             if gets_stop(tables, row) {
-                Some(row.process)
+                let order = Order {
+                    service: row.number,
+                    code: SERVICE_CONTROL_STOP,
+                };
+                Some(Addressed {
+                    process: row.process,
+                    order,
+                })
             } else {
                 None
             }
@@ -99,7 +113,7 @@ fn stop_at(tables: &mut Tables, place: usize)
     ensures spare { tables.new.spare ≡ tables.old.spare }
 {
     match stopped_by(tables, tables.row_at(place)) {
-        Some(process) => tables.control(process, SERVICE_CONTROL_STOP),
+        Some(stop) => tables.control(stop.process, stop.order),
         None => {}
     }
 }

@@ -5,8 +5,8 @@ use Rattle.scm_model.specs.declared.flat.Config.{Config}
 use Rattle.scm_rules.specs.Change.{config_with}
 use Rattle.scm_arms_service.specs.declared.replacing.Parts.{Parts}
 
-abbrev pub parts_of : ℕ → Config → ChangeService → Parts
-parts_of tag old change =
+abbrev pub config_parts : ℕ → Config → ChangeService → Parts
+config_parts tag old change =
     let new = config_with tag old change in
     record {
       display = new.display;

@@ -2,7 +2,7 @@ ghost use Rattle.std.specs.Prelude.{◌≡◌, IfOk, option_copied, option_map};
 ghost use Rattle.scm_model.specs.Refused.{outcome};
 ghost use Rattle.scm_model.specs.declared.calls.Request.TheVariants as request;
 ghost use Rattle.scm_rules.specs.Delete.{delete_change, delete_done, delete_verdict, is_failed};
-ghost use Rattle.scm_rules.specs.Delete.{is_marked, delete_outcome, removed};
+ghost use Rattle.scm_rules.specs.Delete.{is_marked, delete_outcome, removal_of};
 ghost use Rattle.scm_model.specs.declared.steps.Kept.TheVariants as appended;
 ghost use Rattle.scm_rules.specs.Verdicts.{unless_refused};
 ghost use Rattle.scm_arms_service.specs.Judged.{code_once_kept};
@@ -67,7 +67,7 @@ pub fn delete_verdict(tables: &Tables, caller: u64, handle: u64, kept: Kept) -> 
 
 /// The change of the configurations that the removal of a service is.
 fn removal(service: Option<&Service>, alloc: Global) -> Result<Option<Change>, OutOfMemory>
-    ensures { IfOk result (λ change. change ≡ option_map removed (option_copied service.entry)) }
+    ensures { IfOk result (λ change. change ≡ option_map removal_of (option_copied service.entry)) }
 {
     match service {
         Some(row) => Ok(Some(Change::Removed(row.config.name.copy(alloc)?))),
@@ -92,7 +92,7 @@ pub fn removed(
     removal(tables.held_service(caller, handle), alloc)
 }
 
-/// Marks a service, of which its registrations are told. It leaves once it is STOPPED and no handle
+/// Marks a service, and notifies its registrations. It leaves once it is STOPPED and no handle
 /// names it.
 pub fn delete(tables: &mut Tables, caller: u64, handle: u64, kept: Kept) -> Reply
     ensures reply { result ≡ (delete_outcome tables.old.flat caller handle kept).reply }

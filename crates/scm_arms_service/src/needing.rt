@@ -47,7 +47,7 @@ fn text_of(units: &[u16], alloc: Global) -> Result<WText, OutOfMemory>
     }
 }
 
-/// The need that a name tells: a name behind `+` is a group's.
+/// The need that a name means: a name after `+` is a group's.
 fn need_of(name: &WText, alloc: Global) -> Result<Need, OutOfMemory>
     ensures { IfOk result (λ need. need ≡ need_named name.now) }
 {

@@ -1,5 +1,5 @@
 ghost use Rattle.std.specs.Prelude.{◌≡◌, unwrap_or, IfOk};
-ghost use Rattle.scm_arms_service.specs.Replaced.{parts_of, with_parts};
+ghost use Rattle.scm_arms_service.specs.Replaced.{config_parts, with_parts};
 ghost use Rattle.scm_rules.specs.Change.{config_with, display_or, is_kept_alike, number_or, tag_or};
 
 use super::making::shown;
@@ -76,7 +76,7 @@ fn parts_of(
     tag: u32,
     alloc: Global,
 ) -> Result<Parts, OutOfMemory>
-    ensures { IfOk result (λ parts. parts ≡ parts_of tag old.now change.now) }
+    ensures { IfOk result (λ parts. parts ≡ config_parts tag old.now change.now) }
 {
     let start = number_or(old.start, change.start);
     Ok(Parts {

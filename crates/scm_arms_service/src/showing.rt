@@ -5,7 +5,8 @@ ghost use Rattle.scm_model.specs.declared.calls.Reply.TheVariants as reply;
 ghost use Rattle.scm_model.specs.Refused.{answered};
 ghost use Rattle.scm_rules.specs.QueryConfig.{query_config_reply, query_config_verdict, shown_by};
 ghost use Rattle.scm_rules.specs.QueryConfig.{shown_in, shown_need, shown_needs, shown_of};
-ghost use Rattle.scm_rules.specs.QueryConfig.{shown_size, size_in, text_size};
+ghost use Rattle.scm_rules.specs.QueryConfig.{shown_size, size_in};
+ghost use Rattle.service_listing.specs.Layout.{text_size};
 
 use scm_model::codes::{
     ERROR_ACCESS_DENIED, ERROR_INSUFFICIENT_BUFFER, ERROR_INVALID_HANDLE, SERVICE_QUERY_CONFIG,

@@ -5,7 +5,7 @@ ghost use Rattle.scm_rules.specs.Launches.{launch_failed, launch_taken, launched
 use scm_model::Answer;
 use scm_tables::Tables;
 
-/// The launch that is wanted first is taken in hand.
+/// The first launch that is wanted is taken.
 pub fn take_launch(tables: &mut Tables) -> Answer
     ensures answer { result ≡ (launch_taken tables.old.flat).answer }
     ensures flat { tables.new.flat ≡ (launch_taken tables.old.flat).flat }

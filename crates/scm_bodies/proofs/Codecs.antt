@@ -29,13 +29,13 @@ use Rattle.scm_calls_enum.specs.declared.calls.Call.TheVariants as enum
 use Rattle.scm_calls_enum.specs.Requests.{enum_shape, enum_from}
 use Rattle.scm_bodies.specs.declared.call.Call.{Call}
 use Rattle.scm_bodies.specs.declared.call.Call.TheVariants as call
-use Rattle.scm_bodies.specs.Calls.{call_of}
+use Rattle.scm_bodies.specs.Calls.{to_call}
 use Rattle.scm_bodies.specs.Replies.{read_back}
-use Rattle.scm_bodies.specs.Requests.{shape_of, asked_by, values_of, AreCarried}
+use Rattle.scm_bodies.specs.Requests.{shape_of, request_from, values_of, AreCarried}
 
 -- ## Requests
 
-request_again : (r : Request) → made_in asked_by (call_of r) (values_of r) r ≡ r
+request_again : (r : Request) → made_in request_from (to_call r) (values_of r) r ≡ r
 request_again (request.Close handle) = refl
 request_again _ = refl
 
@@ -55,41 +55,43 @@ enum_kept : (c : EnumCall) (vs : List Value) → values_of (enum_from c vs) ≡ 
 enum_kept enum.EnumDependents vs = refl
 enum_kept _ vs = refl
 
-request_kept : (c : Call) (vs : List Value) → values_of (asked_by c vs) ≡ fitted (shape_of c) vs
+request_kept : (c : Call) (vs : List Value) → values_of (request_from c vs) ≡ fitted (shape_of c) vs
 request_kept (call.Plain c) vs = plain_kept c vs
 request_kept (call.Config c) vs = config_kept c vs
 request_kept (call.Enum c) vs = enum_kept c vs
 
-plain_named : (c : PlainCall) (vs : List Value) → call_of (plain_from c vs) ≡ Some (call.Plain c)
+plain_named : (c : PlainCall) (vs : List Value) → to_call (plain_from c vs) ≡ Some (call.Plain c)
 plain_named plain.Close vs = refl
 plain_named _ vs = refl
 
-config_named : (c : ConfigCall) (vs : List Value) → call_of (config_from c vs) ≡ Some (call.Config c)
+config_named : (c : ConfigCall) (vs : List Value) → to_call (config_from c vs) ≡ Some (call.Config c)
 config_named config.Change vs = refl
 config_named _ vs = refl
 
-enum_named : (c : EnumCall) (vs : List Value) → call_of (enum_from c vs) ≡ Some (call.Enum c)
+enum_named : (c : EnumCall) (vs : List Value) → to_call (enum_from c vs) ≡ Some (call.Enum c)
 enum_named enum.EnumDependents vs = refl
 enum_named _ vs = refl
 
-request_named : (c : Call) (vs : List Value) → call_of (asked_by c vs) ≡ Some c
+request_named : (c : Call) (vs : List Value) → to_call (request_from c vs) ≡ Some c
 request_named (call.Plain c) vs = plain_named c vs
 request_named (call.Config c) vs = config_named c vs
 request_named (call.Enum c) vs = enum_named c vs
 
-pub request_codec : Codec shape_of asked_by call_of values_of
+pub request_codec : Codec shape_of request_from to_call values_of
 request_codec = record { again = request_again; kept = request_kept; named = request_named }
 
-is_of_a_call : (r : Request) → IsTrue (is_some (call_of r))
-is_of_a_call (request.Close handle) = refl
-is_of_a_call _ = refl
+-- a request that is in its ranges has a call
+pub has_call : (r : Request) → IsTrue (in_range r) → IsTrue (is_some (to_call r))
+has_call (request.QuerySecurity handle parts size) range = absurd cc
+has_call (request.SetSecurity handle parts bytes) range = absurd cc
+has_call _ range = refl
 
 content : {A : Type 0} (o : Option A) → IsTrue (is_some o) → (x : A) × (o ≡ Some x)
 content None h = absurd cc
 content (Some x) h = (x, refl)
 
-pub of_a_call : (r : Request) → (c : Call) × (call_of r ≡ Some c)
-of_a_call r = content (call_of r) (is_of_a_call r)
+pub of_a_call : (r : Request) → IsTrue (in_range r) → (c : Call) × (to_call r ≡ Some c)
+of_a_call r range = content (to_call r) (has_call r range)
 
 -- ## A handle and numbers
 
@@ -117,7 +119,7 @@ enum_by_handle _ vs h = refl
 
 -- a body of a handle and at most two numbers asks what these ask
 pub asked_by_handle : (c : Call) (vs : List Value) → IsTrue (is_handle_body (shape_of c))
-    → asked_by c (handle_body_values (handle_body_of vs)) ≡ asked_by c vs
+    → request_from c (handle_body_values (handle_body_of vs)) ≡ request_from c vs
 asked_by_handle (call.Plain c) vs h = plain_by_handle c vs h
 asked_by_handle (call.Config c) vs h = config_by_handle c vs h
 asked_by_handle (call.Enum c) vs h = enum_by_handle c vs h
@@ -150,17 +152,20 @@ few : (words : Option (List (List ℕ))) → IfSome words AreSent → IsTrue (ar
 few None h = refl
 few (Some words) h = le-leb (length words) SC_MAX_ARGUMENTS h.few
 
--- what a body can hold is in its ranges
-pub held_ranged : (r : Request) → CanHoldAll (shape_in shape_of (call_of r)) (values_of r) → IsTrue (in_range r)
-held_ranged (request.QueryLock handle size) h = le-leb size MAX_LOCK_STATUS_SIZE h.1.0.in_range
-held_ranged (request.QueryConfig handle size) h = le-leb size MAX_CONFIG_SIZE h.1.0.in_range
-held_ranged (request.EnumDependents handle states size) h = le-leb size MAX_ENUM_SIZE h.1.1.0.in_range
-held_ranged (request.EnumServices handle kinds states size resume) h = le-leb size MAX_ENUM_SIZE h.1.1.1.0.in_range
-held_ranged (request.QueryStatusEx handle level size) h = le-leb size MAX_CONFIG_SIZE h.1.1.0.in_range
-held_ranged (request.Change2 handle asked) h = h.1.0.in_range
-held_ranged (request.QueryConfig2 handle level size) h = le-leb size MAX_CONFIG_SIZE h.1.1.0.in_range
-held_ranged (request.Start handle words) h = few words h.1.0
-held_ranged _ h = refl
+-- what a body of a call can hold is in its ranges
+pub held_ranged : (r : Request) → IsTrue (is_some (to_call r)) → CanHoldAll (shape_in shape_of (to_call r)) (values_of r)
+    → IsTrue (in_range r)
+held_ranged (request.QueryLock handle size) named h = le-leb size MAX_LOCK_STATUS_SIZE h.1.0.in_range
+held_ranged (request.QueryConfig handle size) named h = le-leb size MAX_CONFIG_SIZE h.1.0.in_range
+held_ranged (request.EnumDependents handle states size) named h = le-leb size MAX_ENUM_SIZE h.1.1.0.in_range
+held_ranged (request.EnumServices handle kinds states size resume) named h = le-leb size MAX_ENUM_SIZE h.1.1.1.0.in_range
+held_ranged (request.QueryStatusEx handle level size) named h = le-leb size MAX_CONFIG_SIZE h.1.1.0.in_range
+held_ranged (request.Change2 handle asked) named h = h.1.0.in_range
+held_ranged (request.QueryConfig2 handle level size) named h = le-leb size MAX_CONFIG_SIZE h.1.1.0.in_range
+held_ranged (request.Start handle words) named h = few words h.1.0
+held_ranged (request.QuerySecurity handle parts size) named h = absurd cc
+held_ranged (request.SetSecurity handle parts bytes) named h = absurd cc
+held_ranged _ named h = refl
 
 words_held : (words : Option (List (List ℕ))) → IsTrue (are_few words) → IfSome words (λ words. AllByRecursion IsSent words)
     → IfSome words AreSent
@@ -168,7 +173,7 @@ words_held None range h = tt
 words_held (Some words) range h = record { few = leb-true (length words) SC_MAX_ARGUMENTS range; sent = h }
 
 -- and what is in them can be held, where its parts can stand in a body
-pub ranged_held : (r : Request) → IsTrue (in_range r) → AreCarried r → CanHoldAll (shape_in shape_of (call_of r)) (values_of r)
+pub ranged_held : (r : Request) → IsTrue (in_range r) → AreCarried r → CanHoldAll (shape_in shape_of (to_call r)) (values_of r)
 ranged_held (request.QueryLock handle size) range h = (
   h.0,
   (

@@ -21,9 +21,9 @@ one_of None None None = None
 abbrev pub call_at : ℕ → Option Call
 call_at opnum = one_of (plain_call_at opnum) (config_call_at opnum) (enum_call_at opnum)
 
--- every request has one
-abbrev pub call_of : Request → Option Call
-call_of r = one_of (plain_call_of r) (config_call_of r) (enum_call_of r)
+-- every request that is in its ranges has one
+abbrev pub to_call : Request → Option Call
+to_call r = one_of (plain_call_of r) (config_call_of r) (enum_call_of r)
 
 abbrev pub reply_kind : Call → ReplyKind
 reply_kind (call.Plain asked) = plain_reply_kind asked

@@ -10,7 +10,7 @@ use Rattle.scm_shapes.specs.Calls.{read_as, Spells}
 use Rattle.scm_calls.specs.declared.kinds.ReplyKind.{ReplyKind}
 use Rattle.scm_calls.specs.Replies.{kind_of, reply_shape, reply_from, reply_values, asked_size, Fits, longest}
 use Rattle.scm_bodies.specs.declared.call.Call.{Call}
-use Rattle.scm_bodies.specs.Calls.{call_of, reply_kind}
+use Rattle.scm_bodies.specs.Calls.{to_call, reply_kind}
 
 -- what a body of a kind tells, or the first fault
 abbrev pub reply_told : ReplyKind → List ℕ → Result Reply BodyFault
@@ -21,12 +21,12 @@ abbrev pub reply_at : Call → List ℕ → Result Reply BodyFault
 reply_at asked body = reply_told (reply_kind asked) body
 
 -- bytes are a body of a call's reply that tells this
-abbrev pub IsReply : Call → List ℕ → Reply → Type 0
-IsReply asked bytes told = Spells reply_shape (λ r. Some (kind_of r)) reply_values (reply_kind asked) bytes told
+abbrev pub IsBodyOf : Call → List ℕ → Reply → Type 0
+IsBodyOf asked bytes told = Spells reply_shape (λ r. Some (kind_of r)) reply_values (reply_kind asked) bytes told
 
 -- a reply is of the kind of the request's call, and fits in the size that the request asks for
 abbrev pub Answers : Request → Reply → Type 0
-Answers r told = (option_map reply_kind (call_of r) ≡ Some (kind_of told)) × Fits (asked_size r) told
+Answers r told = (option_map reply_kind (to_call r) ≡ Some (kind_of told)) × Fits (asked_size r) told
 
 abbrev pub bound_in : Option Call → ℕ → ℕ
 bound_in None size = 0
@@ -34,7 +34,7 @@ bound_in (Some asked) size = longest (reply_kind asked) size
 
 -- the greatest length of a reply that answers a request
 abbrev pub reply_bound : Request → ℕ
-reply_bound r = bound_in (call_of r) (asked_size r)
+reply_bound r = bound_in (to_call r) (asked_size r)
 
 -- the one form that is written
 abbrev pub reply_bytes : Reply → List ℕ

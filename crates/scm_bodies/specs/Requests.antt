@@ -13,7 +13,7 @@ use Rattle.scm_calls_cfg.specs.Requests.{config_shape, config_from, config_value
 use Rattle.scm_calls_enum.specs.Requests.{enum_shape, enum_from, enum_values}
 use Rattle.scm_bodies.specs.declared.call.Call.{Call}
 use Rattle.scm_bodies.specs.declared.call.Call.TheVariants as call
-use Rattle.scm_bodies.specs.Calls.{call_of}
+use Rattle.scm_bodies.specs.Calls.{to_call}
 
 -- the kinds of items in a body of a call, and what their values ask
 abbrev pub shape_of : Call → List Item
@@ -21,14 +21,14 @@ shape_of (call.Plain asked) = plain_shape asked
 shape_of (call.Config asked) = config_shape asked
 shape_of (call.Enum asked) = enum_shape asked
 
-abbrev pub asked_by : Call → List Value → Request
-asked_by (call.Plain asked) vs = plain_from asked vs
-asked_by (call.Config asked) vs = config_from asked vs
-asked_by (call.Enum asked) vs = enum_from asked vs
+abbrev pub request_from : Call → List Value → Request
+request_from (call.Plain asked) vs = plain_from asked vs
+request_from (call.Config asked) vs = config_from asked vs
+request_from (call.Enum asked) vs = enum_from asked vs
 
 -- what a body of a call asks, or the first fault
 abbrev pub request_at : Call → List ℕ → Result Request BodyFault
-request_at asked body = read_as (shape_of asked) (asked_by asked) body
+request_at asked body = read_as (shape_of asked) (request_from asked) body
 
 -- the values of a request, by the crate that has its call
 abbrev pub values_in : Option Call → Request → List Value
@@ -37,11 +37,11 @@ values_in (Some (call.Config asked)) r = config_values r
 values_in _ r = enum_values r
 
 abbrev pub values_of : Request → List Value
-values_of r = values_in (call_of r) r
+values_of r = values_in (to_call r) r
 
 -- bytes are a body of a call that asks this
 abbrev pub IsRequest : Call → List ℕ → Request → Type 0
-IsRequest asked bytes r = Spells shape_of call_of values_of asked bytes r
+IsRequest asked bytes r = Spells shape_of to_call values_of asked bytes r
 
 -- the one form that is written
 abbrev pub request_bytes : Request → List ℕ

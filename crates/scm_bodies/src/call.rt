@@ -1,5 +1,5 @@
 ghost use Rattle.std.specs.Prelude.{◌≡◌};
-ghost use Rattle.scm_bodies.specs.Calls.{call_at, call_of, reply_kind};
+ghost use Rattle.scm_bodies.specs.Calls.{call_at, to_call, reply_kind};
 
 use scm_calls::ReplyKind;
 use scm_model::Request;
@@ -28,7 +28,7 @@ pub fn call_at(opnum: u16) -> Option<Call>
 
 /// The call of a request.
 pub fn call_of(request: &Request) -> Option<Call>
-    ensures { result ≡ call_of request.now }
+    ensures { result ≡ to_call request.now }
 {
     if let Some(call) = scm_calls::call_of(request) {
         return Some(Call::Plain(call));

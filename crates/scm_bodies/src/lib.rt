@@ -1,5 +1,5 @@
-//! Bodies of every call of svcctl that is served, both ways. Which crate has a call's line is told
-//! here alone.
+//! Reads and writes the bodies of every call of svcctl that is served. Only this crate knows which
+//! crate has the bodies of a call.
 #![tactic(auto)]
 
 mod call;

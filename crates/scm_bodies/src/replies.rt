@@ -9,7 +9,7 @@ ghost use Rattle.scm_model.specs.Ranges.{in_range};
 ghost use Rattle.scm_calls.specs.Replies.{reply_shape, reply_values, kind_of};
 ghost use Rattle.scm_bodies.specs.declared.call.Call.{Call as ACall};
 ghost use Rattle.scm_bodies.specs.Calls.{reply_kind};
-ghost use Rattle.scm_bodies.specs.Replies.{reply_told, reply_at, IsReply, Answers, read_back};
+ghost use Rattle.scm_bodies.specs.Replies.{reply_told, reply_at, IsBodyOf, Answers, read_back};
 ghost use Rattle.scm_bodies.specs.Replies.{reply_bound, reply_bytes};
 
 use crate::call::{Call, call_of, reply_kind};
@@ -29,12 +29,12 @@ fn read(alloc: Global, call: Call, body: &[u8]) -> Result<Reply, BodyFault>
     Ok(reply_of(alloc, kind, &mut values))
 }
 
-/// What the body of a call's reply tells.
+/// Reads the body of a reply to a call.
 pub fn read_reply(alloc: Global, call: Call, body: &[u8]) -> Result<Reply, BodyFault>
-    // What is read is told by the body, whatever its padding and its referents are.
-    ensures found { IfOk result (λ told. IsReply call body.now told) }
-    // What the body tells is read, unless memory runs out.
-    ensures only { (told : AReply) → IsReply call body.now told → Gives (λ r. r) result (Ok told) }
+    // A reply that is read is the body's, whatever its padding and its referents are.
+    ensures found { IfOk result (λ told. IsBodyOf call body.now told) }
+    // The body's reply is read, unless memory runs out.
+    ensures only { (told : AReply) → IsBodyOf call body.now told → Gives (λ r. r) result (Ok told) }
     // No memory is taken for a handle and numbers.
     ensures memory { ArePlain (reply_shape (reply_kind call)) → FindsMemory result }
     // Which fault it is.
@@ -43,8 +43,8 @@ pub fn read_reply(alloc: Global, call: Call, body: &[u8]) -> Result<Reply, BodyF
     read(alloc, call, body)
 }
 
-/// Writes the body of a reply behind what the buffer holds. Without memory the buffer is given back
-/// as it was.
+/// Writes the body of a reply after what the buffer holds. If memory runs out, the buffer is given
+/// back as it was.
 pub fn write_reply(reply: &Reply, out: Buffer<u8>) -> Result<Buffer<u8>, (OutOfMemory, Buffer<u8>)>
     ensures ok { IfOk result (λ written. written.items ≡ out.items ++ reply_bytes reply.now) }
     ensures err { IfErr result (λ failed. failed.1.items ≡ out.items) }
@@ -54,7 +54,7 @@ pub fn write_reply(reply: &Reply, out: Buffer<u8>) -> Result<Buffer<u8>, (OutOfM
     ensures bounded { (request : ARequest) → Answers request reply.now
         → reply_bound request ≤ out.room → IsOk result }
     // What some body tells is read back from the one that is written.
-    ensures back { (call : ACall) (bytes : List ℕ) → IsReply call bytes reply.now
+    ensures back { (call : ACall) (bytes : List ℕ) → IsBodyOf call bytes reply.now
         → reply_at call (reply_bytes reply.now) ≡ Ok reply.now }
     // So is a reply whose parts can stand in a body, but that bytes come with zeros up to their
     // size.
@@ -64,6 +64,7 @@ pub fn write_reply(reply: &Reply, out: Buffer<u8>) -> Result<Buffer<u8>, (OutOfM
     put_reply(reply, out)
 }
 
+#[tactic(auto, using(crate::proofs::Codecs::has_call))]
 fn bound_of(request: &Request) -> u32
     requires { IsTrue (in_range request.now) }
     ensures { result ≡ reply_bound request.now }

@@ -6,7 +6,8 @@ ghost use Rattle.scm_shapes.specs.Written.{IsWritten};
 ghost use Rattle.scm_model.specs.declared.calls.Request.{Request as ARequest};
 ghost use Rattle.scm_model.specs.Ranges.{in_range};
 ghost use Rattle.scm_bodies.specs.declared.call.Call.{Call as ACall};
-ghost use Rattle.scm_bodies.specs.Requests.{shape_of, asked_by, values_of, request_at, IsRequest};
+ghost use Rattle.scm_bodies.specs.Requests.{shape_of, request_from, values_of, request_at};
+ghost use Rattle.scm_bodies.specs.Requests.{IsRequest};
 ghost use Rattle.scm_bodies.specs.Requests.{request_bytes, AreCarried};
 
 use crate::call::{Call, call_of};
@@ -27,7 +28,7 @@ fn shape_of(call: Call) -> &'static [Item]
 }
 
 fn asked_by(alloc: Global, call: Call, values: &mut Values) -> Request
-    ensures { result ≡ asked_by call values.old }
+    ensures { result ≡ request_from call values.old }
 {
     match call {
         Call::Plain(call) => scm_calls::request_of(alloc, call, values),
@@ -38,7 +39,7 @@ fn asked_by(alloc: Global, call: Call, values: &mut Values) -> Request
 
 fn asked_by_handle_body(call: Call, body: HandleBody) -> Request
     requires { IsTrue (is_handle_body (shape_of call)) }
-    ensures { result ≡ asked_by call (handle_body_values body) }
+    ensures { result ≡ request_from call (handle_body_values body) }
 {
     match call {
         Call::Plain(call) => scm_calls::request_of_handle_body(call, body),
@@ -72,8 +73,8 @@ fn read_by_values(
     Ok(asked_by(alloc, call, values))
 }
 
-/// The result of `read_request`, by values that serve body after body: none are made for each body,
-/// nor let go behind it. What lies in them before and behind plays no part.
+/// The result of `read_request`, with values that serve body after body: none are made or dropped
+/// for each body. What they hold before and after a call plays no part.
 pub fn read_request_by(
     alloc: Global,
     call: Call,
@@ -128,8 +129,8 @@ pub fn read_request(alloc: Global, call: Call, body: &[u8]) -> Result<Request, B
     read(alloc, call, body)
 }
 
-/// Writes the body of a request behind what the buffer holds. Without memory the buffer is given
-/// back as it was.
+/// Writes the body of a request after what the buffer holds. If memory runs out, the buffer is
+/// given back as it was.
 fn put_request(request: &Request, out: Buffer<u8>) -> Result<Buffer<u8>, (OutOfMemory, Buffer<u8>)>
     ensures { IsWritten (values_of request.now) out result }
 {

@@ -32,7 +32,8 @@ use Rattle.scm_book.specs.declared.answers.StartEnd.{StartEnd}
 use Rattle.scm_book.specs.declared.answers.StartEnd.TheVariants as starts
 use Rattle.scm_book.specs.declared.fault.MakeFault.{MakeFault}
 use Rattle.scm_book.specs.declared.fault.MakeFault.TheVariants as makes
-use Rattle.scm_book.specs.Called.{CallTold, Calls, IfTold, IsBegun, IsReply, LeavesWhose, StartTold, Starts, WantsMemory, called, is_start}
+use Rattle.scm_book.specs.Called.{CallTold, Calls, IfTold, IsBegun, IsReply, LeavesWhose, StartTold, StartsAs, WantsMemory, called}
+use Rattle.scm_book.specs.Called.{is_start}
 use Rattle.scm_book.specs.Called.{refusal_of}
 use Rattle.scm_book.specs.Holds.{Opens}
 use Rattle.scm_book.specs.Naming.{whose_after}
@@ -113,9 +114,9 @@ module _ (o : Opening) (opens : Opens o) (k k' : Known) (moment : ℕ) (asked : 
 
   pub starts_so : k.caller ≢ 0 → is_start asked ≡ true → (r : Result (Option Answer) MakeFault) (end : StartEnd)
       → CallEnds o k moment k.caller (called k asked) r k'
-      → StartTold r (refused asked ERROR_NOT_ENOUGH_MEMORY) end → Starts o k moment asked k' end
-  starts_so some start (Ok (Some (answers.Reply reply))) end made said = subst (Starts o k moment asked k') (sym said) (inl made)
-  starts_so some start (Ok (Some (answers.Begun plan))) end made said = subst (Starts o k moment asked k') (sym said) (record {
+      → StartTold r (refused asked ERROR_NOT_ENOUGH_MEMORY) end → StartsAs o k moment asked k' end
+  starts_so some start (Ok (Some (answers.Reply reply))) end made said = subst (StartsAs o k moment asked k') (sym said) (inl made)
+  starts_so some start (Ok (Some (answers.Begun plan))) end made said = subst (StartsAs o k moment asked k') (sym said) (record {
     made = made;
     has = record {
       caller = λ none. some (sym made.made.caller ∙ none);
@@ -123,10 +124,10 @@ module _ (o : Opening) (opens : Opens o) (k k' : Known) (moment : ℕ) (asked : 
     };
   })
   starts_so some start (Ok (Some told)) end made said = absurd said
-  starts_so some start (Ok None) end none said = subst (Starts o k moment asked k') (sym said) (inr (wants none.0 none.1 none.2))
-  starts_so some start (Err makes.Full) end ends said = subst (Starts o k moment asked k') (sym said)
+  starts_so some start (Ok None) end none said = subst (StartsAs o k moment asked k') (sym said) (inr (wants none.0 none.1 none.2))
+  starts_so some start (Err makes.Full) end ends said = subst (StartsAs o k moment asked k') (sym said)
       (record { learnt = ends.0; full = ends.1 })
-  starts_so some start (Err makes.OutOfMemory) end ends said = subst (Starts o k moment asked k') (sym said)
+  starts_so some start (Err makes.OutOfMemory) end ends said = subst (StartsAs o k moment asked k') (sym said)
       (record { learnt = ends.0; free = ends.1 })
 
 -- ## Whose the pass is
@@ -193,7 +194,7 @@ call_comes o opens k k' moment asked step step' is r same end ends told =
 pub start_comes : (o : Opening) → Opens o → (k k' : Known) (moment : ℕ) (asked : Request) (step step' : Step) → step ≡ called k asked
     → (r : Result (Option Answer) MakeFault) → (r ≡ Ok None → step' ≡ step) → (end : StartEnd)
     → CallEnds o k moment k.caller step r k' → k.caller ≢ 0 → is_start asked ≡ true → StartTold r (refusal_of step') end
-    → Starts o k moment asked k' end
+    → StartsAs o k moment asked k' end
 start_comes o opens k k' moment asked step step' is r same end ends some start told =
     starts_so o opens k k' moment asked some start r end (subst (λ (s : Step). CallEnds o k moment k.caller s r k') is ends)
     (begun_late asked k step step' is r same end told)

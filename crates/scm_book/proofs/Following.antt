@@ -15,13 +15,13 @@ use Rattle.scm_rules.specs.Steps.{may}
 use Rattle.scm_history.specs.Callers.{CallersStay, takes_leave}
 use Rattle.book_rule.specs.declared.view.Opening.{Opening}
 use Rattle.book_rule.specs.Ways.{Has, MadeAt, NamedAt, Follows}
-use Rattle.scm_book.specs.Naming.{names_made, named_in, whose_after}
+use Rattle.scm_book.specs.Naming.{names_made, all_names, whose_after}
 use Rattle.scm_book.specs.Holds.{Runs, way_of}
 use Rattle.scm_book.proofs.Last.{anew, behind, callers_stay, stays, within}
 use Rattle.scm_book.proofs.Names.{has_name, made_at, made_more, named_before, not_before}
 
 -- who isn't named doesn't leave
-stays_here : (step : Step) (c : ℕ) → (Has (names.Caller c) (named_in step) → ⊥) → takes_leave c step ≡ false
+stays_here : (step : Step) (c : ℕ) → (Has (names.Caller c) (all_names step) → ⊥) → takes_leave c step ≡ false
 stays_here (Gone d) c other = ne_eqb c d (λ e. other (inl (ap names.Caller e)))
 stays_here step c other = refl
 

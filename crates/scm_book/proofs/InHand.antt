@@ -28,7 +28,7 @@ use Rattle.book_rule.specs.Seats.{Identity}
 use Rattle.book_rule.specs.Ways.{Has}
 use Rattle.book_rule.proofs.Places.{has_left, has_one, has_right}
 use Rattle.scm_book.specs.Holds.{Opens}
-use Rattle.scm_book.specs.Naming.{named_in, names_made, process_names}
+use Rattle.scm_book.specs.Naming.{all_names, names_made, process_names}
 use Rattle.scm_book.specs.Passes.{HoldsProcess, KeepsAll, Known, Made, seen_state}
 use Rattle.scm_book.specs.Processes.{EndedSo, IsEnd, KeepsAllBut, TakesInHand, is_current_behind, told_of_end}
 use Rattle.scm_book.specs.declared.processes.EndedEnd.{EndedEnd}
@@ -81,7 +81,7 @@ always_ended o k moment process holds log longer runs claims = record {
 }
 
 pub always_report : (o : Opening) (k : Known) (moment process : ℕ) (status : Status) → HoldsProcess o k process phases.Launched
-    → AlwaysMay o k moment (Report process status)
+    → AlwaysMay o k moment (Report process 0 status)
 always_report o k moment process status holds log longer runs claims = record {
   may = launched_by_phase (process_of (state o.limits o.first log) process)
       (still o runs.opens k process phases.Launched holds log longer runs.legal claims);
@@ -111,11 +111,11 @@ module _ (o : Opening) (opens : Opens o) (k k' : Known) (moment : ℕ) where
     listed = (leaves (Launched process pid) told made).phase;
   }
 
-  pub holds_reported : (process : ℕ) (status : Status) (told : Answer) → Made o k moment (Report process status) told k'
+  pub holds_reported : (process : ℕ) (status : Status) (told : Answer) → Made o k moment (Report process 0 status) told k'
       → HoldsProcess o k process phases.Launched → HoldsProcess o k' process phases.Launched
   holds_reported process status told made holds = record {
-    named = named_still (names.Process process) (Report process status) told made holds.named;
-    listed = (leaves (Report process status) told made).phase;
+    named = named_still (names.Process process) (Report process 0 status) told made holds.named;
+    listed = (leaves (Report process 0 status) told made).phase;
   }
 
   pub holds_taken : (process : ℕ) (made : Made o k moment LaunchTaken (answers.Launch process) k')
@@ -179,7 +179,7 @@ no_caller caller one has = let same : names.Caller caller ≡ names.Process one 
 
 -- a step of one process leaves all else in hand
 pub keeps_but : (o : Opening) → Opens o → (k k' : Known) (moment : ℕ) (step : Step) (told : Answer) → Made o k moment step told k'
-    → k'.caller ≡ k.caller → (one : ℕ) → named_in step ≡ names.Process one ∷ []
+    → k'.caller ≡ k.caller → (one : ℕ) → all_names step ≡ names.Process one ∷ []
     → KeepsAllBut o one k k'
 keeps_but o opens k k' moment step told made whose one is = record {
   processes = λ process phase other. process_lasts o opens k k' moment step told made process phase
@@ -189,7 +189,7 @@ keeps_but o opens k k' moment step told made whose one is = record {
 
 -- a step of nobody leaves all in hand
 pub keeps_every : (o : Opening) → Opens o → (k k' : Known) (moment : ℕ) (step : Step) (told : Answer) → Made o k moment step told k'
-    → k'.caller ≡ k.caller → named_in step ≡ [] → KeepsAll o k k'
+    → k'.caller ≡ k.caller → all_names step ≡ [] → KeepsAll o k k'
 keeps_every o opens k k' moment step told made whose is = record {
   processes = λ process phase. process_lasts o opens k k' moment step told made process phase
       (λ has. subst (Has (names.Process process)) is has);

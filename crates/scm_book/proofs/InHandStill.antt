@@ -26,10 +26,10 @@ use Rattle.scm_book.specs.declared.answers.CallEnd.{CallEnd}
 use Rattle.scm_book.specs.declared.answers.CallEnd.TheVariants as calls
 use Rattle.scm_book.specs.declared.answers.StartEnd.{StartEnd}
 use Rattle.scm_book.specs.declared.answers.StartEnd.TheVariants as starts
-use Rattle.scm_book.specs.Called.{AnsweredSo, Calls, Raises, Starts}
+use Rattle.scm_book.specs.Called.{AnsweredSo, Calls, Raises, StartsAs}
 use Rattle.scm_book.specs.Holds.{Opens}
 use Rattle.scm_book.specs.Joins.{JoinsAs}
-use Rattle.scm_book.specs.Naming.{named_in}
+use Rattle.scm_book.specs.Naming.{all_names}
 use Rattle.scm_book.specs.Passes.{HasPlan, KeepsAll, Known, Learnt, Made}
 use Rattle.scm_book.specs.Starts.{KeepsAllButPlan}
 use Rattle.scm_book.proofs.Lasting.{keeps_seen, process_lasts}
@@ -81,7 +81,7 @@ module _ (o : Opening) (opens : Opens o) where
           }
 
       -- a step that ends no plan, and is of no process
-      pub made_keeps : ((plan : ℕ) → ends_plan plan step ≡ false) → ((process : ℕ) → Has (names.Process process) (named_in step) → ⊥)
+      pub made_keeps : ((plan : ℕ) → ends_plan plan step ≡ false) → ((process : ℕ) → Has (names.Process process) (all_names step) → ⊥)
           → KeepsAll o k k'
       made_keeps ends unnamed = record {
         processes = λ process phase. process_lasts o opens k k' moment step told made process phase (unnamed process);
@@ -118,7 +118,7 @@ module _ (o : Opening) (opens : Opens o) where
     raises_keep moment subtype calls.Full ends = learnt_keeps ends.learnt
     raises_keep moment subtype calls.OutOfMemory ends = learnt_keeps ends.learnt
 
-    pub starts_keep : (moment : ℕ) (asked : Request) (end : StartEnd) → Starts o k moment asked k' end → KeepsAll o k k'
+    pub starts_keep : (moment : ℕ) (asked : Request) (end : StartEnd) → StartsAs o k moment asked k' end → KeepsAll o k k'
     starts_keep moment asked (starts.Answered reply) ends = answered_keeps moment asked reply ends
     starts_keep moment asked (starts.Waiting plan) ends =
         made_keeps moment (Call k.caller asked ends.made.append) _ ends.made.made ends.made.made.caller refl (λ plan. refl)

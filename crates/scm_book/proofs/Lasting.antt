@@ -29,7 +29,7 @@ use Rattle.scm_history.specs.Plans.{IsPlanOf, PlansAreTheirCallers, ends_plan}
 use Rattle.scm_history.proofs.Plans.{gives as plans_stay}
 use Rattle.book_rule.specs.declared.view.Opening.{Opening}
 use Rattle.book_rule.specs.Ways.{Has}
-use Rattle.scm_book.specs.Naming.{named_in, names_made}
+use Rattle.scm_book.specs.Naming.{all_names, names_made}
 use Rattle.scm_book.specs.Holds.{Opens}
 use Rattle.scm_book.specs.Passes.{ClaimsIn, HasPlan, HoldsProcess, KeepsAll, Known, Made, seen_state}
 use Rattle.book_rule.proofs.Places.{has_left}
@@ -39,7 +39,7 @@ use Rattle.scm_book.proofs.Quiet.{Quiet, made_not, own_made, quiet, quiet_front,
 
 -- ## Plans
 
-no_leave : (step : Step) (c : ℕ) → (Has (names.Caller c) (named_in step) → ⊥) → takes_leave c step ≡ false
+no_leave : (step : Step) (c : ℕ) → (Has (names.Caller c) (all_names step) → ⊥) → takes_leave c step ≡ false
 no_leave (Gone d) c other = ne_eqb c d (λ e. other (inl (ap names.Caller e)))
 no_leave step c other = refl
 
@@ -49,7 +49,7 @@ same_caller (Some of) c by is test = let e = eqb-true of by test in let f : of �
 
 -- who ends a plan is its caller
 no_end : (l : Limits) (f : Flat) (moment : ℕ) (step : Step) (c number : ℕ) → plan_caller f.plans number ≡ Some c
-    → IsTrue (may l f moment step) → (Has (names.Caller c) (named_in step) → ⊥) → ends_plan number step ≡ false
+    → IsTrue (may l f moment step) → (Has (names.Caller c) (all_names step) → ⊥) → ends_plan number step ≡ false
 no_end l f moment (EndStart by plan) c number there ok other =
     ne_eqb number plan (λ e. other (inl (ap names.Caller (sym (same_caller (plan_caller f.plans plan) c by (ap (plan_caller f.plans) (sym e)
     ∙ there) (and_parts _ _ (and_parts _ _ (and_parts _ _ ok).0).1).0)))))
@@ -66,7 +66,7 @@ aim_of (Some plan) c is = (plan.target, refl)
 
 module _ (o : Opening) (opens : Opens o) where
   step_plan : (log : List Entry) (e : Entry) (c number : ℕ) → c ≢ 0 → Legal o.limits o.first (log ++ e ∷ [])
-      → (Has (names.Caller c) (named_in e.1) → ⊥)
+      → (Has (names.Caller c) (all_names e.1) → ⊥)
       → plan_caller (state o.limits o.first log).plans number ≡ Some c →
       plan_caller (state o.limits o.first (log ++ e ∷ [])).plans number ≡ Some c
   step_plan log e c number somebody legal unnamed there =
@@ -141,7 +141,7 @@ module _ (o : Opening) (opens : Opens o) where
 
   -- a process in hand that the step is not of is in hand still
   pub process_lasts : (k k' : Known) (moment : ℕ) (step : Step) (told : Answer) → Made o k moment step told k'
-      → (process : ℕ) (phase : Phase) → (Has (names.Process process) (named_in step) → ⊥)
+      → (process : ℕ) (phase : Phase) → (Has (names.Process process) (all_names step) → ⊥)
       → HoldsProcess o k process phase → HoldsProcess o k' process phase
   process_lasts k k' moment step told made process phase unnamed holds =
       let n : Name = names.Process process in
@@ -160,7 +160,7 @@ module _ (o : Opening) (opens : Opens o) where
 
   -- and so is a plan of the pass's caller
   pub plan_lasts : (k k' : Known) (moment : ℕ) (step : Step) (told : Answer) → Made o k moment step told k' → k'.caller ≡ k.caller
-      → (Has (names.Caller k.caller) (named_in step) → ⊥)
+      → (Has (names.Caller k.caller) (all_names step) → ⊥)
       → (plan : ℕ) → HasPlan o k plan → HasPlan o k' plan
   plan_lasts k k' moment step told made whose unnamed plan has =
       let e : Entry = (moment, step) in

@@ -15,7 +15,7 @@ use Rattle.scm_history.specs.Anew.{MakesAnew}
 use Rattle.scm_history.specs.Made.{StandsBehind}
 use Rattle.book_rule.specs.Ways.{Has}
 use Rattle.book_rule.proofs.Places.{has_cases}
-use Rattle.scm_book.specs.Naming.{caller_names, names_made, named_in, process_names}
+use Rattle.scm_book.specs.Naming.{caller_names, names_made, all_names, process_names}
 
 -- ## Tests
 
@@ -33,7 +33,7 @@ or_more false b c later is = later is
 is_itself : (number : ℕ) (o : Option ℕ) → o ≡ Some number → is_it number o ≡ true
 is_itself number o is = ap (is_it number) is ∙ eq-eqb number number refl
 
-at_some : {A : Type 0} (P : A → Type 0) (o : Option A) (x : A) → o ≡ Some x → IfSome o P → P x
+pub at_some : {A : Type 0} (P : A → Type 0) (o : Option A) (x : A) → o ≡ Some x → IfSome o P → P x
 at_some P o x is all = subst (λ (o : Option _). IfSome o P) is all
 
 -- ## One of an option
@@ -70,7 +70,7 @@ abbrev pub has_name : Limits → Flat → Name → List Entry → Bool
 has_name l f (names.Caller caller) log = has_made l f caller log
 has_name l f (names.Process process) log = has_taken l f process log
 
-caller_at : (l : Limits) (f : Flat) (number : ℕ) (front : List Entry) (e : Entry) (rest : List Entry)
+pub caller_at : (l : Limits) (f : Flat) (number : ℕ) (front : List Entry) (e : Entry) (rest : List Entry)
     → makes_caller (state l f front) number e.1 ≡ true → has_made l f number (front ++ e ∷ rest) ≡ true
 unfolding state
 caller_at l f number [] e rest is = or_left (makes_caller f number e.1) (has_made l (step_of l f e.0 e.1).flat number rest) is
@@ -86,7 +86,7 @@ process_at l f number (x ∷ front) e rest is =
     or_right (takes_process f number x.1) (has_taken l (step_of l f x.0 x.1).flat number (front ++ e ∷ rest))
     (process_at l (step_of l f x.0 x.1).flat number front e rest is)
 
-caller_more : (l : Limits) (f : Flat) (number : ℕ) (front rest : List Entry) → has_made l f number front ≡ true
+pub caller_more : (l : Limits) (f : Flat) (number : ℕ) (front rest : List Entry) → has_made l f number front ≡ true
     → has_made l f number (front ++ rest) ≡ true
 caller_more l f number [] rest is = absurd cc
 caller_more l f number (x ∷ front) rest is =
@@ -129,7 +129,7 @@ module _ (l : Limits) (f : Flat) (n : Name) (front : List Entry) (e : Entry) whe
       (in_either (caller_made (state l f front) e.1) (process_taken (state l f front) e.1) n has)
 
   -- whom an entry names was made before
-  pub named_before : StandsBehind l f front e → Has n (named_in e.1) → has_name l f n front ≡ true
+  pub named_before : StandsBehind l f front e → Has n (all_names e.1) → has_name l f n front ≡ true
   named_before stands has = ⊎_elim
       (λ (c : IsCaller (caller_named e.1) n). subst (λ (m : Name). has_name l f m front ≡ true) (sym c.name)
       (at_some (λ (number : ℕ). IsTrue (has_made l f number front)) (caller_named e.1) c.number c.is stands.caller))

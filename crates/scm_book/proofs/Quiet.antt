@@ -22,7 +22,7 @@ use Rattle.book_rule.specs.declared.view.Opening.{Opening}
 use Rattle.book_rule.specs.Ways.{Has}
 use Rattle.book_rule.proofs.Places.{has_right}
 use Rattle.book_rule.proofs.Prefixes.{prefix_shorter}
-use Rattle.scm_book.specs.Naming.{caller_names, named_in, names_made, process_names}
+use Rattle.scm_book.specs.Naming.{caller_names, all_names, names_made, process_names}
 use Rattle.scm_book.specs.Holds.{Opens}
 use Rattle.scm_book.specs.Passes.{ClaimsIn, Known}
 use Rattle.scm_book.proofs.Last.{anew}
@@ -33,7 +33,7 @@ use Rattle.scm_book.proofs.Names.{has_name, made_at, made_more, not_before}
 -- no entry of the rest, behind this history, names or makes this one
 abbrev pub Quiet : Opening → Name → List Entry → List Entry → Type 0
 Quiet o n log [] = Unit {0}
-Quiet o n log (e ∷ rest) = (Has n (named_in e.1) → ⊥) × (Has n (names_made (state o.limits o.first log) e.1) → ⊥)
+Quiet o n log (e ∷ rest) = (Has n (all_names e.1) → ⊥) × (Has n (names_made (state o.limits o.first log) e.1) → ⊥)
     × Quiet o n (log ++ e ∷ []) rest
 
 -- nor of the first of them
@@ -57,7 +57,7 @@ listed_so (Some row) phase is = refl
 module _ (o : Opening) (opens : Opens o) where
   -- a process keeps its phase by an entry that is not of it
   pub step_phase : (log : List Entry) (e : Entry) (process : ℕ) (phase : Phase) → Legal o.limits o.first (log ++ e ∷ [])
-      → (Has (names.Process process) (named_in e.1) → ⊥)
+      → (Has (names.Process process) (all_names e.1) → ⊥)
       → (Has (names.Process process) (names_made (state o.limits o.first log) e.1) → ⊥)
       → phase_of (state o.limits o.first log) process ≡ Some phase →
       phase_of (state o.limits o.first (log ++ e ∷ [])) process ≡ Some phase
@@ -93,7 +93,7 @@ module _ (o : Opening) (opens : Opens o) where
 module _ (o : Opening) (opens : Opens o) (k : Known) (n : Name) (named : Has n k.names) where
   -- an entry that stands behind all that the pass has seen names nobody of its own
   named_not : (log front : List Entry) (e : Entry) (rest : List Entry) → ClaimsIn o log k → log ≡ front ++ e ∷ rest
-      → length k.seen ≤ length front → Has n (named_in e.1) → ⊥
+      → length k.seen ≤ length front → Has n (all_names e.1) → ⊥
   named_not log front e rest claims is far has =
       let mine = claims.named n named (length front) (record { front = front; entry = e; rest = rest; is = is; place = refl; named = has })
       in

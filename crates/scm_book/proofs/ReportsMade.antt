@@ -9,6 +9,7 @@ use Rattle.scm_model.specs.declared.codes.TheConstants.{ERROR_INVALID_DATA}
 use Rattle.scm_model.specs.declared.flat.Flat.{Flat}
 use Rattle.scm_model.specs.declared.flat.Phase.{Phase}
 use Rattle.scm_model.specs.declared.flat.Phase.TheVariants as phases
+use Rattle.scm_model.specs.declared.flat.Order.{Order}
 use Rattle.scm_model.specs.declared.flat.Process.{Process}
 use Rattle.scm_model.specs.declared.flat.Status.{Status}
 use Rattle.scm_model.specs.declared.steps.Answer.{Answer}
@@ -51,15 +52,15 @@ never false is other = cc
 
 -- a report of a process in hand may come
 pub own_report : (o : Opening) (k : Known) (process : ℕ) (status : Status) (step : Step) → HoldsProcess o k process phases.Launched
-    → step ≡ Report process status → NamesNoOther k.names step
+    → step ≡ Report process 0 status → NamesNoOther k.names step
 own_report o k process status step holds is = subst (NamesNoOther k.names) (sym is)
     (λ n has. of_own o k process phases.Launched holds n has)
 
 module _ (o : Opening) (opens : Opens o) (k k' : Known) (moment process : ℕ) (status : Status) where
   pub told_reported : HoldsProcess o k process phases.Launched → (r : Result Answer StepFault)
-      → StepEnds o k moment (Report process status) r k' → IsReport r
+      → StepEnds o k moment (Report process 0 status) r k' → IsReport r
   told_reported holds (Ok told) so =
-      let heard = shaped o opens k k' moment (Report process status) told so.made in
+      let heard = shaped o opens k k' moment (Report process 0 status) told so.made in
       ⊎_elim (λ (one : is_current_behind o so.made.before process ≡ true). ⊎_elim (λ (done : told ≡ answers.Done). inl done)
       (λ (refused : told ≡ answers.Refused ERROR_INVALID_DATA). inr (inl refused)) (heard.heard one))
       (λ (none : is_current_behind o so.made.before process ≡ false). inr (inr (heard.stale none)))
@@ -86,22 +87,22 @@ module _ (o : Opening) (opens : Opens o) (k k' : Known) (moment process : ℕ) (
   refused_code code (inr is) = cc
 
   -- where it isn't stale, the process is a service's current one
-  current_if : (told : Answer) (made : Made o k moment (Report process status) told k') → (told ≡ answers.Stale → ⊥)
+  current_if : (told : Answer) (made : Made o k moment (Report process 0 status) told k') → (told ≡ answers.Stale → ⊥)
       → is_current_behind o made.before process ≡ true
   current_if told made other =
-      let heard = shaped o opens k k' moment (Report process status) told made in
+      let heard = shaped o opens k k' moment (Report process 0 status) told made in
       ⊎_elim (λ (one : is_current_behind o made.before process ≡ true). one)
       (λ (none : is_current_behind o made.before process ≡ false). absurd (other (heard.stale none)))
       (cases_Bool (is_current_behind o made.before process))
 
-  pub reports_so : (end : ReportEnd) → StepEnds o k moment (Report process status) (told_of_report end) k'
+  pub reports_so : (end : ReportEnd) → StepEnds o k moment (Report process 0 status) (told_of_report end) k'
       → ReportEnds o k moment process status end k'
   reports_so reports.Taken so = (so, current_if answers.Done so.made done_stale)
   reports_so (reports.Refused code) so =
       let one = current_if (answers.Refused code) so.made (refused_stale code) in
-      (so, one, refused_code code ((shaped o opens k k' moment (Report process status) (answers.Refused code) so.made).heard one))
+      (so, one, refused_code code ((shaped o opens k k' moment (Report process 0 status) (answers.Refused code) so.made).heard one))
   reports_so reports.Stale so =
-      let heard = shaped o opens k k' moment (Report process status) answers.Stale so.made in (
+      let heard = shaped o opens k k' moment (Report process 0 status) answers.Stale so.made in (
         so,
         ⊎_elim (λ (one : is_current_behind o so.made.before process ≡ true). absurd (stale_heard (heard.heard one)))
             (λ (none : is_current_behind o so.made.before process ≡ false). none) (cases_Bool (is_current_behind o so.made.before process)),
@@ -117,7 +118,7 @@ module _ (o : Opening) (opens : Opens o) (k k' : Known) (moment process : ℕ) (
   apart_if : (other : ℕ) → (other == process) ≡ false → other ≢ process
   apart_if other apart is = never _ (eq-eqb other process is) apart
 
-  one_kept : (told : Answer) → Made o k moment (Report process status) told k' → HoldsProcess o k process phases.Launched
+  one_kept : (told : Answer) → Made o k moment (Report process 0 status) told k' → HoldsProcess o k process phases.Launched
       → (other : ℕ) (phase : Phase) → other ≡ process → HoldsProcess o k other phase → HoldsProcess o k' other phase
   one_kept told made holds other phase e has =
       let mine : HoldsProcess o k process phase = subst (λ (p : ℕ). HoldsProcess o k p phase) e has in
@@ -125,10 +126,10 @@ module _ (o : Opening) (opens : Opens o) (k k' : Known) (moment process : ℕ) (
       (subst (λ (x : Phase). HoldsProcess o k' process x) (sym (same_phase phase mine holds))
       (holds_reported o opens k k' moment process status told made holds))
 
-  reported_keeps : (told : Answer) → Made o k moment (Report process status) told k' → HoldsProcess o k process phases.Launched
+  reported_keeps : (told : Answer) → Made o k moment (Report process 0 status) told k' → HoldsProcess o k process phases.Launched
       → KeepsAll o k k'
   reported_keeps told made holds =
-      let but : KeepsAllBut o process k k' = keeps_but o opens k k' moment (Report process status) told made made.caller process refl in
+      let but : KeepsAllBut o process k k' = keeps_but o opens k k' moment (Report process 0 status) told made made.caller process refl in
       record {
         processes = λ other phase has. ⊎_elim (λ (same : (other == process) ≡ true). one_kept told made holds other phase
             (eqb-true other process same) has)
@@ -149,15 +150,15 @@ module _ (o : Opening) (opens : Opens o) (k k' : Known) (moment process : ℕ) (
 pub own_control : (k : Known) (process : ℕ) (step : Step) → step ≡ ControlTaken process → NamesNoOther k.names step
 own_control k process step is = subst (NamesNoOther k.names) (sym is) (λ n has. absurd has)
 
-no_codes : (codes : List ℕ) → waits codes ≡ false → length codes ≡ 0
-no_codes codes none = let le = ltb-false 0 (length codes) none in omega arith
+no_orders : (orders : List Order) → waits orders ≡ false → length orders ≡ 0
+no_orders orders none = let le = ltb-false 0 (length orders) none in omega arith
 
 -- where none waits for a process that is listed, there are 0
 none_waits : (row : Option Process) (number : ℕ) → waits (controls_in row) ≡ false
     → option_map (λ (row : Process). length row.controls) row ≡ Some number
     → option_map (λ (row : Process). length row.controls) row ≡ Some 0
 none_waits None number none is = absurd cc
-none_waits (Some row) number none is = ap (λ (n : ℕ). Some n) (no_codes row.controls none)
+none_waits (Some row) number none is = ap (λ (n : ℕ). Some n) (no_orders row.controls none)
 
 module _ {K : Type 0} (tells : K → Option (List ℕ)) (faulted : K → ℕ) (b : Identity) (s s1 : Seat (Option (Box (Held K) Global)) View)
     (h : Box (Held K) Global) (enters : Enters (way_of tells faulted) b s s1 h) where
@@ -197,8 +198,8 @@ module _ (o : Opening) (opens : Opens o) (k k' : Known) (moment process : ℕ) w
       (sym said) (record { learnt = ends.0; free = ends.1.1 }, ends.1.0)
 
   pub controls_keep : (look : ControlLook) → ControlEnds o k moment process look k' → KeepsAll o k k'
-  controls_keep (controls.Control code) so = keeps_every o opens k k' moment (ControlTaken process)
-      (answers.Control code) so.made so.made.caller refl
+  controls_keep (controls.Control order) so = keeps_every o opens k k' moment (ControlTaken process)
+      (answers.Control order) so.made so.made.caller refl
   controls_keep controls.Empty ends = learnt_keeps o opens k k' ends.0
   controls_keep controls.Over ends = learnt_keeps o opens k k' ends.0
   controls_keep controls.Full ends = learnt_keeps o opens k k' ends.0.learnt

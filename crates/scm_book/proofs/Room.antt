@@ -21,7 +21,7 @@ use Rattle.scm_book.specs.declared.owed.Owed.{Owed}
 use Rattle.scm_book.specs.declared.owed.Owed.TheVariants as owes
 use Rattle.scm_history.specs.Kept.{kept_change}
 use Rattle.scm_book.specs.Holds.{one_failed}
-use Rattle.scm_book.specs.Naming.{named_in}
+use Rattle.scm_book.specs.Naming.{all_names}
 use Rattle.scm_book.specs.Steps.{owed_step}
 
 pub room_steps : (l : Limits) (f : Flat) (steps text : ℕ) (step : Step) → has_room l f steps text step ≡ true → steps + owed f
@@ -51,7 +51,7 @@ pub has_kept : (l : Limits) (f : Flat) (steps text : ℕ) (step : Step) (now : K
 has_kept l f steps text (Call caller asked append) now = refl
 has_kept l f steps text step now = refl
 
-pub named_kept : (step : Step) (now : Kept) → named_in (with_kept step now) ≡ named_in step
+pub named_kept : (step : Step) (now : Kept) → all_names (with_kept step now) ≡ all_names step
 named_kept (Call caller asked append) now = refl
 named_kept step now = refl
 

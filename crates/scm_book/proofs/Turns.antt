@@ -13,7 +13,7 @@ use Rattle.book_rule.specs.Ways.{Follows, Has, NamesOwn, Protocol}
 use Rattle.book_rule.specs.Seats.{Identity, Commits}
 use Rattle.scm_book.specs.declared.held.Held.{Held}
 use Rattle.scm_book.specs.declared.owed.Owed.{Owed}
-use Rattle.scm_book.specs.Naming.{named_in}
+use Rattle.scm_book.specs.Naming.{all_names}
 use Rattle.scm_book.specs.Holds.{Holds, Runs, way_of}
 use Rattle.scm_book.specs.Passes.{room_behind}
 use Rattle.scm_book.specs.Steps.{Adds, Makes, owed_step}
@@ -36,7 +36,7 @@ pub record Stands {K : Type 0} (w : Protocol (Held K)) (b : Identity) (v : View)
 module _ {K : Type 0} (tells : K → Option (List ℕ)) (faulted : K → ℕ) (b : Identity) (v : View) (h h' : Held K)
     (holds : Holds tells faulted b.opening v.seen h) (runs : Runs b.opening v.seen) (moment : ℕ) where
   module _ (owed : Owed) (told : Answer) (adds : Adds h h' moment (owed_step owed) told) where
-    pub stands_added : ((n : Name) → Has n (named_in (owed_step owed)) → Has n v.names) → Stands (way_of tells faulted) b v h'
+    pub stands_added : ((n : Name) → Has n (all_names (owed_step owed)) → Has n v.names) → Stands (way_of tells faulted) b v h'
     stands_added own =
         let there : Holds tells faulted b.opening (v.seen ++ (moment, owed_step owed) ∷ []) h' =
         added_holds tells faulted b.opening v.seen h holds h' moment owed told runs adds in record {
@@ -65,7 +65,7 @@ module _ {K : Type 0} (tells : K → Option (List ℕ)) (faulted : K → ℕ) (b
     }
 
   module _ (step : Step) (told : Answer) (made : Makes tells faulted h h' moment step told) where
-    pub stands_made : ((n : Name) → Has n (named_in step) → Has n v.names) → Stands (way_of tells faulted) b v h'
+    pub stands_made : ((n : Name) → Has n (all_names step) → Has n v.names) → Stands (way_of tells faulted) b v h'
     stands_made own =
         let now : Step = with_kept step made.append in
         let there : Holds tells faulted b.opening (v.seen ++ (moment, now) ∷ []) h' =

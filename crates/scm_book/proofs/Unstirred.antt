@@ -7,6 +7,7 @@ use Rattle.scm_model.specs.declared.calls.Request.TheVariants as request
 use Rattle.scm_model.specs.declared.codes.TheConstants.{ERROR_PROCESS_ABORTED}
 use Rattle.scm_model.specs.declared.flat.Flat.{Flat}
 use Rattle.scm_model.specs.declared.flat.Limits.{Limits}
+use Rattle.scm_model.specs.declared.flat.Order.{Order}
 use Rattle.scm_model.specs.declared.flat.Phase.TheVariants as phases
 use Rattle.scm_model.specs.declared.flat.Process.{Process}
 use Rattle.scm_model.specs.declared.flat.Service.{Service}
@@ -18,7 +19,7 @@ use Rattle.scm_model.specs.Changes.{with_moment}
 use Rattle.scm_model.specs.Entries.{with_kept}
 use Rattle.scm_model.specs.Rows.{held_service}
 use Rattle.scm_model.proofs.Found.{found_keeps}
-use Rattle.scm_rules.specs.Controls.{controlled_if, controlled_in, dequeued_if}
+use Rattle.scm_rules.specs.Controls.{controlled_if, controlled_in, dequeued_if, order_to}
 use Rattle.scm_rules.specs.Failures.{failed_by}
 use Rattle.scm_rules.specs.Launches.{current_of, first_wanted, launched_if, taken_if, with_fallen, without_process}
 use Rattle.scm_rules.specs.Steps.{at_moment, effect_of}
@@ -34,7 +35,7 @@ use Rattle.scm_book.specs.declared.ringing.Children.{Children}
 use Rattle.scm_book.specs.Ringing.{StirsNoOther, children_rung, controls_rung, is_rung, one_or_nobody}
 
 -- the controls of a process, if it is among these
-abbrev listed : ℕ → List Process → Option (List ℕ)
+abbrev listed : ℕ → List Process → Option (List Order)
 listed number rows = option_map (λ (row : Process). row.controls) (find (has number) rows)
 
 -- ## Changes of processes
@@ -42,7 +43,7 @@ listed number rows = option_map (λ (row : Process). row.controls) (find (has nu
 found_same : (change : Process → Process) → ((row : Process) → (change row).controls ≡ row.controls) → (found : Option Process)
     → option_map (λ (row : Process). row.controls) (option_map change found) ≡ option_map (λ (row : Process). row.controls) found
 found_same change same None = refl
-found_same change same (Some row) = ap (λ (codes : List ℕ). Some codes) (same row)
+found_same change same (Some row) = ap (λ (orders : List Order). Some orders) (same row)
 
 -- a change of anything but controls
 all_same : (number one : ℕ) (change : Process → Process) → IsOf one change → ((row : Process) → (change row).controls ≡ row.controls)
@@ -66,9 +67,9 @@ others_left number one other rows =
     ap (option_map (λ (row : Process). row.controls)) (find_filter (has number) (λ (row : Process). not (row.number == one))
     (λ row same. ap not (apart number one row other same)) rows)
 
-queues : (limit one code : ℕ) → IsOf one (controlled_if limit one code)
-queues limit one code = record {
-  number_same = λ row. ap (λ (r : Process). r.number) (controls_more limit one code row);
+queues : (limit one : ℕ) (order : Order) → IsOf one (controlled_if limit one order)
+queues limit one order = record {
+  number_same = λ row. ap (λ (r : Process). r.number) (controls_more limit one order row);
   others = λ row e. rw e refl;
 }
 
@@ -116,7 +117,8 @@ control_unstirred : (l : Limits) (f : Flat) (control number : ℕ) (found : Opti
     → listed number (controlled_in l control found f.processes) ≡ listed number f.processes
 control_unstirred l f control number None quiet = refl
 control_unstirred l f control number (Some row) quiet =
-    others_same number row.process (controlled_if l.controls row.process control) (queues l.controls row.process control) quiet
+    others_same number row.process (controlled_if l.controls row.process (order_to row.number control))
+    (queues l.controls row.process (order_to row.number control)) quiet
     f.processes
 
 call_unstirred : (l : Limits) (f : Flat) (moment caller : ℕ) (asked : Request) (append : Kept) (number : ℕ)
@@ -144,7 +146,7 @@ effect_unstirred l f moment LaunchTaken number low quiet =
 effect_unstirred l f moment (Launched process pid) number low quiet =
     all_same number process (launched_if process pid) (launches process pid) (launched_same process pid) f.processes
 effect_unstirred l f moment (LaunchFailed process code) number low quiet = others_left number process quiet f.processes
-effect_unstirred l f moment (Report process status) number low quiet =
+effect_unstirred l f moment (Report process service status) number low quiet =
     failing_apart (λ (g : Flat). listed number g.processes ≡ listed number f.processes) (failed_by status (current_of f process)) _ refl
 effect_unstirred l f moment (Ended process) number low quiet =
     failing_apart (λ (g : Flat). listed number (without_process g process).processes ≡ listed number f.processes) (current_of f process)

@@ -1,4 +1,4 @@
--- What a caller's calls come to.
+-- The outcomes of a caller's calls.
 use Rattle.std.specs.Prelude.{ℕ, ◌≡◌, ◌⊎◌, Bool, true, false, List, Option, None, Some, Result, Ok, Err}
 use Rattle.scm_model.specs.declared.codes.TheConstants.{ERROR_NOT_ENOUGH_MEMORY}
 use Rattle.scm_model.specs.declared.calls.Reply.{Reply}
@@ -26,7 +26,7 @@ use Rattle.scm_book.specs.Passes.{FindsNoMemory, FindsNoRoom, HasPlan, Known, Ma
 abbrev pub called : Known → Request → Step
 called k asked = Call k.caller asked appended.NotAsked
 
--- whoever makes the step is afterwards whose it was: nobody joins or goes by it
+-- a pass that makes the step belongs to the same caller afterwards: no caller joins or goes by it
 abbrev pub LeavesWhose : Step → Type 0
 LeavesWhose step = (f : Flat) (caller : ℕ) → whose_after f caller step ≡ caller
 
@@ -88,18 +88,18 @@ pub record StartWaits (o : Opening) (k : Known) (moment : ℕ) (asked : Request)
   pub made : MadeSo o k moment (called k asked) (answers.Begun plan) k'
   pub has : HasPlan o k' plan
 
-abbrev pub Starts : Opening → Known → ℕ → Request → Known → StartEnd → Type 0
-Starts o k moment asked k' (starts.Answered reply) = AnsweredSo o k moment asked reply k'
-Starts o k moment asked k' (starts.Waiting plan) = StartWaits o k moment asked plan k'
-Starts o k moment asked k' starts.Full = FindsNoRoom o k (called k asked) k'
-Starts o k moment asked k' starts.OutOfMemory = FindsNoMemory o k (called k asked) k'
+abbrev pub StartsAs : Opening → Known → ℕ → Request → Known → StartEnd → Type 0
+StartsAs o k moment asked k' (starts.Answered reply) = AnsweredSo o k moment asked reply k'
+StartsAs o k moment asked k' (starts.Waiting plan) = StartWaits o k moment asked plan k'
+StartsAs o k moment asked k' starts.Full = FindsNoRoom o k (called k asked) k'
+StartsAs o k moment asked k' starts.OutOfMemory = FindsNoMemory o k (called k asked) k'
 
 -- ## What is made of what a call was told
 
 abbrev pub IsReply : Answer → Type 0
 IsReply told = (reply : Reply) × (told ≡ answers.Reply reply)
 
--- a start is told a reply, or the plan under which it waits
+-- a start is answered with a reply, or with the plan under which it waits
 abbrev pub Begun : Answer → StartEnd → Type 0
 Begun (answers.Reply reply) end = end ≡ starts.Answered reply
 Begun (answers.Begun plan) end = end ≡ starts.Waiting plan

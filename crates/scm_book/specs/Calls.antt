@@ -1,4 +1,4 @@
--- What each call of the book comes to.
+-- The outcome of each call of the book.
 use Rattle.std.specs.Prelude.{ℕ, ◌≡◌, ◌≢◌, true, List, [], length, Option, Some}
 use mathlib.Core.List.{IsPrefix}
 use Rattle.scm_model.specs.declared.steps.Answer.TheVariants as answers

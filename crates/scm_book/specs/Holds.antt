@@ -14,7 +14,7 @@ use Rattle.scm_rules.specs.Owed.{owed}
 use Rattle.scm_core.specs.Managed.{AreSmall}
 use Rattle.scm_history.specs.Kept.{kept_changes}
 use Rattle.scm_book.specs.declared.held.Held.{Held}
-use Rattle.scm_book.specs.Naming.{names_made, named_in, whose_after}
+use Rattle.scm_book.specs.Naming.{names_made, all_names, whose_after}
 
 -- ## Faults
 
@@ -70,7 +70,7 @@ module _ {K : Type 0} (tells : K → Option (List ℕ)) (faulted : K → ℕ) wh
     fits = Holds;
     run = Runs;
     lives = Lives;
-    names = λ e. named_in e.1;
+    names = λ e. all_names e.1;
     makes = λ o log e. names_made (state o.limits o.first log) e.1;
     whose = λ o log caller e. whose_after (state o.limits o.first log) caller e.1;
   }

@@ -1,4 +1,4 @@
--- What joins come to, and the passes that are made and taken in.
+-- The outcomes of joins, and the passes that are made and taken in.
 use Rattle.std.specs.Prelude.{ℕ, ◌≡◌, Bool, true, false, nat_lt, List, [], length, Option, Result, Ok, Err, Box}
 use Rattle.std.specs.declared.alloc.Global.{Global}
 use mathlib.Core.List.{IsPrefix}
@@ -20,11 +20,11 @@ use Rattle.scm_book.specs.Turns.{known, of_badge}
 
 -- ## Causes
 
--- whether there are fewer callers than there may be behind a history
+-- whether there are fewer callers than there may be after a history
 abbrev pub has_place : Opening → List Entry → Bool
 has_place o log = nat_lt (length (state o.limits o.first log).callers) o.limits.callers
 
--- why nobody joins behind a history
+-- why a join after a history fails
 abbrev pub JoinCauseAt : Opening → List Entry → Principal → JoinFault → Type 0
 JoinCauseAt o log principal joins.TooMany = has_place o log ≡ false
 JoinCauseAt o log principal joins.Full = (has_place o log ≡ true) × (room_behind o log (Joined principal) ≡ false)
@@ -76,7 +76,7 @@ pub record Watches (o : Opening) (by by' : Known) : Type 0 where
 abbrev pub WatchesBy : Opening → Badge View → Badge View → Type 0
 WatchesBy o by by' = Watches o (of_badge by) (of_badge by')
 
--- the new pass ends with its Joined, which stands behind all that the other had seen and is its one own place; the other has seen it join
+-- the new pass ends with its Joined, which stands after all that the other had seen and is its one own place; the other has seen it join
 pub record Joins (o : Opening) (by : Known) (moment : ℕ) (principal : Principal) (by' p : Known) : Type 0 where
   pub made : MadeSo o (fresh by) moment (Joined principal) (answers.Caller p.caller) p
   pub seen : by'.seen ≡ p.seen

@@ -1,4 +1,4 @@
--- What the laws of the manager come to for the rule of turns.
+-- What the laws of the manager mean for the rule of turns.
 use Rattle.std.specs.Prelude.{ℕ, ◌≡◌, ◌⊎◌, true, IsTrue, List, [], ◌∷◌, ◌++◌, length, Option}
 use Rattle.scm_model.specs.declared.steps.Answer.{Answer}
 use Rattle.scm_model.specs.declared.steps.Step.{Step}
@@ -14,7 +14,7 @@ use Rattle.scm_book.specs.Holds.{Holds, Runs, way_of}
 use Rattle.scm_book.specs.Steps.{Adds, IsAsItWas, Makes, owed_step}
 
 module _ {K : Type 0} (tells : K → Option (List ℕ)) (faulted : K → ℕ) where
-  -- an entry that may be made behind a legal history, and is owed or finds room, is all that a commit asks
+  -- an entry that may be made after a legal history, and is owed or has room, is all that a commit asks for
   abbrev pub EachFollows : Type 0
   EachFollows = (o : Opening) (log : List Entry) (e : Entry) → Runs o log → IsTrue (may o.limits (state o.limits o.first log) e.0 e.1)
       → (is_owed e.1 ≡ true) ⊎ IsTrue (has_room o.limits (state o.limits o.first log) (length log) (text_in log) e.1)

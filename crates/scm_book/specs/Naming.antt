@@ -16,10 +16,10 @@ process_names None = []
 process_names (Some number) = names.Process number ∷ []
 
 -- whom a step is of
-abbrev pub named_in : Step → List Name
-named_in step = caller_names (caller_named step) ++ process_names (process_named step)
+abbrev pub all_names : Step → List Name
+all_names step = caller_names (caller_named step) ++ process_names (process_named step)
 
--- who joins or is taken in hand by a step, in the state before
+-- the caller that joins, or the process whose launch is taken, by a step in the state before
 abbrev pub names_made : Flat → Step → List Name
 names_made f step = caller_names (caller_made f step) ++ process_names (process_taken f step)
 

@@ -80,11 +80,11 @@ ClaimsIn o log k = Claims (way_of {K = Unit {0}} (λ keeper. None) (λ keeper. 0
 abbrev pub seen_state : Opening → Known → Flat
 seen_state o k = state o.limits o.first k.seen
 
--- whether a step may come behind a history
+-- whether a step may come after a history
 abbrev pub may_behind : Opening → List Entry → ℕ → Step → Bool
 may_behind o log moment step = may_come o.limits (state o.limits o.first log) moment step
 
--- whether the limits have room for a step behind a history
+-- whether the limits have room for a step after a history
 abbrev pub room_behind : Opening → List Entry → Step → Bool
 room_behind o log step = has_room o.limits (state o.limits o.first log) (length log) (text_in log) step
 
@@ -132,9 +132,9 @@ pub record FindsNoMemory (o : Opening) (k : Known) (step : Step) (k' : Known) : 
   pub learnt : Learnt o k k'
   pub free : room_behind o k'.seen step ≡ true
 
--- ## What a pass has in hand
+-- ## What a pass is responsible for
 
--- it took the process in hand, which has come so far
+-- the pass took the launch of the process, and the process is in this phase
 pub record HoldsProcess (o : Opening) (k : Known) (process : ℕ) (phase : Phase) : Type 0 where
   pub named : Has (names.Process process) k.names
   pub listed : phase_of (seen_state o k) process ≡ Some phase
@@ -144,7 +144,7 @@ pub record HasPlan (o : Opening) (k : Known) (plan : ℕ) : Type 0 where
   pub caller : k.caller ≢ 0
   pub there : plan_caller (seen_state o k).plans plan ≡ Some k.caller
 
--- what it has in hand it has still
+-- all that the pass was responsible for it still is
 pub record KeepsAll (o : Opening) (k k' : Known) : Type 0 where
   pub processes : (process : ℕ) (phase : Phase) → HoldsProcess o k process phase → HoldsProcess o k' process phase
   pub plans : (plan : ℕ) → HasPlan o k plan → HasPlan o k' plan

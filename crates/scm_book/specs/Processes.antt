@@ -1,4 +1,4 @@
--- What the calls of the book on processes come to.
+-- The outcomes of the calls of the book on processes.
 use Rattle.std.specs.Prelude.{ℕ, ◌≡◌, ◌≢◌, ◌⊎◌, Bool, true, false, List, Option, None, Some, Box}
 use Rattle.std.specs.declared.alloc.Global.{Global}
 use Rattle.atomic_table.specs.declared.shared.Seat.{Seat}
@@ -29,11 +29,11 @@ use Rattle.scm_book.specs.Turns.{DidBy, LeftIt}
 
 -- ## take_launch
 
--- whether a launch is wanted behind a history
+-- whether a launch is wanted after a history
 abbrev pub is_wanted_behind : Opening → List Entry → Bool
 is_wanted_behind o log = wants_launch (state o.limits o.first log).wanted
 
--- the path and the words of the launch that is wanted first behind a history
+-- the path and the words of the launch that is wanted first after a history
 abbrev pub line_behind : Opening → List Entry → List ℕ × List (List ℕ)
 line_behind o log = first_line (state o.limits o.first log) (state o.limits o.first log).wanted
 
@@ -43,7 +43,7 @@ pub record HandsOut (line : List ℕ × List (List ℕ)) (path path' : TextWithR
   pub rest : words ≡ line.1
 
 module _ {K : Type 0} where
-  -- nothing is wanted, and nothing changes; or the launch that is wanted first is taken in hand, and its line handed out
+  -- nothing is wanted, and nothing changes; or the launch that is wanted first is taken, and its line handed out
   abbrev pub HoldsLaunch : Held K → Held K → ℕ → TextWithRoom → TextWithRoom → Option TakenLaunch → Type 0
   HoldsLaunch h h' moment path path' None = (wants_launch h.manager.flat.wanted ≡ false) × (h' ≡ h) × (path' ≡ path)
   HoldsLaunch h h' moment path path' (Some taken) =
@@ -58,7 +58,7 @@ module _ {K : Type 0} where
         DidBy tells faulted b s s' moment LaunchTaken (answers.Launch taken.process)
         × HandsOut (line_behind b.opening s.me.0.seen) path path' taken.words
 
--- the pass has taken a process in hand, and its line is that of before
+-- the pass has taken the launch of a process, and its line is that of the state before
 pub record TakesInHand (o : Opening) (k : Known) (moment process : ℕ) (path path' : TextWithRoom) (words : List (List ℕ))
     (k' : Known) : Type 0 where
   pub made : Made o k moment LaunchTaken (answers.Launch process) k'
@@ -76,11 +76,11 @@ LaunchEnds o k moment room room' launches.Empty k' = Learnt o k k' × (is_wanted
 
 -- ## ended
 
--- whether a service has a process as its current one behind a history
+-- whether a service has a process as its current one after a history
 abbrev pub is_current_behind : Opening → List Entry → ℕ → Bool
 is_current_behind o log process = has_current (state o.limits o.first log) process
 
--- an end is told that it was taken, or that it is stale
+-- the answer to an end is that it was taken, or that it is stale
 abbrev pub IsEnd : Answer → Type 0
 IsEnd told = (told ≡ answers.Done) ⊎ (told ≡ answers.Stale)
 
@@ -94,9 +94,9 @@ EndedSo o k moment process ends.Taken k' = (made : Made o k moment (Ended proces
 EndedSo o k moment process ends.Stale k' = (made : Made o k moment (Ended process) answers.Stale k')
     × (is_current_behind o made.before process ≡ false)
 
--- ## What a pass has in hand still
+-- ## What a pass is still responsible for
 
--- what it has in hand it has still, but for one process
+-- all that the pass was responsible for it still is, except for one process
 pub record KeepsAllBut (o : Opening) (one : ℕ) (k k' : Known) : Type 0 where
   pub processes : (process : ℕ) (phase : Phase) → process ≢ one → HoldsProcess o k process phase → HoldsProcess o k' process phase
   pub plans : (plan : ℕ) → HasPlan o k plan → HasPlan o k' plan

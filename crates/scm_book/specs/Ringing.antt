@@ -2,6 +2,7 @@
 use Rattle.std.specs.Prelude.{ℕ, ◌≡◌, ◌<◌, ◌==◌, Bool, true, false, not, List, Option, None, Some, option_map}
 use Rattle.scm_model.specs.declared.flat.Flat.{Flat}
 use Rattle.scm_model.specs.declared.flat.Limits.{Limits}
+use Rattle.scm_model.specs.declared.flat.Order.{Order}
 use Rattle.scm_model.specs.declared.flat.Process.{Process}
 use Rattle.scm_model.specs.declared.calls.Request.{Request}
 use Rattle.scm_model.specs.declared.calls.Request.TheVariants as request
@@ -20,8 +21,8 @@ use Rattle.scm_book.specs.declared.ringing.Ring.{Ring}
 use Rattle.scm_book.specs.Holds.{Runs}
 
 -- the state that a step leaves, settled and purged, whatever became of its change
-abbrev pub after : Limits → Flat → ℕ → Step → Kept → Flat
-after l f moment step append = (step_of l f moment (with_kept step append)).flat
+abbrev pub state_after : Limits → Flat → ℕ → Step → Kept → Flat
+state_after l f moment step append = (step_of l f moment (with_kept step append)).flat
 
 -- ## The common bell
 
@@ -54,11 +55,11 @@ pub record IsAwaitedSo (before now : Flat) : Type 0 where
   pub wanted : now.wanted ≡ before.wanted
   pub processes : now.processes ≡ before.processes
 
--- behind each legal history the step leaves it so
+-- after each legal history the step leaves what is waited for as it was
 abbrev pub StirsNobody : Step → Type 0
 StirsNobody step =
     (o : Opening) (log : List Entry) (moment : ℕ) (append : Kept) → Runs o log
-    → IsAwaitedSo (state o.limits o.first log) (after o.limits (state o.limits o.first log) moment step append)
+    → IsAwaitedSo (state o.limits o.first log) (state_after o.limits (state o.limits o.first log) moment step append)
 
 -- ## The bells of processes
 
@@ -86,14 +87,14 @@ is_rung (children.One one) process = process == one
 is_rung children.All process = true
 
 -- the controls that wait for a process, if it is listed
-abbrev pub controls_listed : Flat → ℕ → Option (List ℕ)
+abbrev pub controls_listed : Flat → ℕ → Option (List Order)
 controls_listed f process = option_map (λ (row : Process). row.controls) (process_of f process)
 
 -- a process that isn't rung, of those whose numbers were given, is listed after the step if it was, with the controls that it had
 abbrev pub StirsNoOther : Flat → Step → Children → Type 0
 StirsNoOther f step rung =
     (l : Limits) (moment : ℕ) (append : Kept) (process : ℕ) → process < f.next.process → is_rung rung process ≡ false
-    → controls_listed (after l f moment step append) process ≡ controls_listed f process
+    → controls_listed (state_after l f moment step append) process ≡ controls_listed f process
 
 -- ## Both
 

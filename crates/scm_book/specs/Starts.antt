@@ -1,4 +1,4 @@
--- What a look after a start that waits comes to.
+-- The outcome of a look at a start that waits.
 use Rattle.std.specs.Prelude.{ℕ, ◌≡◌, ◌≢◌, List, Option, None, Some, Box}
 use Rattle.std.specs.declared.alloc.Global.{Global}
 use mathlib.Core.List.{IsPrefix}
@@ -24,17 +24,17 @@ use Rattle.scm_book.specs.Holds.{Lives, Runs}
 use Rattle.scm_book.specs.Passes.{ClaimsIn, HasPlan, HoldsProcess, KeepsAll, Known, Learnt, Made}
 use Rattle.scm_book.specs.Turns.{DidBy, LeftIt, of_badge}
 
--- a plan isn't decided yet behind a history
+-- a plan isn't decided yet after a history
 abbrev pub IsUndecided : Opening → List Entry → ℕ → Type 0
 IsUndecided o log plan = code_of (state o.limits o.first log).plans plan ≡ None
 
--- behind a history a plan is there, of a caller that lives and is one of these
+-- after a history a plan is there, of a caller that lives and is one of these
 pub record IsThere (o : Opening) (log : List Entry) (own : List Name) (caller plan : ℕ) : Type 0 where
   pub mine : Has (names.Caller caller) own
   pub lives : Lives o log caller
   pub there : plan_caller (state o.limits o.first log).plans plan ≡ Some caller
 
--- behind each history that goes on from what a pass has seen
+-- after each history that goes on from what a pass has seen
 abbrev pub AlwaysThere : Opening → Known → ℕ → ℕ → Type 0
 AlwaysThere o k caller plan = (log : List Entry) → IsPrefix k.seen log → Runs o log → ClaimsIn o log k → IsThere o log k.names caller plan
 
@@ -43,8 +43,8 @@ abbrev pub Ends : Opening → Known → ℕ → ℕ → ℕ → Known → Option
 Ends o k moment caller plan k' (Some told) = Made o k moment (EndStart caller plan) told k'
 Ends o k moment caller plan k' None = Learnt o k k' × IsUndecided o k'.seen plan
 
-abbrev pub EndsBy : Opening → Badge View → ℕ → ℕ → ℕ → Badge View → Option Answer → Type 0
-EndsBy o badge moment caller plan badge' r = Ends o (of_badge badge) moment caller plan (of_badge badge') r
+abbrev pub IsEndBy : Opening → Badge View → ℕ → ℕ → ℕ → Badge View → Option Answer → Type 0
+IsEndBy o badge moment caller plan badge' r = Ends o (of_badge badge) moment caller plan (of_badge badge') r
 
 module _ {K : Type 0} (tells : K → Option (List ℕ)) (faulted : K → ℕ) (b : Identity) (s s' : Seat (Option (Box (Held K) Global)) View) where
   abbrev pub DidEnd : ℕ → ℕ → ℕ → Option Answer → Type 0
@@ -57,7 +57,7 @@ abbrev pub EndLooks : Opening → Known → ℕ → ℕ → Known → EndLook �
 EndLooks o k moment plan k' (looks.Done reply) = Made o k moment (EndStart k.caller plan) (answers.Reply reply) k'
 EndLooks o k moment plan k' looks.Again = Learnt o k k' × IsUndecided o k'.seen plan
 
--- what a pass has in hand it has still, but for one plan
+-- all that a pass was responsible for it still is, except for one plan
 pub record KeepsAllButPlan (o : Opening) (one : ℕ) (k k' : Known) : Type 0 where
   pub processes : (process : ℕ) (phase : Phase) → HoldsProcess o k process phase → HoldsProcess o k' process phase
   pub plans : (plan : ℕ) → plan ≢ one → HasPlan o k plan → HasPlan o k' plan

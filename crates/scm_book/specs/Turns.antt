@@ -23,32 +23,32 @@ use Rattle.scm_book.specs.declared.fault.StepFault.{StepFault}
 use Rattle.scm_book.specs.declared.fault.StepFault.TheVariants as faults
 use Rattle.scm_book.specs.declared.held.Held.{Held}
 use Rattle.scm_book.specs.Holds.{Holds, Runs, way_of}
-use Rattle.scm_book.specs.Naming.{named_in}
+use Rattle.scm_book.specs.Naming.{all_names}
 use Rattle.scm_book.specs.Passes.{ClaimsIn, IsOf, KeepsAll, Known, Learnt, Made, MadeSo, Rests, known_of, knows, may_behind, room_behind}
 
--- the step names nobody but these
+-- the step names none but these
 abbrev pub NamesNoOther : List Name → Step → Type 0
-NamesNoOther names step = (n : Name) → Has n (named_in step) → Has n names
+NamesNoOther names step = (n : Name) → Has n (all_names step) → Has n names
 
--- a step may come behind a history, and names nobody but these
+-- a step may come after a history, and names none but these
 pub record MayMake (o : Opening) (log : List Entry) (names : List Name) (moment : ℕ) (step : Step) : Type 0 where
   pub may : IsTrue (may_behind o log moment step)
   pub own : NamesNoOther names step
 
--- behind what a seat has seen, and of its own
+-- after what a seat has seen, with names of its own
 abbrev pub MayMakeBy : Opening → View → ℕ → Step → Type 0
 MayMakeBy o v moment step = MayMake o v.seen v.names moment step
 
--- a step may come behind each history that goes on from what a pass has seen
+-- a step may come after each history that goes on from what a pass has seen
 abbrev pub AlwaysMay : Opening → Known → ℕ → Step → Type 0
 AlwaysMay o k moment step = (log : List Entry) → IsPrefix k.seen log → Runs o log → ClaimsIn o log k → MayMake o log k.names moment step
 
--- why a step that may come isn't made behind a history
+-- why a step that may come isn't made after a history
 abbrev pub MakeCause : Opening → List Entry → Step → MakeFault → Type 0
 MakeCause o log step makes.Full = room_behind o log step ≡ false
 MakeCause o log step makes.OutOfMemory = room_behind o log step ≡ true
 
--- why a step isn't made behind a history
+-- why a step isn't made after a history
 abbrev pub StepCause : Opening → List Entry → ℕ → Step → StepFault → Type 0
 StepCause o log moment step faults.NotNow = may_behind o log moment step ≡ false
 StepCause o log moment step faults.Full = (may_behind o log moment step ≡ true) × (room_behind o log step ≡ false)
@@ -71,7 +71,7 @@ MadeBy o badge moment step told badge' = Made o (of_badge badge) moment step tol
 abbrev pub KeepsAllBy : Opening → Badge View → Badge View → Type 0
 KeepsAllBy o badge badge' = KeepsAll o (of_badge badge) (of_badge badge')
 
--- what a step comes to that isn't owed: it was made, and told this; or it wasn't, for this cause in the state of the new history
+-- the outcome of a step that isn't owed: it was made, with this answer; or it wasn't, for this cause in the state of the new history
 abbrev pub StepEnds : Opening → Known → ℕ → Step → Result Answer StepFault → Known → Type 0
 StepEnds o k moment step (Ok told) k' = MadeSo o k moment step told k'
 StepEnds o k moment step (Err fault) k' = Learnt o k k' × StepCause o k'.seen moment step fault
@@ -79,8 +79,8 @@ StepEnds o k moment step (Err fault) k' = Learnt o k k' × StepCause o k'.seen m
 abbrev pub StepEndsBy : Opening → Badge View → ℕ → Step → Badge View → Result Answer StepFault → Type 0
 StepEndsBy o badge moment step badge' r = StepEnds o (of_badge badge) moment step r (of_badge badge')
 
--- what a caller's call comes to: it was made, and told this; or there was room for it and no memory, and that stands in its place; or no
--- step was made
+-- the outcome of a caller's call: it was made, with this answer; or there was room for it but no memory, and NoMemory stands in its place;
+-- or no step was made
 abbrev pub CallEnds : Opening → Known → ℕ → ℕ → Step → Result (Option Answer) MakeFault → Known → Type 0
 CallEnds o k moment caller call (Ok (Some told)) k' = MadeSo o k moment call told k'
 CallEnds o k moment caller call (Ok None) k' = (told : Answer) × (made : MadeSo o k moment (NoMemory caller) told k')
@@ -93,7 +93,7 @@ CallEndsBy o badge moment caller call badge' r = CallEnds o (of_badge badge) mom
 -- ## Within a turn
 
 module _ {K : Type 0} (tells : K → Option (List ℕ)) (faulted : K → ℕ) where
-  -- a seat that has the turn has seen a legal history, at whose end stands what it has in hand
+  -- a seat that has the turn has seen a legal history, and what it holds stands at the end of that history
   pub record HasTurn (b : Identity) (s : Seat (Option (Box (Held K) Global)) View) (h : Held K) : Type 0 where
     pub seat : Holding b s
     pub holds : Holds tells faulted b.opening s.me.0.seen h

@@ -20,7 +20,7 @@ pub struct NotJoined {
     pub root: Pass,
 }
 
-/// What a call comes to.
+/// The outcome of a call.
 #[derive(Drop)]
 pub enum CallEnd {
     /// It was made. Where there was no memory for its effect, this is its refusal with 8.
@@ -31,7 +31,7 @@ pub enum CallEnd {
     OutOfMemory,
 }
 
-/// What the begin of a start comes to.
+/// The outcome of the begin of a start.
 #[derive(Drop)]
 pub enum StartEnd {
     /// It was decided at once. Where there was no memory for its effect, this is its refusal with
@@ -45,7 +45,7 @@ pub enum StartEnd {
     OutOfMemory,
 }
 
-/// What a look after a start that waits comes to.
+/// The outcome of a look at a start that waits.
 #[derive(Drop)]
 pub enum EndLook {
     /// It was decided, and this is its answer.

@@ -4,7 +4,7 @@ ghost use Rattle.scm_model.specs.Ranges.{in_range};
 ghost use Rattle.scm_rules.specs.Opening.{IsOpening};
 ghost use Rattle.scm_core.specs.Managed.{AreSmall};
 ghost use Rattle.record_journal.specs.Bearing.{Bears};
-ghost use Rattle.scm_book.specs.Called.{Calls, LeavesWhose, Raises, Starts, is_start};
+ghost use Rattle.scm_book.specs.Called.{Calls, LeavesWhose, Raises, StartsAs, is_start};
 ghost use Rattle.scm_book.specs.Calls.{BeginsWith, Closes, Goes};
 ghost use Rattle.scm_book.specs.Holds.{Opens};
 ghost use Rattle.scm_book.specs.Joins.{BecomesCaller, JoinCause, Joins, TakesIn, Watches};
@@ -239,8 +239,8 @@ impl<K: Keeper> Book<K> {
             .call_by(rt, moment, call, caller, &mut pass.badge)
     }
 
-    /// Makes a call that is no start. What it is told is the answer of its entry, which stands at
-    /// the pass's last own place, whatever others did between.
+    /// Makes a call that is no start. It returns the answer of its entry, which stands at the
+    /// pass's last own place, whatever others did between.
     pub fn call<R: Wait>(&self, rt: &R, pass: &mut Pass, moment: u64, request: Request) -> CallEnd
         requires book { IsOf self.now pass.old }
         requires caller { pass.old.caller ≢ 0 }
@@ -263,8 +263,8 @@ impl<K: Keeper> Book<K> {
         call_end(self.shared.alloc, &call.step, ended)
     }
 
-    /// Raises the triggers with a subtype, a UUID as it lies in memory. What it is told is the code
-    /// that its entry was answered, as with `call`.
+    /// Raises the triggers with a subtype, a UUID as it lies in memory. It returns the code that is
+    /// the answer of its entry, as with `call`.
     pub fn raise<R: Wait>(&self, rt: &R, pass: &mut Pass, moment: u64, subtype: [u8; 16]) -> CallEnd
         requires book { IsOf self.now pass.old }
         requires caller { pass.old.caller ≢ 0 }
@@ -278,7 +278,7 @@ impl<K: Keeper> Book<K> {
         call_end(self.shared.alloc, &raise.step, ended)
     }
 
-    /// Begins a start. What it is told is the answer of its entry, as with `call`.
+    /// Begins a start. It returns the answer of its entry, as with `call`.
     pub fn begin_start<R: Wait>(
         &self,
         rt: &R,
@@ -291,7 +291,7 @@ impl<K: Keeper> Book<K> {
         requires start { is_start request ≡ true }
         requires ranged { IsTrue (in_range request) }
         ensures book { IsOf self.now pass.new }
-        ensures starts { Starts self.now.opening pass.old moment request pass.new result }
+        ensures starts { StartsAs self.now.opening pass.old moment request pass.new result }
         ensures keeps { KeepsAll self.now.opening pass.old pass.new }
     {
         let mut call = PendingEntry {

@@ -45,8 +45,8 @@ impl<K: Keeper> Shared<K> {
         }
     }
 
-    /// Makes a caller's call, with the turn held. Where there is no memory for it, that stands in
-    /// its place, and none is told.
+    /// Makes a caller's call, with the turn held. If there is no memory for it, the entry that says
+    /// so stands in its place, and the result is `None`.
     fn add_call<R: Wait>(
         &self,
         rt: &R,
@@ -79,8 +79,8 @@ impl<K: Keeper> Shared<K> {
         }
     }
 
-    /// Makes a caller's call at the end of the history; none is told where there was no memory for
-    /// it.
+    /// Makes a caller's call at the end of the history. The result is `None` if there was no memory
+    /// for it.
     pub fn call_by<R: Wait>(
         &self,
         rt: &R,
@@ -127,7 +127,7 @@ pub fn reply_of(told: Answer) -> Reply
     reply
 }
 
-/// What a start is told: a reply, or the plan under which it waits.
+/// What a start is answered: a reply, or the plan under which it waits.
 fn begun_of(told: Answer) -> StartEnd
     requires { IsBegun told }
     ensures { Begun told result }
@@ -139,7 +139,7 @@ fn begun_of(told: Answer) -> StartEnd
     }
 }
 
-/// What a call that is no start comes to. Where there was no memory for it, it is refused.
+/// The outcome of a call that is no start. If there was no memory for it, it is refused.
 #[inline(always)]
 pub fn call_end(alloc: Global, call: &Step, ended: Result<Option<Answer>, MakeFault>) -> CallEnd
     requires { IfTold IsReply ended }
@@ -153,7 +153,7 @@ pub fn call_end(alloc: Global, call: &Step, ended: Result<Option<Answer>, MakeFa
     }
 }
 
-/// What a start comes to. Where there was no memory for it, it is refused.
+/// The outcome of a start. If there was no memory for it, it is refused.
 pub fn start_end(alloc: Global, call: &Step, ended: Result<Option<Answer>, MakeFault>) -> StartEnd
     requires { IfTold IsBegun ended }
     ensures { StartTold ended (refusal_of call.now) result }

@@ -3,7 +3,7 @@ ghost use Rattle.std.specs.Prelude.{IfSome};
 ghost use Rattle.book_rule.specs.Seats.{Waits};
 ghost use Rattle.scm_book.specs.Called.{IsReply};
 ghost use Rattle.scm_book.specs.Looks.{EndTold};
-ghost use Rattle.scm_book.specs.Starts.{AlwaysThere, DidEnd, EndsBy, IsThere};
+ghost use Rattle.scm_book.specs.Starts.{AlwaysThere, DidEnd, IsEndBy, IsThere};
 ghost use Rattle.scm_book.specs.Turns.{HasTurn, IsSeated, of_badge};
 
 use crate::answers::EndLook;
@@ -55,7 +55,7 @@ impl<K: Keeper> Shared<K> {
         requires badge { IsSeated self.now.turn badge.old }
         requires there { AlwaysThere self.now.turn.opening (of_badge badge.old) caller plan }
         ensures badge { IsSeated self.now.turn badge.new }
-        ensures ends { EndsBy self.now.turn.opening badge.old moment caller plan badge.new result }
+        ensures ends { IsEndBy self.now.turn.opening badge.old moment caller plan badge.new result }
     {
         let mut seat = self.sit(badge);
         let held = self.turn.enter(rt, &mut seat);
@@ -65,7 +65,7 @@ impl<K: Keeper> Shared<K> {
     }
 }
 
-/// What a look after a start that waits comes to.
+/// The outcome of a look at a start that waits.
 pub fn end_look(ended: Option<Answer>) -> EndLook
     requires { IfSome ended IsReply }
     ensures { EndTold ended result }

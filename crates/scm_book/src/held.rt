@@ -180,9 +180,9 @@ impl<K: Keeper> Held<K> {
         }
     }
 
-    /// Makes a step that isn't owed, with a note of it that was made before, and uses both up. What
-    /// it tells of what became of its change plays no part: that is told by what the append of the
-    /// change came to. All memory is made first.
+    /// Makes a step that isn't owed, with a note of it that was made before, and uses both up. The
+    /// `kept` that the step came with is ignored: the outcome of the append of its change takes its
+    /// place. All memory is made first.
     #[inline(always)]
     pub fn make_pending(
         &mut self,

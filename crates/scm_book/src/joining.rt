@@ -65,7 +65,8 @@ impl<K: Keeper> Shared<K> {
         requires badge { IsSeated self.now.turn badge.old }
         requires opens { Opens self.now.turn.opening }
         ensures badge { IsSeated self.now.turn badge.new }
-        ensures ends { JoinEndsBy self.now.turn.opening badge.old moment principal badge.new result }
+        ensures ends { JoinEndsBy self.now.turn.opening badge.old moment principal badge.new
+            result }
     {
         let mut seat = self.sit(badge);
         let joined = self.join_at(rt, moment, principal, &mut seat);

@@ -1,4 +1,4 @@
-// The launch that is wanted first is taken in hand, and its line handed out.
+// The launch that is wanted first is taken, and its line handed out.
 ghost use Rattle.std.specs.Prelude.{◌≡◌, ◌≤◌, ◌<◌, ◌+◌, ◌^◌, [], IfOk, IsTrue};
 ghost use Rattle.scm_rules.specs.Steps.{wants_launch};
 ghost use Rattle.book_rule.specs.Seats.{Waits};
@@ -48,7 +48,7 @@ impl LaunchRoom {
     }
 }
 
-/// A process that was taken in hand, and the words of its line.
+/// A process whose launch was taken, and the words of its line.
 #[derive(Drop)]
 pub struct TakenLaunch {
     pub process: u64,
@@ -56,8 +56,8 @@ pub struct TakenLaunch {
 }
 
 impl<K: Keeper> Held<K> {
-    /// Takes the launch that is wanted first in hand, leaves its path in `path` and hands out its
-    /// words. `None` where nothing is wanted; nothing then changes. It takes no memory.
+    /// Takes the launch that is wanted first, leaves its path in `path` and hands out its words.
+    /// `None` if nothing is wanted; nothing then changes. It takes no memory.
     pub(crate) fn take_launch(&mut self, moment: u64, path: &mut TextRoom) -> Option<TakenLaunch>
         requires path { 2048 ≤ path.old.room }
         requires steps { self.old.manager.steps < 2 ^ 50 }
@@ -77,7 +77,7 @@ impl<K: Keeper> Held<K> {
 }
 
 impl<K: Keeper> Shared<K> {
-    /// Takes the launch that is wanted first in hand, with the turn held.
+    /// Takes the launch that is wanted first, with the turn held.
     fn add_taken<R: Wait>(
         &self,
         rt: &R,
@@ -101,7 +101,7 @@ impl<K: Keeper> Shared<K> {
         Some(taken)
     }
 
-    /// Takes the launch that is wanted first in hand, at the end of the history.
+    /// Takes the launch that is wanted first, at the end of the history.
     pub fn take_by<R: Wait>(
         &self,
         rt: &R,

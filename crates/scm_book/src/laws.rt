@@ -1,11 +1,11 @@
-// What the laws of the manager come to for the rule of turns.
+// What the laws of the manager mean for the rule of turns.
 ghost use Rattle.scm_book.specs.Laws.{EachFollows, KeepsStanding};
 
 use record_journal::Keeper;
 
-/// An entry that may be made behind a legal history, and is owed or finds room, is all that a
-/// commit asks: the longer history is legal, whom the entry makes nobody made or named before, and
-/// callers whom it doesn't name live on.
+/// An entry that may be made after a legal history, and is owed or has room, is all that a commit
+/// asks for: the longer history is legal, no earlier entry made or named those that this entry
+/// makes, and callers that it doesn't name live on.
 pub fn each_entry_follows<K: Keeper>()
     ensures { EachFollows K.held K.faults }
 {}

@@ -5,13 +5,13 @@ ghost use Rattle.scm_book.specs.Steps.{owed_step};
 use scm_model::Step;
 use scm_trail::Note;
 
-/// A step that is owed: it takes place without being asked for, and its room was made when it came
-/// to be owed. It holds no memory.
+/// A step that is owed: it takes place without being asked for, and its room was made when it
+/// became owed. It holds no memory.
 #[derive(Clone, Copy)]
 pub enum Owed {
     /// A start that waited is answered.
     EndStart { caller: u64, plan: u64 },
-    /// The launch that is wanted first is taken in hand.
+    /// The launch that is wanted first is taken.
     LaunchTaken,
     /// A process was launched. The system's number of it is `pid`.
     Launched { process: u64, pid: u32 },

@@ -17,13 +17,13 @@ use std::sync::Wait;
 /// What a look for a launch finds.
 #[derive(Clone, Copy, Drop, PartialEq, Eq)]
 pub enum LaunchLook {
-    /// The process that was taken in hand. Its line lies in the room that was handed in.
+    /// The process whose launch was taken. Its line lies in the room that was passed in.
     Launch(u64),
     /// Nothing is wanted.
     Empty,
 }
 
-/// What the end of a process comes to.
+/// The outcome of the end of a process.
 #[derive(Clone, Copy, Drop, PartialEq, Eq)]
 pub enum EndedEnd {
     Taken,
@@ -32,8 +32,7 @@ pub enum EndedEnd {
 }
 
 impl<K: Keeper> Book<K> {
-    /// Takes the launch that is wanted first in hand, and leaves its line in `room`. It takes no
-    /// memory.
+    /// Takes the launch that is wanted first, and leaves its line in `room`. It takes no memory.
     pub fn take_launch<R: Wait>(
         &self,
         rt: &R,
@@ -44,7 +43,8 @@ impl<K: Keeper> Book<K> {
         requires book { IsOf self.now pass.old }
         requires path { 2048 ≤ room.old.path.room }
         ensures book { IsOf self.now pass.new }
-        ensures look { LaunchEnds self.now.opening pass.old moment room.old room.new result pass.new }
+        ensures look { LaunchEnds self.now.opening pass.old moment room.old room.new result
+            pass.new }
         ensures path { room.new.path.room ≡ room.old.path.room }
         ensures keeps { KeepsAll self.now.opening pass.old pass.new }
     {
@@ -59,7 +59,7 @@ impl<K: Keeper> Book<K> {
         LaunchLook::Launch(process)
     }
 
-    /// The process that the pass took in hand was launched. The system's number of it is `pid`.
+    /// The process whose launch the pass took was launched. The system's number of it is `pid`.
     /// That always takes place.
     pub fn launched<R: Wait>(&self, rt: &R, pass: &mut Pass, moment: u64, process: u64, pid: u32)
         requires book { IsOf self.now pass.old }
@@ -74,8 +74,8 @@ impl<K: Keeper> Book<K> {
         let _done = self.shared.owe_by(rt, moment, launched, &mut pass.badge);
     }
 
-    /// The process that the pass took in hand could not be launched, for this error of the system.
-    /// That always takes place.
+    /// The process whose launch the pass took could not be launched, because of this error of the
+    /// system. That always takes place.
     pub fn launch_failed<R: Wait>(
         &self,
         rt: &R,

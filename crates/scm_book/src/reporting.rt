@@ -5,7 +5,13 @@ ghost use Rattle.scm_model.specs.declared.steps.Answer.TheVariants as answers;
 ghost use Rattle.scm_history.specs.Shapes.{IsControl};
 ghost use Rattle.scm_book.specs.Passes.{HoldsProcess, IsOf, KeepsAll};
 ghost use Rattle.scm_book.specs.Reporting.{ControlEnds, ControlTold, IfControl, IsReport};
-ghost use Rattle.scm_book.specs.Reporting.{IsTick, LooksForBy, ReportEnds, TickEnds, told_of_report};
+ghost use Rattle.scm_book.specs.Reporting.{
+  IsTick,
+  LooksForBy,
+  ReportEnds,
+  TickEnds,
+  told_of_report,
+};
 ghost use Rattle.scm_book.specs.Reporting.{told_of_tick};
 ghost use Rattle.scm_book.specs.Turns.{IsSeated};
 
@@ -17,10 +23,10 @@ use crate::shared::Shared;
 use atomic_table::Badge;
 use book_rule::View;
 use record_journal::Keeper;
-use scm_model::{Answer, Status, Step};
+use scm_model::{Answer, Order, Status, Step};
 use std::sync::Wait;
 
-/// What a report comes to.
+/// The outcome of a report.
 #[derive(Clone, Copy, Drop, PartialEq, Eq)]
 pub enum ReportEnd {
     Taken,
@@ -34,14 +40,14 @@ pub enum ReportEnd {
     OutOfMemory,
 }
 
-/// What a look for a control comes to.
+/// The outcome of a look for a control.
 #[derive(Clone, Copy, Drop, PartialEq, Eq)]
 pub enum ControlLook {
-    /// The control that waited first, which waits no longer.
-    Control(u32),
+    /// The order that waited first, which waits no longer.
+    Control(Order),
     /// None waits. No step was made.
     Empty,
-    /// The process isn't listed: it ended, and gets no control more. No step was made.
+    /// The process isn't listed: it ended, and gets no further control. No step was made.
     Over,
     /// The limits have no room for it. No step was made.
     Full,
@@ -49,7 +55,7 @@ pub enum ControlLook {
     OutOfMemory,
 }
 
-/// What a look for what is due comes to.
+/// The outcome of a look for what is due.
 #[derive(Clone, Copy, Drop, PartialEq, Eq)]
 pub enum TickEnd {
     Ticked,
@@ -61,7 +67,7 @@ pub enum TickEnd {
     OutOfMemory,
 }
 
-/// What the step that takes a control comes to, and how many waited where it looked.
+/// The outcome of the step that takes a control, and how many controls waited when it looked.
 #[derive(Drop)]
 pub struct Looked {
     pub ended: Result<Answer, StepFault>,
@@ -86,7 +92,12 @@ impl<K: Keeper> Book<K> {
         ensures keeps { KeepsAll self.now.opening pass.old pass.new }
     {
         let status = *status;
-        let mut step = PendingEntry::new(self.shared.alloc, Step::Report { process, status });
+        let report = Step::Report {
+            process,
+            service: 0,
+            status,
+        };
+        let mut step = PendingEntry::new(self.shared.alloc, report);
         let ended = self.shared.make_by(rt, moment, &mut step, &mut pass.badge);
         report_of(ended)
     }
@@ -160,15 +171,15 @@ fn report_of(ended: Result<Answer, StepFault>) -> ReportEnd
     }
 }
 
-/// The code in an answer that is a control.
-fn control_in(told: Answer) -> u32
+/// The order in an answer that is one.
+fn control_in(told: Answer) -> Order
     requires { IsControl told }
     ensures { told ≡ answers.Control result }
 {
-    let Answer::Control(code) = told else {
+    let Answer::Control(order) = told else {
         unreachable!()
     };
-    code
+    order
 }
 
 /// What a look for a control was told.

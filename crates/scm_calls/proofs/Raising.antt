@@ -6,7 +6,7 @@ use Rattle.std.specs.Prelude.{IfOk}
 use Rattle.scm_model.specs.declared.calls.Reply.TheVariants as reply
 use Rattle.ndr_body.specs.declared.fault.BodyFault.{BodyFault}
 use Rattle.ndr_body.specs.declared.fault.BodyFault.TheVariants.{Trailing}
-use Rattle.ndr_body.specs.Reading.{Gives, finished, is_ended}
+use Rattle.ndr_body.specs.Reading.{Gives, ended_at, is_ended}
 use Rattle.ndr_body.specs.Spelled.{IsEnded}
 use Rattle.ndr_body.proofs.Spelled.{IsBytes, bind_ok, ok_is}
 use Rattle.ndr_body.proofs.SpelledPointers.{ended_finished, finished_ended}
@@ -26,8 +26,8 @@ ends_alone body h lt = elim h [
   | inr few ↦ omega (arith, few.0, few.1, lt)
 ]
 
-goes_on : (body : List ℕ) → 16 < length body → finished body 16 ≡ Err (Trailing 16)
-unfolding finished
+goes_on : (body : List ℕ) → 16 < length body → ended_at body 16 ≡ Err (Trailing 16)
+unfolding ended_at
 goes_on body lt = elim (cases_Bool (is_ended body 16)) [
   | inl ended ↦ absurd (ends_alone body (finished_ended body 16 (rw ended refl)) lt)
   | inr not ↦ rw not refl

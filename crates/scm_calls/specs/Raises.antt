@@ -2,7 +2,7 @@
 use Rattle.std.specs.Prelude.{◌≡◌, ℕ, nat_lt, List, length, take, Result, Ok, Err, if◌then◌else◌}
 use Rattle.ndr_body.specs.declared.fault.BodyFault.{BodyFault}
 use Rattle.ndr_body.specs.declared.fault.BodyFault.TheVariants.{Short}
-use Rattle.ndr_body.specs.Reading.{◌>>=◌, finished}
+use Rattle.ndr_body.specs.Reading.{◌>>=◌, ended_at}
 use Rattle.scm_model.specs.declared.calls.Reply.TheVariants as reply
 use Rattle.scm_shapes.specs.Shapes.{first_number}
 use Rattle.scm_shapes.specs.Calls.{read_as}
@@ -15,7 +15,7 @@ use Rattle.scm_calls.specs.Replies.{reply_shape, reply_values}
 unfoldable pub raise_at : List ℕ → Result (List ℕ) BodyFault
 raise_at body =
     if nat_lt (length body) SUBTYPE_BYTES then Err (Short 0)
-    else (finished body SUBTYPE_BYTES >>= λ ended. Ok (take SUBTYPE_BYTES body))
+    else (ended_at body SUBTYPE_BYTES >>= λ ended. Ok (take SUBTYPE_BYTES body))
 
 -- Bytes are a body that raises a subtype: they are its own. With one to three more the length would be no multiple of 4.
 pub record IsRaise (bytes subtype : List ℕ) : Type 0 where

@@ -106,15 +106,15 @@ asked_size (request.QueryConfig2 handle level size) = size
 asked_size _ = 0
 
 -- how many bytes a text takes in a caller's buffer, with its last 0
-abbrev pub taken_by : List ℕ → ℕ
-taken_by text = 2 * (length text + 1)
+abbrev pub buffer_bytes : List ℕ → ℕ
+buffer_bytes text = 2 * (length text + 1)
 
 -- how many bytes a configuration takes there: its numbers and its texts
 abbrev pub bytes_needed : Shown → ℕ
-bytes_needed shown = 36 + taken_by shown.path + taken_by shown.group + taken_by shown.needs + taken_by shown.account
-    + taken_by shown.display
+bytes_needed shown = 36 + buffer_bytes shown.path + buffer_bytes shown.group + buffer_bytes shown.needs + buffer_bytes shown.account
+    + buffer_bytes shown.display
 
--- bytes that are told of a size are of the one that was asked for, and none is left out
+-- the size that a reply states with its bytes is the one that was asked for, and all the bytes fit in it
 pub record IsWhole (size told : ℕ) (bytes : List ℕ) : Type 0 where
   pub is : told ≡ size
   pub whole : length bytes ≤ size

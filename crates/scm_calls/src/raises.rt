@@ -61,11 +61,11 @@ fn read_code(alloc: Global, body: &[u8]) -> Result<u32, BodyFault>
     Ok(values.number())
 }
 
-/// The code that the body of a reply to a raise tells.
+/// The code in the body of a reply to a raise.
 pub fn read_raise_reply(alloc: Global, body: &[u8]) -> Result<u32, BodyFault>
-    // What is read is told by the body, whatever its padding is.
+    // A code that is read is the body's, whatever the padding is.
     ensures found { IfOk result (λ code. IsRaiseReply body.now code) }
-    // What the body tells is read.
+    // The body's code is read.
     ensures only { (code : ℕ) → IsRaiseReply body.now code → Gives (λ c. c) result (Ok code) }
     // No memory is taken for it.
     ensures memory { FindsMemory result }
@@ -75,8 +75,8 @@ pub fn read_raise_reply(alloc: Global, body: &[u8]) -> Result<u32, BodyFault>
     read_code(alloc, body)
 }
 
-/// Writes the body of a reply to a raise behind what the buffer holds. Without memory the buffer is
-/// given back as it was.
+/// Writes the body of a reply to a raise after what the buffer holds. If memory runs out, the
+/// buffer is given back as it was.
 pub fn write_raise_reply(
     code: u32,
     out: Buffer<u8>,

@@ -125,7 +125,7 @@ fn notice(values: &mut Values) -> Reply
     }
 }
 
-/// What is told by the values of a body.
+/// The reply that the values of a body make up.
 pub fn reply_of(alloc: Global, kind: ReplyKind, values: &mut Values) -> Reply
     ensures { result ≡ reply_from kind values.old }
 {
@@ -288,8 +288,8 @@ fn put_filled(reply: &Reply, out: Buffer<u8>) -> Result<Buffer<u8>, (OutOfMemory
     }
 }
 
-/// Writes the body of a reply behind what the buffer holds. Without memory the buffer is given back
-/// as it was.
+/// Writes the body of a reply after what the buffer holds. If memory runs out, the buffer is given
+/// back as it was.
 pub fn put_reply(reply: &Reply, out: Buffer<u8>) -> Result<Buffer<u8>, (OutOfMemory, Buffer<u8>)>
     ensures { IsWritten (reply_values reply.now) out result }
 {

@@ -189,8 +189,8 @@ fn put_new(new: &NewService, out: Buffer<u8>) -> Result<Buffer<u8>, (OutOfMemory
     )
 }
 
-/// Writes the body of a request behind what the buffer holds, where its line is here. Without
-/// memory the buffer is given back as it was.
+/// Writes the body of a request after what the buffer holds, if its call is one of this crate's. If
+/// memory runs out, the buffer is given back as it was.
 pub fn put_request(
     request: &Request,
     out: Buffer<u8>,

@@ -80,8 +80,8 @@ pub fn request_of(call: Call, values: &mut Values) -> Request
     }
 }
 
-/// Writes the body of a request behind what the buffer holds, where its line is here. Without
-/// memory the buffer is given back as it was.
+/// Writes the body of a request after what the buffer holds, if its call is one of this crate's. If
+/// memory runs out, the buffer is given back as it was.
 pub fn put_request(
     request: &Request,
     out: Buffer<u8>,

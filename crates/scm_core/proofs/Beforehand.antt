@@ -24,7 +24,7 @@ use Rattle.scm_rules.specs.QueryConfig2.{query_config2_done, query_config2_told,
 use Rattle.scm_rules.specs.Steps.{at_moment, keeps_right}
 use Rattle.scm_rules.specs.Verdicts.{change_of, change_of_call, tells_right}
 use Rattle.scm_core.specs.Inside.{KeepsMade}
-use Rattle.scm_core.specs.Judged.{told_in, change_in}
+use Rattle.scm_core.specs.Judged.{told_in, change_if_kept}
 use Rattle.scm_core.specs.Managed.{WasMadeFor}
 use Rattle.scm_arms_process.specs.Raised.{raise_starts, started_among}
 use Rattle.scm_rules.specs.Raise.{raise_verdict}
@@ -33,7 +33,7 @@ use Rattle.scm_tables.specs.Firing.{CanFire, HasFires, HasPlanNumbers, HasStarts
 use Rattle.scm_tables.proofs.Placed.{fewer}
 use Rattle.scm_tables.specs.Tabled.{Spare, Tabled}
 use Rattle.scm_core.specs.declared.made.Prepared.{Prepared}
-use Rattle.scm_core.specs.Room.{HasNumbers, HasRoomFor, IsMadeFor, prepared_for, nothing_made}
+use Rattle.scm_core.specs.Room.{HasNumbers, HasRoomForStep, IsMadeFor, prepared_for, nothing_made}
 use Rattle.scm_model.specs.declared.steps.Change.{Change}
 
 -- the reply of a call that changes nothing
@@ -67,6 +67,8 @@ made_at l f moment caller (request.Control handle control) = refl
 made_at l f moment caller (request.Delete handle) = refl
 made_at l f moment caller (request.Lock handle) = refl
 made_at l f moment caller (request.QueryStatus handle) = refl
+made_at l f moment caller (request.QuerySecurity handle parts size) = refl
+made_at l f moment caller (request.SetSecurity handle parts bytes) = refl
 made_at l f moment caller (request.SetStatus handle status) = refl
 made_at l f moment caller (request.Unlock handle) = refl
 made_at l f moment caller (request.QueryLock handle size) = refl
@@ -103,7 +105,7 @@ is_made_at l f moment made (EndStart caller plan) is = tt
 is_made_at l f moment made LaunchTaken is = tt
 is_made_at l f moment made (Launched process pid) is = tt
 is_made_at l f moment made (LaunchFailed process code) is = tt
-is_made_at l f moment made (Report process status) is = tt
+is_made_at l f moment made (Report process service status) is = tt
 is_made_at l f moment made (Ended process) is = tt
 is_made_at l f moment made (ControlTaken process) is = tt
 is_made_at l f moment made Tick is = tt
@@ -111,8 +113,8 @@ is_made_at l f moment made (Raised caller subtype) is = tt
 is_made_at l f moment made (Gone caller) is = tt
 is_made_at l f moment made (NoMemory caller) is = tt
 
-room_at : (t : Tabled) (moment caller : ℕ) (asked : Request) (append : Kept) → HasRoomFor t (Call caller asked append)
-    → HasRoomFor (record t { flat = with_moment t.flat moment }) (Call caller asked append)
+room_at : (t : Tabled) (moment caller : ℕ) (asked : Request) (append : Kept) → HasRoomForStep t (Call caller asked append)
+    → HasRoomForStep (record t { flat = with_moment t.flat moment }) (Call caller asked append)
 room_at t moment caller (request.QueryConfig handle size) append has = has
 room_at t moment caller (request.DisplayName handle name size) append has = has
 room_at t moment caller (request.KeyName handle name size) append has = has
@@ -121,6 +123,8 @@ room_at t moment caller (request.Control handle control) append has = has
 room_at t moment caller (request.Delete handle) append has = has
 room_at t moment caller (request.Lock handle) append has = has
 room_at t moment caller (request.QueryStatus handle) append has = has
+room_at t moment caller (request.QuerySecurity handle parts size) append has = has
+room_at t moment caller (request.SetSecurity handle parts bytes) append has = has
 room_at t moment caller (request.SetStatus handle status) append has = has
 room_at t moment caller (request.Unlock handle) append has = has
 room_at t moment caller (request.QueryLock handle size) append has = has
@@ -151,23 +155,23 @@ moved t u moment P flat limits spare has =
 
 -- the room of lists that moved on to the step's moment
 pub has_room_at : (t u : Tabled) (moment : ℕ) (step : Step) → u.flat ≡ at_moment t.flat moment step → u.limits ≡ t.limits
-    → u.spare ≡ t.spare → HasRoomFor t step → HasRoomFor u step
+    → u.spare ≡ t.spare → HasRoomForStep t step → HasRoomForStep u step
 has_room_at t u moment (Call caller asked append) flat limits spare has =
-    moved t u moment (λ v. HasRoomFor v (Call caller asked append)) flat limits spare (room_at t moment caller asked append has)
+    moved t u moment (λ v. HasRoomForStep v (Call caller asked append)) flat limits spare (room_at t moment caller asked append has)
 has_room_at t u moment Tick flat limits spare has =
     moved t u moment HasFires flat limits spare (record {
       starts = starts_at t moment (starts_in t.flat.dues) has.starts;
       commands = has.commands;
     })
 has_room_at t u moment (Raised caller subtype) flat limits spare has =
-    moved t u moment (λ v. HasRoomFor v (Raised caller subtype)) flat limits spare
+    moved t u moment (λ v. HasRoomForStep v (Raised caller subtype)) flat limits spare
     (starts_at t moment (raise_starts t.flat caller subtype) has)
 has_room_at t u moment (Joined principal) flat limits spare has = subst (λ (s : Spare). 1 ≤ s.callers) (sym spare) has
 has_room_at t u moment (EndStart caller plan) flat limits spare has = tt
 has_room_at t u moment LaunchTaken flat limits spare has = tt
 has_room_at t u moment (Launched process pid) flat limits spare has = tt
 has_room_at t u moment (LaunchFailed process code) flat limits spare has = tt
-has_room_at t u moment (Report process status) flat limits spare has = tt
+has_room_at t u moment (Report process service status) flat limits spare has = tt
 has_room_at t u moment (Ended process) flat limits spare has = tt
 has_room_at t u moment (ControlTaken process) flat limits spare has = tt
 has_room_at t u moment (Gone caller) flat limits spare has = tt
@@ -181,7 +185,7 @@ is_made_unkept l f made (EndStart caller plan) is = tt
 is_made_unkept l f made LaunchTaken is = tt
 is_made_unkept l f made (Launched process pid) is = tt
 is_made_unkept l f made (LaunchFailed process code) is = tt
-is_made_unkept l f made (Report process status) is = tt
+is_made_unkept l f made (Report process service status) is = tt
 is_made_unkept l f made (Ended process) is = tt
 is_made_unkept l f made (ControlTaken process) is = tt
 is_made_unkept l f made Tick is = tt
@@ -189,14 +193,14 @@ is_made_unkept l f made (Raised caller subtype) is = tt
 is_made_unkept l f made (Gone caller) is = tt
 is_made_unkept l f made (NoMemory caller) is = tt
 
-pub has_room_unkept : (t : Tabled) (step : Step) → HasRoomFor t step → HasRoomFor t (unkept step)
+pub has_room_unkept : (t : Tabled) (step : Step) → HasRoomForStep t step → HasRoomForStep t (unkept step)
 has_room_unkept t (Call caller asked append) has = has
 has_room_unkept t (Joined principal) has = has
 has_room_unkept t (EndStart caller plan) has = tt
 has_room_unkept t LaunchTaken has = tt
 has_room_unkept t (Launched process pid) has = tt
 has_room_unkept t (LaunchFailed process code) has = tt
-has_room_unkept t (Report process status) has = tt
+has_room_unkept t (Report process service status) has = tt
 has_room_unkept t (Ended process) has = tt
 has_room_unkept t (ControlTaken process) has = tt
 has_room_unkept t Tick has = has
@@ -215,7 +219,7 @@ change_made l f caller _ = refl
 
 -- so has what is kept for a step that room was made for
 pub made_before : (l : Limits) (f : Flat) (made : Prepared) (room : Option Step) (step : Step) → KeepsMade l f made room
-    → WasMadeFor room step → change_in made step ≡ change_of l f step
+    → WasMadeFor room step → change_if_kept made step ≡ change_of l f step
 made_before l f made room (Call caller asked append) keeps was =
     ap (λ (m : Prepared). m.change) (subst (KeepsMade l f made) was keeps) ∙ change_made l f caller asked
 made_before l f made room _ keeps was = refl

@@ -1,8 +1,7 @@
 -- A step gives few numbers, and adds a service only where one more may be.
-use Rattle.std.proofs.Common.{ℕ, ◌≡◌, ◌∙◌, ◌+◌, ◌*◌, ◌<◌, ◌≤◌, ◌^◌, ◌==◌, ◌||◌, true, false, cond, not, List, [], ◌∷◌, ◌++◌, Option, None}
-use Rattle.std.proofs.Common.{Some, filter, length, map, length-append, refl, sym, subst, ap, arith, eqb-true}
-use Rattle.std.specs.Prelude.{Bool, nat_le, unwrap_or}
-use Rattle.std.specs.List.{list_any}
+use Rattle.std.proofs.Common.{ℕ, ◌≡◌, ◌∙◌, ◌+◌, ◌*◌, ◌<◌, ◌≤◌, ◌^◌, ◌==◌, true, false, cond, not, List, [], ◌∷◌, ◌++◌, Option, None}
+use Rattle.std.proofs.Common.{Some, filter, length, map, length-append, refl, subst, ap, arith, eqb-true}
+use Rattle.std.specs.Prelude.{unwrap_or}
 use Rattle.std.proofs.lemmas.Bool.Decides.{nat_tests}
 use Rattle.std.proofs.lemmas.List.{length-map}
 use Rattle.scm_model.specs.declared.flat.Action.{Action}
@@ -12,9 +11,7 @@ use Rattle.scm_model.specs.declared.flat.DueKind.TheVariants as dues
 use Rattle.scm_model.specs.declared.flat.Flat.{Flat}
 use Rattle.scm_model.specs.declared.flat.Limits.{Limits}
 use Rattle.scm_model.specs.declared.flat.Next.{Next}
-use Rattle.scm_model.specs.declared.flat.Plan.{Plan}
 use Rattle.scm_model.specs.declared.flat.Service.{Service}
-use Rattle.scm_model.specs.declared.flat.Status.{Status}
 use Rattle.scm_model.specs.declared.calls.Reply.{Reply}
 use Rattle.scm_model.specs.declared.calls.Request.{Request}
 use Rattle.scm_model.specs.declared.calls.Request.TheVariants as request
@@ -42,10 +39,9 @@ use Rattle.start_plan.proofs.Enterings.{all_units}
 use Rattle.start_plan.proofs.Keeps.{Keeps, keeps_all}
 use Rattle.start_triggers.specs.Triggers.{matching}
 use Rattle.scm_rules.specs.Change.{new_config}
-use Rattle.scm_rules.specs.Controls.{controlled_if}
+use Rattle.scm_rules.specs.Controls.{controlled_if, order_to}
 use Rattle.scm_rules.specs.Create.{create_verdict, created_config, new_status}
-use Rattle.scm_rules.specs.Due.{beside, next_due, of_others, with_due}
-use Rattle.scm_rules.specs.Ends.{with_end}
+use Rattle.scm_rules.specs.Due.{beside, next_due, with_due}
 use Rattle.scm_rules.specs.Failures.{counted_if, failed_by, moment_after, with_action, with_failure}
 use Rattle.scm_rules.specs.Change2.{level_config}
 use Rattle.scm_rules.specs.Launches.{current_of, fallen_if, with_fallen}
@@ -54,87 +50,103 @@ use Rattle.scm_rules.specs.OpenService.{service_granted, with_opened}
 use Rattle.scm_rules.specs.Raise.{all_triggered, gets_stop, raised, raise_verdict, triggered, with_stop}
 use Rattle.scm_rules.specs.Reports.{reported_if}
 use Rattle.scm_rules.specs.Start.{deadline_at, ended, with_start}
-use Rattle.scm_rules.specs.Steps.{at_moment, effect_of, finished, finished_step, left_by, step_of}
+use Rattle.scm_rules.specs.Steps.{at_moment, effect_of, finished, left_by, step_of}
 use Rattle.scm_rules.specs.Ticks.{can_run, can_start, fire, fired, ticked, with_command, with_restart, with_wanted_command, without_due}
 use Rattle.scm_rules.specs.Verdicts.{call_of, done_of, told_refused, verdict}
 use Rattle.scm_rules.proofs.Dues.{ticked_keeps}
 use Rattle.scm_tables.specs.Failed.{taken_by, taken_by_service}
-use Rattle.scm_tables.specs.Firing.{HasPlanNumbers, begins_plan, one_if, starts_in}
+use Rattle.scm_tables.specs.Firing.{begins_plan, one_if, starts_in}
 use Rattle.scm_tables.proofs.Fired.{first_leaves, found_restarts, not_counted, restarts}
 use Rattle.scm_tables.proofs.Placed.{fewer, fewer_pass}
 use Rattle.scm_arms_service.proofs.Judging.{created_few}
 use Rattle.scm_core.specs.Room.{HasNumbers}
 
+-- what a state has of what a step may bring more of
+record Counted : Type 0 where
+  next : Next
+  starts : ℕ
+  services : ℕ
+
+abbrev counted : Flat → Counted
+counted f = record { next = f.next; starts = starts_in f.dues; services = length f.services }
+
 -- of plans and of what becomes due, with the starts that stand, as many numbers as there are services and two; of processes as many as may
--- be
--- listed; of all else one
-pub record NumbersRise (l : Limits) (old new : Flat) : Type 0 where
-  pub handle : new.next.handle ≤ old.next.handle + 1
-  pub caller : new.next.caller ≤ old.next.caller + 1
-  pub service : new.next.service ≤ old.next.service + 1
-  pub plan : new.next.plan + starts_in new.dues ≤ old.next.plan + starts_in old.dues + (length old.services + 2)
-  pub due : new.next.due + starts_in new.dues ≤ old.next.due + starts_in old.dues + (length old.services + 2)
-  pub registration : new.next.registration ≤ old.next.registration + 1
-  pub process : new.next.process ≤ old.next.process + l.processes
-  pub few : length old.services ≤ l.services → length new.services ≤ l.services
+-- be listed; of all else one
+record NumbersRise (l : Limits) (old new : Counted) : Type 0 where
+  handle : new.next.handle ≤ old.next.handle + 1
+  caller : new.next.caller ≤ old.next.caller + 1
+  service : new.next.service ≤ old.next.service + 1
+  plan : new.next.plan + new.starts ≤ old.next.plan + old.starts + (old.services + 2)
+  due : new.next.due + new.starts ≤ old.next.due + old.starts + (old.services + 2)
+  registration : new.next.registration ≤ old.next.registration + 1
+  process : new.next.process ≤ old.next.process + l.processes
+  few : old.services ≤ l.services → new.services ≤ l.services
+
+abbrev Rise : Limits → Flat → Flat → Type 0
+Rise l old new = NumbersRise l (counted old) (counted new)
+
+-- at most one number of a handle, a caller, a service and a registration each
+abbrev OneMore : Next → Next → Type 0
+OneMore old new =
+    (new.handle ≤ old.handle + 1) × (new.caller ≤ old.caller + 1) × (new.service ≤ old.service + 1) × (new.registration ≤ old.registration + 1)
+
+-- none of them
+abbrev NoMore : Next → Next → Type 0
+NoMore old new =
+    (new.handle ≡ old.handle) × (new.caller ≡ old.caller) × (new.service ≡ old.service) × (new.registration ≡ old.registration)
+
+no_more : (n : Next) → NoMore n n
+no_more n = (refl, refl, refl, refl)
+
+no_more_after : (a b c : Next) → NoMore b c → NoMore a b → NoMore a c
+no_more_after a b c after before = (after.0 ∙ before.0, after.1 ∙ before.1, after.2 ∙ before.2, after.3 ∙ before.3)
+
+-- no other number is given
+one : (l : Limits) (old new : Flat) → OneMore old.next new.next → new.next.plan ≡ old.next.plan → new.next.due ≡ old.next.due
+    → new.next.process ≡ old.next.process → starts_in new.dues ≡ starts_in old.dues
+    → (length old.services ≤ l.services → length new.services ≤ l.services) → Rise l old new
+one l old new more plan due process starts few = record {
+  handle = more.0;
+  caller = more.1;
+  service = more.2;
+  plan = omega (arith, plan, starts);
+  due = omega (arith, due, starts);
+  registration = more.3;
+  process = omega (arith, process);
+  few = few;
+}
 
 -- no number is given
 same : (l : Limits) (old new : Flat) → new.next ≡ old.next → new.dues ≡ old.dues → length new.services ≡ length old.services
-    → NumbersRise l old new
+    → Rise l old new
 same l old new e d s =
-    subst (λ n. NumbersRise l old (record new { next = n })) (sym e)
-    (subst (λ rows. NumbersRise l old (record new { next = old.next; dues = rows })) (sym d)
-    (record {
-      handle = omega arith;
-      caller = omega arith;
-      service = omega arith;
-      plan = omega arith;
-      due = omega arith;
-      registration = omega arith;
-      process = omega arith;
-      few = λ few. omega (arith, few, s);
-    }))
-
--- one number of a handle, or of a caller, or of a registration
-one : (l : Limits) (old new : Flat) → new.next.handle ≤ old.next.handle + 1 → new.next.caller ≤ old.next.caller + 1
-    → new.next.registration ≤ old.next.registration + 1 → new.next.service ≡ old.next.service
-    → new.next.plan ≡ old.next.plan → new.next.due ≡ old.next.due → new.next.process ≡ old.next.process → new.dues ≡ old.dues
-    → new.services ≡ old.services → NumbersRise l old new
-one l old new handle caller registration service plan due process rows services =
-    let starts = ap starts_in rows in
-    record {
-      handle = handle;
-      caller = caller;
-      service = omega (arith, service);
-      plan = omega (arith, plan, starts);
-      due = omega (arith, due, starts);
-      registration = registration;
-      process = omega (arith, process);
-      few = λ few. omega (arith, few, ap (λ (rs : List Service). length rs) services);
-    }
+    one l old new (
+      omega (arith, ap (λ (n : Next). n.handle) e),
+      omega (arith, ap (λ (n : Next). n.caller) e),
+      omega (arith, ap (λ (n : Next). n.service) e),
+      omega (arith, ap (λ (n : Next). n.registration) e),
+    ) (ap (λ (n : Next). n.plan) e) (ap (λ (n : Next). n.due) e) (ap (λ (n : Next). n.process) e) (ap starts_in d)
+    (λ few. omega (arith, few, s))
 
 -- ## Failures
 
 -- a failure gives one number, of a row that may be a start
-record Fails (f g : Flat) : Type 0 where
-  handle : g.next.handle ≡ f.next.handle
-  caller : g.next.caller ≡ f.next.caller
-  service : g.next.service ≡ f.next.service
+record Failed (f g : Counted) : Type 0 where
+  others : NoMore f.next g.next
   plan : g.next.plan ≡ f.next.plan
   due : g.next.due ≤ f.next.due + 1
-  registration : g.next.registration ≡ f.next.registration
   process : g.next.process ≡ f.next.process
-  starts : starts_in g.dues ≤ starts_in f.dues + 1
-  services : length g.services ≡ length f.services
+  starts : g.starts ≤ f.starts + 1
+  services : g.services ≡ f.services
+
+abbrev Fails : Flat → Flat → Type 0
+Fails f g = Failed (counted f) (counted g)
 
 fails_nothing : (f : Flat) → Fails f f
 fails_nothing f = record {
-  handle = refl;
-  caller = refl;
-  service = refl;
+  others = no_more f.next;
   plan = refl;
   due = omega arith;
-  registration = refl;
   process = refl;
   starts = omega arith;
   services = refl;
@@ -156,12 +168,9 @@ fewer_starts (dues.Reboot service) rows = fewer_pass (λ (d : Due). begins_plan 
 
 of_due : (f : Flat) (moment : ℕ) (kind : DueKind) → Fails f (with_due f moment kind)
 of_due f moment kind = record {
-  handle = refl;
-  caller = refl;
-  service = refl;
+  others = no_more f.next;
   plan = refl;
   due = omega arith;
-  registration = refl;
   process = refl;
   starts = omega (
     arith,
@@ -180,45 +189,35 @@ of_action number f action =
 of_failure : (row : Service) (f : Flat) → Fails f (with_failure row f)
 of_failure row f =
     let counting = counted_if row.number f.moment in
-    let r = of_action row.number (record f { services = map counting f.services })
-    (on_failure row.config row.failures row.last_failure f.moment).action in
-    record {
-      handle = r.handle;
-      caller = r.caller;
-      service = r.service;
-      plan = r.plan;
-      due = r.due;
-      registration = r.registration;
-      process = r.process;
-      starts = r.starts;
-      services = r.services ∙ length-map f.services counting;
-    }
+    subst (λ n. Failed (record (counted f) { services = n }) (counted (with_failure row f))) (length-map f.services counting)
+    (of_action row.number (record f { services = map counting f.services })
+    (on_failure row.config row.failures row.last_failure f.moment).action)
 
 of_found : (found : Option Service) (f : Flat) → Fails f (if_found with_failure found f)
 of_found found f = found_keeps (Fails f) with_failure found f (fails_nothing f) (λ row is. of_failure row f)
 
 -- after a change that gives no number
 failing : (l : Limits) (old f g : Flat) → f.next ≡ old.next → f.dues ≡ old.dues → length f.services ≡ length old.services → Fails f g
-    → NumbersRise l old g
+    → Rise l old g
 failing l old f g next rows services r =
     let starts = ap starts_in rows in
     record {
-      handle = omega (arith, r.handle, ap (λ n. n.handle) next);
-      caller = omega (arith, r.caller, ap (λ n. n.caller) next);
-      service = omega (arith, r.service, ap (λ n. n.service) next);
+      handle = omega (arith, r.others.0, ap (λ n. n.handle) next);
+      caller = omega (arith, r.others.1, ap (λ n. n.caller) next);
+      service = omega (arith, r.others.2, ap (λ n. n.service) next);
       plan = omega (arith, r.plan, ap (λ n. n.plan) next, r.starts, starts);
       due = omega (arith, r.due, ap (λ n. n.due) next, r.starts, starts);
-      registration = omega (arith, r.registration, ap (λ n. n.registration) next);
+      registration = omega (arith, r.others.3, ap (λ n. n.registration) next);
       process = omega (arith, r.process, ap (λ n. n.process) next);
       few = λ few. omega (arith, few, r.services, services);
     }
 
 -- ## Calls
 
-of_answered : (l : Limits) (code : ℕ) (told : Reply) (f : Flat) (done : CallResult) → ((code == 0) ≡ true → NumbersRise l f done.flat)
-    → NumbersRise l f (answered code told f done).flat
+of_answered : (l : Limits) (code : ℕ) (told : Reply) (f : Flat) (done : CallResult) → ((code == 0) ≡ true → Rise l f done.flat)
+    → Rise l f (answered code told f done).flat
 of_answered l code told f done rises =
-    elim (code == 0) as (λ b. ((code == 0) ≡ b → NumbersRise l f (cond {A = CallResult} b done (record { reply = told; flat = f })).flat))
+    elim (code == 0) as (λ b. ((code == 0) ≡ b → Rise l f (cond {A = CallResult} b done (record { reply = told; flat = f })).flat))
     [ true ↦ rises | false ↦ λ e. same l f f refl refl refl ] refl
 
 found_length : (change : Service → Service → Service) (found : Option Service) (rows : List Service)
@@ -227,15 +226,14 @@ found_length change None rows = refl
 found_length change (Some row) rows = length-map rows (change row)
 
 of_done : (l : Limits) (f : Flat) (caller : ℕ) (asked : Request) (append : Kept) → (verdict l f caller asked append == 0) ≡ true
-    → NumbersRise l f (done_of l f caller asked).flat
+    → Rise l f (done_of l f caller asked).flat
 of_done l f caller (request.Close handle) append ok = same l f (done_of l f caller (request.Close handle)).flat refl refl refl
 of_done l f caller (request.Control handle control) append ok = same l f
     (done_of l f caller (request.Control handle control)).flat refl refl refl
 of_done l f caller (request.Delete handle) append ok =
     same l f (done_of l f caller (request.Delete handle)).flat refl refl
     (found_length (λ row. marked_if row.number) (held_service f caller handle) f.services)
-of_done l f caller (request.Lock handle) append ok = one l f (done_of l f caller (request.Lock handle)).flat (omega arith) (omega arith)
-    (omega arith) refl refl refl refl refl refl
+of_done l f caller (request.Lock handle) append ok = one l f (done_of l f caller (request.Lock handle)).flat (omega arith, omega arith, omega arith, omega arith) refl refl refl refl (λ few. few)
 of_done l f caller (request.SetStatus handle status) append ok =
     let service = held_service f caller handle in
     let before = taken_by_service f service status in
@@ -251,32 +249,21 @@ of_done l f caller (request.Change2 handle asked) append ok =
     (found_length (λ row. configured_if row.number (level_config asked row)) (held_service f caller handle) f.services)
 of_done l f caller (request.Create new) append ok =
     let few = created_few l f caller new append (eqb-true (create_verdict l f caller new append) 0 ok) in
-    record {
-      handle = omega arith;
-      caller = omega arith;
-      service = omega arith;
-      plan = omega arith;
-      due = omega arith;
-      registration = omega arith;
-      process = omega arith;
-      few = λ held. omega (
-        arith,
-        few,
-        length-append f.services (new_service f.next.service (created_config f new) (new_status new.kind) ∷
-            []),
-      );
-    }
+    one l f (done_of l f caller (request.Create new)).flat (omega arith, omega arith, omega arith, omega arith) refl refl refl refl (λ held. omega (
+      arith,
+      few,
+      length-append f.services (new_service f.next.service (created_config f new) (new_status new.kind) ∷ []),
+    ))
 of_done l f caller (request.OpenManager database access) append ok = one l f (done_of l f caller (request.OpenManager database access)).flat
-    (omega arith) (omega arith) (omega arith) refl refl refl refl refl refl
+    (omega arith, omega arith, omega arith, omega arith) refl refl refl refl (λ few. few)
 of_done l f caller (request.OpenService handle name access) append ok =
-    found_keeps (NumbersRise l f) (with_opened caller (unwrap_or (service_granted f caller access) 0)) (named f name) f
+    found_keeps (Rise l f) (with_opened caller (unwrap_or (service_granted f caller access) 0)) (named f name) f
     (same l f f refl refl refl)
-    (λ row is. one l f (with_opened caller (unwrap_or (service_granted f caller access) 0) row f) (omega arith) (omega arith)
-    (omega arith) refl refl refl refl refl refl)
+    (λ row is. one l f (with_opened caller (unwrap_or (service_granted f caller access) 0) row f) (omega arith, omega arith, omega arith, omega arith) refl refl refl refl (λ few. few))
 of_done l f caller (request.QueryConfig handle size) append ok = same l f f refl refl refl
 of_done l f caller (request.QueryLock handle size) append ok = same l f f refl refl refl
 of_done l f caller (request.Start handle words) append ok =
-    found_keeps (NumbersRise l f) (with_start caller (unwrap_or words [])) (held_service f caller handle) f (same l f f refl refl refl)
+    found_keeps (Rise l f) (with_start caller (unwrap_or words [])) (held_service f caller handle) f (same l f f refl refl refl)
     (λ row is.
     let starts = not_counted begins_plan f.dues (record {
       moment = deadline_at f.moment;
@@ -299,65 +286,54 @@ of_done l f caller (request.EnumDependents handle states size) append ok = same 
 of_done l f caller (request.EnumServices handle kinds states size resume) append ok = same l f f refl refl refl
 of_done l f caller (request.QueryConfig2 handle level size) append ok = same l f f refl refl refl
 of_done l f caller (request.QueryStatusEx handle level size) append ok = same l f f refl refl refl
+of_done l f caller (request.QuerySecurity handle parts size) append ok = same l f f refl refl refl
+of_done l f caller (request.SetSecurity handle parts bytes) append ok = same l f f refl refl refl
 of_done l f caller (request.Notify handle mask) append ok =
-    elim (watched f caller handle) as (λ of. NumbersRise l f (with_handle (registered f caller handle mask of) caller
+    elim (watched f caller handle) as (λ of. Rise l f (with_handle (registered f caller handle mask of) caller
     (kinds.Notify f.next.registration) 0)) [
-      | None ↦ one l f (with_handle (registered f caller handle mask None) caller (kinds.Notify f.next.registration) 0) (omega arith)
-          (omega arith) (omega arith) refl refl refl refl refl refl
+      | None ↦ one l f (with_handle (registered f caller handle mask None) caller (kinds.Notify f.next.registration) 0) (omega arith, omega arith, omega arith, omega arith) refl refl refl refl (λ few. few)
       | Some of ↦ one l f (with_handle (registered f caller handle mask (Some of)) caller (kinds.Notify f.next.registration) 0)
-          (omega arith) (omega arith) (omega arith) refl refl refl refl refl refl
+          (omega arith, omega arith, omega arith, omega arith) refl refl refl refl (λ few. few)
     ]
 of_done l f caller (request.GetNotify handle) append ok = same l f (done_of l f caller (request.GetNotify handle)).flat refl refl refl
 of_done l f caller (request.CloseNotify handle) append ok = same l f (done_of l f caller (request.CloseNotify handle)).flat refl refl refl
 
-of_call : (l : Limits) (f : Flat) (caller : ℕ) (asked : Request) (append : Kept) → NumbersRise l f (call_of l f caller asked append).flat
+of_call : (l : Limits) (f : Flat) (caller : ℕ) (asked : Request) (append : Kept) → Rise l f (call_of l f caller asked append).flat
 of_call l f caller asked append =
     of_answered l (verdict l f caller asked append) (told_refused f caller asked (verdict l f caller asked append)) f
     (done_of l f caller asked) (of_done l f caller asked append)
 
 -- ## What is due
 
--- plans rise as starts leave, and processes as commands run
-record Ticks (l : Limits) (f g : Flat) : Type 0 where
-  handle : g.next.handle ≡ f.next.handle
-  caller : g.next.caller ≡ f.next.caller
-  service : g.next.service ≡ f.next.service
-  plan : g.next.plan + starts_in g.dues ≤ f.next.plan + starts_in f.dues
-  due : g.next.due + starts_in g.dues ≤ f.next.due + starts_in f.dues
-  registration : g.next.registration ≡ f.next.registration
-  alike : g.next.process + length f.processes ≡ f.next.process + length g.processes
+-- plans rise as starts leave, of which so many have left already, and processes as commands run
+record Ticked (l : Limits) (more : ℕ) (f g : Counted) (before listed : ℕ) : Type 0 where
+  others : NoMore f.next g.next
+  plan : g.next.plan + g.starts + more ≤ f.next.plan + f.starts
+  due : g.next.due + g.starts + more ≤ f.next.due + f.starts
+  alike : g.next.process + before ≡ f.next.process + listed
   process : g.next.process ≤ f.next.process + l.processes
   services : g.services ≡ f.services
 
--- a start gives no other number
-record SameNext (f g : Flat) : Type 0 where
-  handle : g.next.handle ≡ f.next.handle
-  caller : g.next.caller ≡ f.next.caller
-  service : g.next.service ≡ f.next.service
-  registration : g.next.registration ≡ f.next.registration
+abbrev Ticks : Limits → ℕ → Flat → Flat → Type 0
+Ticks l more f g = Ticked l more (counted f) (counted g) (length f.processes) (length g.processes)
 
-restart_next : (found : Option Service) (f : Flat) → SameNext f (if_found with_restart found f)
-restart_next None f = record { handle = refl; caller = refl; service = refl; registration = refl }
+restart_next : (found : Option Service) (f : Flat) → NoMore f.next (if_found with_restart found f).next
+restart_next None f = no_more f.next
 restart_next (Some row) f =
-    elim (can_start f row) as (λ b. SameNext f (cond b (with_start 0 [] row f) f)) [
-      | true ↦ record { handle = refl; caller = refl; service = refl; registration = refl }
-      | false ↦ record { handle = refl; caller = refl; service = refl; registration = refl }
-    ]
+    elim (can_start f row) as (λ b. NoMore f.next (cond b (with_start 0 [] row f) f).next)
+    [ true ↦ no_more f.next | false ↦ no_more f.next ]
 
 few_run : (l : Limits) (f : Flat) (row : Service) → can_run l f row ≡ true → length f.processes < l.processes
 few_run l f row e = grind (arith, nat_tests)
 
-of_command : (l : Limits) (f g : Flat) (found : Option Service) → Ticks l f g → Ticks l f (if_found (with_command l) found g)
+of_command : (l : Limits) (f g : Flat) (found : Option Service) → Ticks l 0 f g → Ticks l 0 f (if_found (with_command l) found g)
 of_command l f g found r =
-    found_keeps (Ticks l f) (with_command l) found g r
-    (λ row is. elim (can_run l g row) as (λ b. can_run l g row ≡ b → Ticks l f (cond b (with_wanted_command row.config.command g) g)) [
+    found_keeps (λ h. Ticks l 0 f h) (with_command l) found g r
+    (λ row is. elim (can_run l g row) as (λ b. can_run l g row ≡ b → Ticks l 0 f (cond b (with_wanted_command row.config.command g) g)) [
       | true ↦ λ e. record {
-        handle = r.handle;
-        caller = r.caller;
-        service = r.service;
+        others = r.others;
         plan = r.plan;
         due = r.due;
-        registration = r.registration;
         alike = omega (arith, r.alike, length-append g.processes (wanted_process g.next.process 0 ∷ []));
         process = omega (arith, r.alike, few_run l g row e);
         services = r.services;
@@ -365,87 +341,42 @@ of_command l f g found r =
       | false ↦ λ e. r
     ] refl)
 
--- a state from which the row has left, in whose place it gives a number more where it is a start
-of_kind : (l : Limits) (f g : Flat) (kind : DueKind) → Ticks l f (record g {
-  next =
-      record g.next { plan = g.next.plan + one_if (begins_plan kind); due = g.next.due + one_if (begins_plan kind) };
-})
-    → Ticks l f (fire l kind g)
-of_kind l f g (dues.Deadline plan) r = record {
-  handle = r.handle;
-  caller = r.caller;
-  service = r.service;
-  plan = omega (arith, r.plan);
-  due = omega (arith, r.due);
-  registration = r.registration;
-  alike = r.alike;
-  process = r.process;
-  services = r.services;
-}
+-- a row that has left gives a number where it is a start
+of_kind : (l : Limits) (f g : Flat) (kind : DueKind) → Ticks l (one_if (begins_plan kind)) f g → Ticks l 0 f (fire l kind g)
+of_kind l f g (dues.Deadline plan) r = r
 of_kind l f g (dues.Start service) r =
     let b = found_restarts (service_of g service) g in
-    let n = restart_next (service_of g service) g in
     record {
-      handle = n.handle ∙ r.handle;
-      caller = n.caller ∙ r.caller;
-      service = n.service ∙ r.service;
+      others = no_more_after f.next g.next (fire l (dues.Start service) g).next (restart_next (service_of g service) g) r.others;
       plan = omega (arith, r.plan, b.plans, b.starts);
       due = omega (arith, r.due, b.due, b.starts);
-      registration = n.registration ∙ r.registration;
       alike = omega (arith, r.alike, b.process, ap (λ ps. length ps) b.listed);
       process = omega (arith, r.process, b.process);
-      services = b.services ∙ r.services;
+      services = ap (λ (rs : List Service). length rs) b.services ∙ r.services;
     }
-of_kind l f g (dues.Command service) r =
-    of_command l f g (service_of g service) (record {
-      handle = r.handle;
-      caller = r.caller;
-      service = r.service;
-      plan = omega (arith, r.plan);
-      due = omega (arith, r.due);
-      registration = r.registration;
-      alike = r.alike;
-      process = r.process;
-      services = r.services;
-    })
-of_kind l f g (dues.Reboot service) r = record {
-  handle = r.handle;
-  caller = r.caller;
-  service = r.service;
-  plan = omega (arith, r.plan);
-  due = omega (arith, r.due);
-  registration = r.registration;
-  alike = r.alike;
-  process = r.process;
-  services = r.services;
-}
+of_kind l f g (dues.Command service) r = of_command l f g (service_of g service) r
+of_kind l f g (dues.Reboot service) r = r
 
-of_row : (l : Limits) (f g : Flat) (row : Due) → next_due g ≡ Some row → Ticks l f g → Ticks l f (fired l row g)
+of_row : (l : Limits) (f g : Flat) (row : Due) → next_due g ≡ Some row → Ticks l 0 f g → Ticks l 0 f (fired l row g)
 of_row l f g row is r =
     let left = first_leaves begins_plan g row is in
     of_kind l f (without_due row.number g) row.kind
     (record {
-      handle = r.handle;
-      caller = r.caller;
-      service = r.service;
+      others = r.others;
       plan = omega (arith, r.plan, left);
       due = omega (arith, r.due, left);
-      registration = r.registration;
       alike = r.alike;
       process = r.process;
       services = r.services;
     })
 
-of_tick : (l : Limits) (f : Flat) → Ticks l f (ticked l f)
+of_tick : (l : Limits) (f : Flat) → Ticks l 0 f (ticked l f)
 of_tick l f =
-    ticked_keeps (Ticks l f) l (of_row l f) f
+    ticked_keeps (λ g. Ticks l 0 f g) l (of_row l f) f
     (record {
-      handle = refl;
-      caller = refl;
-      service = refl;
+      others = no_more f.next;
       plan = omega arith;
       due = omega arith;
-      registration = refl;
       alike = refl;
       process = omega arith;
       services = refl;
@@ -454,25 +385,22 @@ of_tick l f =
 -- ## A raise
 
 -- each service may give a number of a plan, and one of its deadline
-record Raises (count : ℕ) (f g : Flat) : Type 0 where
-  handle : g.next.handle ≡ f.next.handle
-  caller : g.next.caller ≡ f.next.caller
-  service : g.next.service ≡ f.next.service
+record HasRaised (count : ℕ) (f g : Counted) : Type 0 where
+  others : NoMore f.next g.next
   plan : g.next.plan ≤ f.next.plan + count
   due : g.next.due ≤ f.next.due + count
-  registration : g.next.registration ≡ f.next.registration
   process : g.next.process ≡ f.next.process
-  starts : starts_in g.dues ≡ starts_in f.dues
+  starts : g.starts ≡ f.starts
   services : g.services ≡ f.services
 
-raises_more : (count : ℕ) (f g : Flat) → Raises count f g → Raises (1 + count) f g
-raises_more count f g r = record {
-  handle = r.handle;
-  caller = r.caller;
-  service = r.service;
-  plan = omega (arith, r.plan);
-  due = omega (arith, r.due);
-  registration = r.registration;
+abbrev Raises : ℕ → Flat → Flat → Type 0
+Raises count f g = HasRaised count (counted f) (counted g)
+
+raises_more : (count most : ℕ) (f g : Flat) → count ≤ most → Raises count f g → Raises most f g
+raises_more count most f g few r = record {
+  others = r.others;
+  plan = omega (arith, r.plan, few);
+  due = omega (arith, r.due, few);
   process = r.process;
   starts = r.starts;
   services = r.services;
@@ -484,135 +412,86 @@ of_triggered l count f g row action r =
     elim (action == SERVICE_TRIGGER_ACTION_SERVICE_START) as (λ b. Raises (1 + count) f (cond b (with_restart row g) (with_stop l row g))) [
       | true ↦
           let b = restarts row g in
-          let n = restart_next (Some row) g in
           record {
-            handle = n.handle ∙ r.handle;
-            caller = n.caller ∙ r.caller;
-            service = n.service ∙ r.service;
+            others = no_more_after f.next g.next (with_restart row g).next (restart_next (Some row) g) r.others;
             plan = omega (arith, r.plan, b.plans);
             due = omega (arith, r.due, b.due);
-            registration = n.registration ∙ r.registration;
             process = b.process ∙ r.process;
             starts = b.starts ∙ r.starts;
-            services = b.services ∙ r.services;
+            services = ap (λ (rs : List Service). length rs) b.services ∙ r.services;
           }
       | false ↦
-          let m = raises_more count f g r in
+          let m = raises_more count (1 + count) f g (omega arith) r in
           elim (gets_stop l g row) as (λ b. Raises (1 + count) f (cond b
-          (record g { processes = map (controlled_if l.controls row.process SERVICE_CONTROL_STOP) g.processes }) g)) [
-            | true ↦ record {
-              handle = m.handle;
-              caller = m.caller;
-              service = m.service;
-              plan = m.plan;
-              due = m.due;
-              registration = m.registration;
-              process = m.process;
-              starts = m.starts;
-              services = m.services;
-            }
-            | false ↦ m
-          ]
+          (record g { processes = map (controlled_if l.controls row.process (order_to row.number SERVICE_CONTROL_STOP)) g.processes }) g))
+          [ true ↦ m | false ↦ m ]
     ]
 
 of_all : (l : Limits) (subtype : List ℕ) (rows : List Service) (count : ℕ) (f g : Flat) → Raises count f g
     → Raises (length rows + count) f (all_triggered l subtype rows g)
-of_all l subtype [] count f g r = record {
-  handle = r.handle;
-  caller = r.caller;
-  service = r.service;
-  plan = omega (arith, r.plan);
-  due = omega (arith, r.due);
-  registration = r.registration;
-  process = r.process;
-  starts = r.starts;
-  services = r.services;
-}
+of_all l subtype [] count f g r = raises_more count (length {A = Service} [] + count) f g (omega arith) r
 of_all l subtype (row ∷ rows) count f g r =
-    let one = found_keeps (Raises (1 + count) f) (triggered l row) (matching row.config subtype) g (raises_more count f g r)
-    (λ action is. of_triggered l count f g row action r) in
-    let rest = of_all l subtype rows (1 + count) f (if_found (triggered l row) (matching row.config subtype) g) one in
-    record {
-      handle = rest.handle;
-      caller = rest.caller;
-      service = rest.service;
-      plan = omega (arith, rest.plan);
-      due = omega (arith, rest.due);
-      registration = rest.registration;
-      process = rest.process;
-      starts = rest.starts;
-      services = rest.services;
-    }
+    let one = found_keeps (λ h. Raises (1 + count) f h) (triggered l row) (matching row.config subtype) g
+    (raises_more count (1 + count) f g (omega arith) r) (λ action is. of_triggered l count f g row action r) in
+    let after = if_found (triggered l row) (matching row.config subtype) g in
+    raises_more (length rows + (1 + count)) (length (row ∷ rows) + count) f (all_triggered l subtype rows after) (omega arith)
+    (of_all l subtype rows (1 + count) f after one)
 
-of_raise : (l : Limits) (f : Flat) (caller : ℕ) (subtype : List ℕ) → NumbersRise l f (raised l f caller subtype)
+of_raise : (l : Limits) (f : Flat) (caller : ℕ) (subtype : List ℕ) → Rise l f (raised l f caller subtype)
 of_raise l f caller subtype =
-    elim (raise_verdict f caller == 0) as (λ b. NumbersRise l f (cond b (all_triggered l subtype f.services f) f)) [
+    elim (raise_verdict f caller == 0) as (λ b. Rise l f (cond b (all_triggered l subtype f.services f) f)) [
       | true ↦
           let r = of_all l subtype f.services 0 f f (record {
-            handle = refl;
-            caller = refl;
-            service = refl;
+            others = no_more f.next;
             plan = omega arith;
             due = omega arith;
-            registration = refl;
             process = refl;
             starts = refl;
             services = refl;
           }) in
           record {
-            handle = omega (arith, r.handle);
-            caller = omega (arith, r.caller);
-            service = omega (arith, r.service);
+            handle = omega (arith, r.others.0);
+            caller = omega (arith, r.others.1);
+            service = omega (arith, r.others.2);
             plan = omega (arith, r.plan, r.starts);
             due = omega (arith, r.due, r.starts);
-            registration = omega (arith, r.registration);
+            registration = omega (arith, r.others.3);
             process = omega (arith, r.process);
-            few = λ few. omega (arith, few, ap (λ (rs : List Service). length rs) r.services);
+            few = λ few. omega (arith, few, r.services);
           }
       | false ↦ same l f f refl refl refl
     ]
 
 -- ## Steps
 
-of_effect : (l : Limits) (f : Flat) (step : Step) → NumbersRise l f (effect_of l f step).flat
-of_effect l f (Joined principal) = one l f (effect_of l f (Joined principal)).flat (omega arith) (omega arith)
-    (omega arith) refl refl refl refl refl refl
+of_effect : (l : Limits) (f : Flat) (step : Step) → Rise l f (effect_of l f step).flat
+of_effect l f (Joined principal) = one l f (effect_of l f (Joined principal)).flat (omega arith, omega arith, omega arith, omega arith) refl refl refl refl (λ few. few)
 of_effect l f (Call caller asked append) = of_call l f caller asked append
 of_effect l f (EndStart caller plan) = same l f (effect_of l f (EndStart caller plan)).flat refl refl refl
 of_effect l f LaunchTaken = same l f (effect_of l f LaunchTaken).flat refl refl refl
 of_effect l f (Launched process pid) = same l f (effect_of l f (Launched process pid)).flat refl refl refl
 of_effect l f (LaunchFailed process code) = same l f (effect_of l f (LaunchFailed process code)).flat refl refl
     (length-map f.services (fallen_if process code))
-of_effect l f (Report process status) =
+of_effect l f (Report process service status) =
     let before = taken_by f process status in
-    failing l f before (effect_of l f (Report process status)).flat refl refl (length-map f.services (reported_if process status))
+    failing l f before (effect_of l f (Report process service status)).flat refl refl (length-map f.services (reported_if process status))
     (of_found (failed_by status (current_of f process)) before)
 of_effect l f (Ended process) =
     let before = with_fallen f process 1067 in
-    let r = failing l f before (with_end f process) refl refl (length-map f.services (fallen_if process 1067))
-    (of_found (current_of f process) before) in
-    record {
-      handle = r.handle;
-      caller = r.caller;
-      service = r.service;
-      plan = r.plan;
-      due = r.due;
-      registration = r.registration;
-      process = r.process;
-      few = r.few;
-    }
+    failing l f before (effect_of l f (Ended process)).flat refl refl (length-map f.services (fallen_if process 1067))
+    (of_found (current_of f process) before)
 of_effect l f (ControlTaken process) = same l f (effect_of l f (ControlTaken process)).flat refl refl refl
 of_effect l f Tick =
     let r = of_tick l f in
     record {
-      handle = omega (arith, r.handle);
-      caller = omega (arith, r.caller);
-      service = omega (arith, r.service);
+      handle = omega (arith, r.others.0);
+      caller = omega (arith, r.others.1);
+      service = omega (arith, r.others.2);
       plan = omega (arith, r.plan);
       due = omega (arith, r.due);
-      registration = omega (arith, r.registration);
+      registration = omega (arith, r.others.3);
       process = r.process;
-      few = λ few. omega (arith, few, ap (λ (rs : List Service). length rs) r.services);
+      few = λ few. omega (arith, few, r.services);
     }
 of_effect l f (Raised caller subtype) = of_raise l f caller subtype
 of_effect l f (Gone caller) = same l f (effect_of l f (Gone caller)).flat refl refl refl
@@ -627,7 +506,7 @@ at_keeps P f moment (EndStart caller plan) still moved = moved
 at_keeps P f moment LaunchTaken still moved = moved
 at_keeps P f moment (Launched process pid) still moved = moved
 at_keeps P f moment (LaunchFailed process code) still moved = moved
-at_keeps P f moment (Report process status) still moved = moved
+at_keeps P f moment (Report process service status) still moved = moved
 at_keeps P f moment (Ended process) still moved = moved
 at_keeps P f moment (ControlTaken process) still moved = moved
 at_keeps P f moment Tick still moved = moved
@@ -654,32 +533,29 @@ processes_at f g moment step e few = rw e (at_keeps (λ (x : Flat). x.next.proce
 -- ## Settling
 
 -- numbers of processes and listed processes rise alike, up to the limit, and no other number is given
-record Rises (l : Limits) (f g : Flat) : Type 0 where
-  alike : g.next.process + length f.processes ≡ f.next.process + length g.processes
+record Settled (l : Limits) (f g : Counted) (before listed : ℕ) : Type 0 where
+  alike : g.next.process + before ≡ f.next.process + listed
   bounded : g.next.process ≤ f.next.process + l.processes
-  handle : g.next.handle ≡ f.next.handle
-  caller : g.next.caller ≡ f.next.caller
-  service : g.next.service ≡ f.next.service
+  others : NoMore f.next g.next
   plan : g.next.plan ≡ f.next.plan
   due : g.next.due ≡ f.next.due
-  registration : g.next.registration ≡ f.next.registration
-  starts : starts_in g.dues ≤ starts_in f.dues
-  services : length g.services ≡ length f.services
+  starts : g.starts ≤ f.starts
+  services : g.services ≡ f.services
+
+abbrev Settles : Limits → Flat → Flat → Type 0
+Settles l f g = Settled l (counted f) (counted g) (length f.processes) (length g.processes)
 
 few_listed : (l : Limits) (f : Flat) → is_full l f ≡ false → length f.processes < l.processes
 few_listed l f e = grind (arith, nat_tests)
 
-rises : (l : Limits) (f : Flat) → Keeps l (Rises l f) (λ plan. Unit {0})
-rises l f = record {
+settles : (l : Limits) (f : Flat) → Keeps l (λ g. Settles l f g) (λ plan. Unit {0})
+settles l f = record {
   enters = λ g plan n words entry r. record {
     alike = omega (arith, r.alike, length-append g.processes (wanted_process g.next.process n ∷ []));
     bounded = omega (arith, r.alike, few_listed l g entry.few);
-    handle = r.handle;
-    caller = r.caller;
-    service = r.service;
+    others = r.others;
     plan = r.plan;
     due = r.due;
-    registration = r.registration;
     starts = r.starts;
     services = length-map g.services (started_if n g.next.process) ∙ r.services;
   };
@@ -687,19 +563,16 @@ rises l f = record {
   drops = λ plan n rest code q. tt;
 }
 
-of_settled : (l : Limits) (f : Flat) → Rises l f (settled l f)
+of_settled : (l : Limits) (f : Flat) → Settles l f (settled l f)
 of_settled l f =
     let all = settle_all l f f.plans in
-    let r = (keeps_all l (Rises l f) (λ plan. Unit {0}) (rises l f) f f.plans
+    let r = (keeps_all l (λ g. Settles l f g) (λ plan. Unit {0}) (settles l f) f f.plans
     (record {
       alike = refl;
       bounded = omega arith;
-      handle = refl;
-      caller = refl;
-      service = refl;
+      others = no_more f.next;
       plan = refl;
       due = refl;
-      registration = refl;
       starts = omega arith;
       services = refl;
     }) (all_units f.plans)).flat in
@@ -707,12 +580,9 @@ of_settled l f =
     record {
       alike = r.alike;
       bounded = r.bounded;
-      handle = r.handle;
-      caller = r.caller;
-      service = r.service;
+      others = r.others;
       plan = r.plan;
       due = r.due;
-      registration = r.registration;
       starts = omega (arith, r.starts, fewer);
       services = r.services;
     }
@@ -765,12 +635,12 @@ stepped l f step =
     let services = ap (λ (rs : List Service). length rs) ends.2 in
     let left = fewer (λ (row : Service). not (leaves all.handles row)) all.services in
     record {
-      handle = omega (arith, e.handle, s.handle, ap (λ (n : Next). n.handle) ends.0);
-      caller = omega (arith, e.caller, s.caller, ap (λ (n : Next). n.caller) ends.0);
-      service = omega (arith, e.service, s.service, ap (λ (n : Next). n.service) ends.0);
+      handle = omega (arith, e.handle, s.others.0, ap (λ (n : Next). n.handle) ends.0);
+      caller = omega (arith, e.caller, s.others.1, ap (λ (n : Next). n.caller) ends.0);
+      service = omega (arith, e.service, s.others.2, ap (λ (n : Next). n.service) ends.0);
       plan = omega (arith, e.plan, s.plan, s.starts, starts, ap (λ (n : Next). n.plan) ends.0);
       due = omega (arith, e.due, s.due, s.starts, starts, ap (λ (n : Next). n.due) ends.0);
-      registration = omega (arith, e.registration, s.registration, ap (λ (n : Next). n.registration) ends.0);
+      registration = omega (arith, e.registration, s.others.3, ap (λ (n : Next). n.registration) ends.0);
       process = omega (arith, e.process, s.bounded, ap (λ (n : Next). n.process) ends.0);
       few = λ few. (let more = e.few few in omega (arith, more, s.services, services, left));
     }

@@ -17,7 +17,7 @@ use Rattle.scm_tables.specs.Promised.{KeepsRooms}
 use Rattle.scm_tables.specs.Tabled.{NeedRoom, Tabled, need_room}
 use Rattle.scm_tables.proofs.Promising.{keeps_all, keeps_both, keeps_fires, keeps_starts}
 use Rattle.scm_core.specs.Inside.{KeepsRoom}
-use Rattle.scm_core.specs.Room.{HasRoomFor, HasRoomForCall}
+use Rattle.scm_core.specs.Room.{HasRoomForStep, HasRoomForCall}
 
 -- what the tables keep, for the functions that make several rooms
 pub all_stay : (t : Tabled) → KeepsRooms t t
@@ -57,7 +57,7 @@ module _ (old new : Tabled) (flat : new.flat ≡ old.flat) (keeps : KeepsRooms o
   of_call caller (request.Notify handle mask) has = (omega (arith, has.0, keeps.handles), keeps.registrations has.1)
   of_call caller asked has = tt
 
-  of_step : (step : Step) → HasRoomFor old step → HasRoomFor new step
+  of_step : (step : Step) → HasRoomForStep old step → HasRoomForStep new step
   of_step (Joined principal) has = omega (arith, has, keeps.callers)
   of_step (Call caller asked append) has = of_call caller asked has
   of_step Tick has = keeps_fires old new flat keeps has

@@ -10,7 +10,7 @@ use Rattle.scm_core.specs.declared.made.Prepared.{Prepared}
 use Rattle.scm_core.specs.declared.manager.Manager.TheInside.{Inside}
 use Rattle.scm_core.specs.declared.promised.Reservation.{Reservation}
 use Rattle.scm_core.specs.Managed.{Managed}
-use Rattle.scm_core.specs.Room.{HasRoomFor, IsMadeFor}
+use Rattle.scm_core.specs.Room.{HasRoomForStep, IsMadeFor}
 
 -- the step that room was made for, before it is known whether its change was kept
 abbrev pub promised : Option Reservation → Option Step
@@ -22,7 +22,7 @@ managed a = record { flat = a.tables.flat; limits = a.tables.limits; steps = a.s
 -- the lists have the room that was promised
 abbrev pub KeepsRoom : Tabled → Option Step → Type 0
 KeepsRoom t None = Unit {0}
-KeepsRoom t (Some step) = HasRoomFor t step
+KeepsRoom t (Some step) = HasRoomForStep t step
 
 -- what is made beforehand was made for the step in this state
 abbrev pub KeepsMade : Limits → Flat → Prepared → Option Step → Type 0

@@ -7,9 +7,9 @@ use Rattle.scm_core.specs.declared.made.Prepared.{Prepared}
 use Rattle.scm_model.specs.declared.steps.Change.{Change}
 
 -- the change that a step makes if it is kept
-abbrev pub change_in : Prepared → Step → Option Change
-change_in made (Call caller asked append) = made.change
-change_in made step = None
+abbrev pub change_if_kept : Prepared → Step → Option Change
+change_if_kept made (Call caller asked append) = made.change
+change_if_kept made step = None
 
 -- whether it tells what became of it exactly where it makes one
 abbrev pub told_in : Prepared → Step → Bool

@@ -40,12 +40,12 @@ HasRoomForCall t caller (request.Notify handle mask) = (1 ≤ t.spare.handles) �
 HasRoomForCall t caller asked = Unit {0}
 
 -- so do the plans and commands that a tick or a raise begins
-abbrev pub HasRoomFor : Tabled → Step → Type 0
-HasRoomFor t (Joined principal) = 1 ≤ t.spare.callers
-HasRoomFor t (Call caller asked append) = HasRoomForCall t caller asked
-HasRoomFor t Tick = HasFires t
-HasRoomFor t (Raised caller subtype) = HasStarts (raise_starts t.flat caller subtype) t
-HasRoomFor t step = Unit {0}
+abbrev pub HasRoomForStep : Tabled → Step → Type 0
+HasRoomForStep t (Joined principal) = 1 ≤ t.spare.callers
+HasRoomForStep t (Call caller asked append) = HasRoomForCall t caller asked
+HasRoomForStep t Tick = HasFires t
+HasRoomForStep t (Raised caller subtype) = HasStarts (raise_starts t.flat caller subtype) t
+HasRoomForStep t step = Unit {0}
 
 -- ## What is made beforehand, so that the step takes no memory
 

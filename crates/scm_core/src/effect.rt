@@ -1,7 +1,7 @@
 ghost use Rattle.std.specs.Prelude.{◌≡◌, ◌≤◌, ◌<◌, ◌^◌};
 ghost use Rattle.scm_model.specs.declared.steps.Step.TheVariants.{Call};
 ghost use Rattle.scm_rules.specs.Steps.{at_moment, effect_of, finished, step_of};
-ghost use Rattle.scm_core.specs.Room.{HasNumbers, HasRoomFor, HasRoomForCall, IsMadeFor};
+ghost use Rattle.scm_core.specs.Room.{HasNumbers, HasRoomForStep, HasRoomForCall, IsMadeFor};
 ghost use Rattle.scm_core.specs.Room.{prepared_for};
 
 use super::made::Prepared;
@@ -10,7 +10,8 @@ use scm_arms_notify::{close_notify, get_notify, notify};
 use scm_arms_process::{control, end, raise, report, set_status, take_control};
 use scm_arms_service::{change, change2, create, delete, query};
 use scm_arms_start::{end_start, fail_launch, finish, launched, start, take_launch, tick};
-use scm_model::{Answer, Kept, Request, Step};
+use scm_model::codes::ERROR_CALL_NOT_IMPLEMENTED;
+use scm_model::{Answer, Kept, Request, Step, refused};
 use scm_tables::Tables;
 use std::alloc::Global;
 use std::mem::replace;
@@ -99,6 +100,9 @@ fn call(
         | Request::EnumServices { .. }
         | Request::QueryConfig2 { .. }
         | Request::QueryStatusEx { .. } => Answer::Reply(made.reply.take().unwrap()),
+        Request::QuerySecurity { .. } | Request::SetSecurity { .. } => {
+            Answer::Reply(refused(alloc, request, ERROR_CALL_NOT_IMPLEMENTED))
+        }
     }
 }
 
@@ -129,7 +133,7 @@ fn begin(tables: &mut Tables, moment: u64, step: &Step)
 /// Does what a step does before the plans are settled and marked services leave.
 fn effect(tables: &mut Tables, alloc: Global, step: &mut Step, made: &mut Prepared) -> Answer
     requires made { IsMadeFor tables.old.limits tables.old.flat made.old step.old }
-    requires room { HasRoomFor tables.old step.old }
+    requires room { HasRoomForStep tables.old step.old }
     requires numbers { HasNumbers tables.old.flat }
     requires limit { tables.old.limits.processes < 2 ^ 32 }
     requires controls { tables.old.limits.controls ≤ 16 }
@@ -149,7 +153,11 @@ fn effect(tables: &mut Tables, alloc: Global, step: &mut Step, made: &mut Prepar
         Step::LaunchTaken => take_launch(tables),
         Step::Launched { process, pid } => launched(tables, *process, *pid),
         Step::LaunchFailed { process, code } => fail_launch(tables, *process, *code),
-        Step::Report { process, status } => report(tables, *process, status),
+        Step::Report {
+            process,
+            service: _,
+            status,
+        } => report(tables, *process, status),
         Step::Ended { process } => end(tables, *process),
         Step::ControlTaken { process } => take_control(tables, *process),
         Step::Tick => tick(tables),
@@ -195,7 +203,7 @@ pub fn act(
     made: &mut Prepared,
 ) -> Answer
     requires made { IsMadeFor tables.old.limits tables.old.flat made.old step.old }
-    requires room { HasRoomFor tables.old step.old }
+    requires room { HasRoomForStep tables.old step.old }
     requires numbers { HasNumbers tables.old.flat }
     requires limit { tables.old.limits.processes < 2 ^ 32 }
     requires controls { tables.old.limits.controls ≤ 16 }

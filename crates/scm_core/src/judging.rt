@@ -1,6 +1,6 @@
 ghost use Rattle.std.specs.Prelude.{◌≡◌, IfOk, option_copied};
 ghost use Rattle.scm_rules.specs.Steps.{may_come};
-ghost use Rattle.scm_core.specs.Judged.{change_in, told_in};
+ghost use Rattle.scm_core.specs.Judged.{change_if_kept, told_in};
 ghost use Rattle.scm_rules.specs.Verdicts.{change_of, change_of_call, tells_right};
 
 use super::made::Prepared;
@@ -27,7 +27,11 @@ pub fn may_come(tables: &Tables, moment: u64, step: &Step) -> bool
         Step::LaunchTaken => tables.is_wanted(),
         Step::Launched { process, pid: _ } => tables.is_taken(*process),
         Step::LaunchFailed { process, code } => tables.is_taken(*process) && *code != 0,
-        Step::Report { process, status: _ } => tables.is_running(*process),
+        Step::Report {
+            process,
+            service,
+            status: _,
+        } => *service == 0 && tables.is_running(*process),
         Step::Ended { process } => tables.is_running(*process),
         Step::ControlTaken { process } => tables.waiting(*process).is_some_and(|most| 0 < most),
         Step::Tick => tables.is_due(tables.moment().max(moment)),
@@ -39,7 +43,7 @@ pub fn may_come(tables: &Tables, moment: u64, step: &Step) -> bool
 
 /// The change of the configurations that a step for which this was made makes, if it is kept.
 pub fn change_in<'a>(step: &Step, made: &'a Prepared) -> Option<&'a Change>
-    ensures { option_copied result ≡ change_in made.now step.now }
+    ensures { option_copied result ≡ change_if_kept made.now step.now }
 {
     match step {
         Step::Call { .. } => made.change.as_ref(),
@@ -47,7 +51,7 @@ pub fn change_in<'a>(step: &Step, made: &'a Prepared) -> Option<&'a Change>
     }
 }
 
-/// Whether what became of a change is told exactly where there is one.
+/// Whether the outcome of a change is given if, and only if, there is a change.
 fn tells_right(changes: bool, kept: Kept) -> bool
     ensures { result ≡ tells_right changes kept }
 {
@@ -93,7 +97,8 @@ fn change_of_call(
 
 /// The change of the configurations that a step makes if it is kept.
 pub fn change_of(tables: &Tables, step: &Step, alloc: Global) -> Result<Option<Change>, OutOfMemory>
-    ensures { IfOk result (λ change. change ≡ change_of tables.now.limits tables.now.flat step.now) }
+    ensures { IfOk result (λ change. change
+        ≡ change_of tables.now.limits tables.now.flat step.now) }
 {
     match step {
         Step::Call {

@@ -10,3 +10,4 @@ mod promised;
 mod room;
 
 pub use manager::Manager;
+pub use owing::is_owed;

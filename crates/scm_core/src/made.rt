@@ -51,31 +51,32 @@ impl Drop for Prepared {
     }
 }
 
+/// What is made for at most one of a lock's question, a start and a call that only reads.
+#[inline(always)]
+fn made_of(name: Option<WText>, entries: Option<Items<u64>>, reply: Option<Reply>) -> Prepared
+    ensures { result ≡ record nothing_made { name = name; entries = entries; reply = reply } }
+{
+    Prepared {
+        name,
+        config: None,
+        code: 0,
+        change: None,
+        entries,
+        reply,
+    }
+}
+
 #[inline(always)]
 pub fn nothing_made() -> Prepared
     ensures { result ≡ nothing_made }
 {
-    Prepared {
-        name: None,
-        config: None,
-        code: 0,
-        change: None,
-        entries: None,
-        reply: None,
-    }
+    made_of(None, None, None)
 }
 
 fn made_of_name(name: WText) -> Prepared
     ensures { result ≡ record nothing_made { name = Some name } }
 {
-    Prepared {
-        name: Some(name),
-        config: None,
-        code: 0,
-        change: None,
-        entries: None,
-        reply: None,
-    }
+    made_of(Some(name), None, None)
 }
 
 fn made_of_config(config: Option<Config>, code: u32, change: Option<Change>) -> Prepared
@@ -100,27 +101,13 @@ fn made_of_removal(change: Option<Change>) -> Prepared
 fn made_of_entries(entries: Items<u64>) -> Prepared
     ensures { result ≡ record nothing_made { entries = Some entries } }
 {
-    Prepared {
-        name: None,
-        config: None,
-        code: 0,
-        change: None,
-        entries: Some(entries),
-        reply: None,
-    }
+    made_of(None, Some(entries), None)
 }
 
 fn made_of_reply(reply: Reply) -> Prepared
     ensures { result ≡ record nothing_made { reply = Some reply } }
 {
-    Prepared {
-        name: None,
-        config: None,
-        code: 0,
-        change: None,
-        entries: None,
-        reply: Some(reply),
-    }
+    made_of(None, None, Some(reply))
 }
 
 /// The change that a creation makes, unless it is refused.

@@ -93,7 +93,8 @@ impl Manager {
     ) -> Result<Manager, OutOfMemory>
         requires configs { CanOpen limits configs }
         requires limits { AreSmall limits }
-        ensures flat { IfOk result (λ manager. manager.flat ≡ opening limits groups configs moment) }
+        ensures flat { IfOk result (λ manager. manager.flat
+            ≡ opening limits groups configs moment) }
         ensures limits { IfOk result (λ manager. manager.limits ≡ limits) }
         ensures fresh { IfOk result (λ manager. (manager.steps ≡ 0) × (manager.text ≡ 0)
             × (manager.room ≡ None)) }
@@ -189,7 +190,7 @@ impl Manager {
         self.tables.is_wanted()
     }
 
-    /// How many controls wait for a process; none where it isn't listed. It takes no memory.
+    /// How many orders wait for a process; none where it isn't listed. It takes no memory.
     pub fn waiting(&self, process: u64) -> Option<u32>
         ensures { result ≡ waiting self.now.flat process }
     {
@@ -233,7 +234,8 @@ impl Manager {
 
     /// The change of the configurations that a step makes if it is kept.
     pub fn change_of(&self, step: &Step) -> Result<Option<Change>, OutOfMemory>
-        ensures { IfOk result (λ change. change ≡ change_of self.now.limits self.now.flat step.now) }
+        ensures { IfOk result (λ change. change
+            ≡ change_of self.now.limits self.now.flat step.now) }
     {
         change_of(&self.tables, step, self.alloc)
     }
@@ -274,7 +276,8 @@ impl Manager {
         requires steps { self.old.steps < 2 ^ 50 }
         requires text { self.old.text + text_of step.old < 2 ^ 63 }
         ensures answer { result ≡ (step_of self.old.limits self.old.flat moment step.old).answer }
-        ensures flat { self.new.flat ≡ (step_of self.old.limits self.old.flat moment step.old).flat }
+        ensures flat { self.new.flat
+            ≡ (step_of self.old.limits self.old.flat moment step.old).flat }
         ensures limits { self.new.limits ≡ self.old.limits }
         ensures steps { self.new.steps ≡ self.old.steps + 1 }
         ensures text { self.new.text ≡ self.old.text + text_of step.old }

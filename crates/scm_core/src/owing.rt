@@ -46,7 +46,7 @@ fn need_with(services: u128, step: &Step) -> u128
 }
 
 /// Whether a step was counted when it came to be owed.
-fn is_owed(step: &Step) -> bool
+pub fn is_owed(step: &Step) -> bool
     ensures { result ≡ is_owed step.now }
 {
     match step {

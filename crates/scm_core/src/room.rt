@@ -1,7 +1,7 @@
 ghost use Rattle.std.specs.Prelude.{◌≡◌, ◌≤◌, length, IfSome, OnErr, OnOk};
 ghost use Rattle.scm_tables.specs.Promised.{KeepsRooms};
 ghost use Rattle.scm_tables.specs.Tabled.{HasNeedRoom};
-ghost use Rattle.scm_core.specs.Room.{HasRoomFor, HasRoomForCall, IsMadeFor};
+ghost use Rattle.scm_core.specs.Room.{HasRoomForStep, HasRoomForCall, IsMadeFor};
 ghost use Rattle.scm_core.specs.Room.{nothing_made, prepared_for};
 
 use super::made::{Prepared, clear, keep, make_for_call};
@@ -17,7 +17,8 @@ fn reserve_plan(tables: &mut Tables, entries: &Option<Items<u64>>) -> Result<(),
     ensures limits { tables.new.limits ≡ tables.old.limits }
     ensures plans { OnOk result (1 ≤ tables.new.spare.plans) }
     ensures dues { OnOk result (1 ≤ tables.new.spare.dues) }
-    ensures tried { OnOk result (IfSome entries.now (λ list. length list ≤ tables.new.spare.tried)) }
+    ensures tried { OnOk result (IfSome entries.now (λ list.
+        length list ≤ tables.new.spare.tried)) }
     ensures keeps { KeepsRooms tables.old tables.new }
     ensures needs { tables.new.spare.needs ≡ tables.old.spare.needs }
 {
@@ -190,7 +191,7 @@ pub fn prepare(
 ) -> Result<(), OutOfMemory>
     ensures flat { tables.new.flat ≡ tables.old.flat }
     ensures limits { tables.new.limits ≡ tables.old.limits }
-    ensures room { OnOk result (HasRoomFor tables.new step.now) }
+    ensures room { OnOk result (HasRoomForStep tables.new step.now) }
     ensures made { OnOk result (IsMadeFor tables.old.limits tables.old.flat made.new step.now) }
     ensures keeps { KeepsRooms tables.old tables.new }
     ensures needs { OnErr result (tables.new.spare.needs ≡ tables.old.spare.needs) }

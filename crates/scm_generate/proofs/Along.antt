@@ -17,7 +17,7 @@ use Rattle.scm_rules.specs.Runs.{EachStep, IsLegal}
 use Rattle.scm_rules.specs.Steps.{may, step_of}
 use Rattle.scm_generate.specs.declared.run.Run.TheInside.{Inside}
 use Rattle.scm_generate.specs.Listed.{asked_start, at_once, opening_calls, creation_of, creations, down, downs, generated, depth_of}
-use Rattle.scm_generate.specs.Listed.{start_of, starts, up, ups}
+use Rattle.scm_generate.specs.Listed.{run_of, all_runs, up, ups}
 use Rattle.scm_generate.specs.Progress.{CanBeMade, IsOpenTo, IsQuietStep, Makes, Progress, progress_after, after_one, progress}
 use Rattle.scm_generate.specs.Summary.{launch_in}
 
@@ -186,30 +186,30 @@ open_downs p q first (suc k) some made h =
     (open_right p q (down (first + k)) (downs first k) (subst (λ n. Makes p (down (first + n)) q) e made) h)
 
 -- the next start, and the others
-pub open_start : (p : Progress) (services k process plan : ℕ) → k < services → IsOpenTo p (starts (services - k) process plan)
-    → IsOpenTo p (start_of (services - k) process plan)
+pub open_start : (p : Progress) (services k process plan : ℕ) → k < services → IsOpenTo p (all_runs (services - k) process plan)
+    → IsOpenTo p (run_of (services - k) process plan)
 open_start p services k process plan lt h =
     let i = services - (k + 1) in
     let left : services - k ≡ suc i = omega (arith, lt) in
-    subst (λ n. IsOpenTo p (start_of n process plan)) (sym left)
-    (open_left p (start_of (suc i) process plan) (starts i (process + depth_of (suc i)) (plan + 1))
-    (subst (λ n. IsOpenTo p (starts n process plan)) left h))
+    subst (λ n. IsOpenTo p (run_of n process plan)) (sym left)
+    (open_left p (run_of (suc i) process plan) (all_runs i (process + depth_of (suc i)) (plan + 1))
+    (subst (λ n. IsOpenTo p (all_runs n process plan)) left h))
 
-pub open_starts : (p q : Progress) (services k process next : ℕ) → k < services → Makes p (start_of (services - k) process (k + 1)) q
+pub open_starts : (p q : Progress) (services k process next : ℕ) → k < services → Makes p (run_of (services - k) process (k + 1)) q
     → next ≡ process + depth_of (services - k)
-    → IsOpenTo p (starts (services - k) process (k + 1)) → IsOpenTo q (starts (services - (k + 1)) next (k + 1 + 1))
+    → IsOpenTo p (all_runs (services - k) process (k + 1)) → IsOpenTo q (all_runs (services - (k + 1)) next (k + 1 + 1))
 open_starts p q services k process next lt made e h =
     let i = services - (k + 1) in
     let left : services - k ≡ suc i = omega (arith, lt) in
     let first : next ≡ process + depth_of (suc i) = e ∙ ap (λ n. process + depth_of n) left in
-    subst (λ n. IsOpenTo q (starts i n (k + 1 + 1))) (sym first)
-    (open_right p q (start_of (suc i) process (k + 1)) (starts i (process + depth_of (suc i)) (k + 1 + 1))
-    (subst (λ n. Makes p (start_of n process (k + 1)) q) left made)
-    (subst (λ n. IsOpenTo p (starts n process (k + 1))) left h))
+    subst (λ n. IsOpenTo q (all_runs i n (k + 1 + 1))) (sym first)
+    (open_right p q (run_of (suc i) process (k + 1)) (all_runs i (process + depth_of (suc i)) (k + 1 + 1))
+    (subst (λ n. Makes p (run_of n process (k + 1)) q) left made)
+    (subst (λ n. IsOpenTo p (all_runs n process (k + 1))) left h))
 
 -- a start behind what asks for it
 pub open_started : (p a : Progress) (i process plan count : ℕ) → count ≡ depth_of i → Makes p (asked_start i ∷ []) a
-    → IsOpenTo p (start_of i process plan)
+    → IsOpenTo p (run_of i process plan)
     → IsOpenTo a (ups process count ++ (at_once (EndStart 1 plan) ∷ downs process count))
 open_started p a i process plan count e made h =
     let d = depth_of i in
@@ -219,12 +219,12 @@ open_started p a i process plan count e made h =
 -- the whole list, and what is left of it
 pub open_opening : (p : Progress) (n : ℕ) → IsOpenTo p (generated n) → IsOpenTo p opening_calls
 unfolding generated
-open_opening p n h = open_left p opening_calls (creations n ++ (starts n 1 1 ++ (at_once (Gone 1) ∷ []))) h
+open_opening p n h = open_left p opening_calls (creations n ++ (all_runs n 1 1 ++ (at_once (Gone 1) ∷ []))) h
 
 pub open_opened : (p a : Progress) (n : ℕ) → Makes p opening_calls a → IsOpenTo p (generated n)
-    → IsOpenTo a (creations n ++ (starts n 1 1 ++ (at_once (Gone 1) ∷ [])))
+    → IsOpenTo a (creations n ++ (all_runs n 1 1 ++ (at_once (Gone 1) ∷ [])))
 unfolding generated
-open_opened p a n made h = open_right p a opening_calls (creations n ++ (starts n 1 1 ++ (at_once (Gone 1) ∷ []))) made h
+open_opened p a n made h = open_right p a opening_calls (creations n ++ (all_runs n 1 1 ++ (at_once (Gone 1) ∷ []))) made h
 
 -- a creation more
 pub creations_more : (p q r : Progress) (k : ℕ) → Makes p (creations k) q → Makes q (creation_of (k + 1) ∷ []) r
@@ -252,29 +252,29 @@ pub downs_none : (p : Progress) (first left : ℕ) → left ≡ 0 → Makes p (d
 downs_none p first left e = subst (λ n. Makes p (downs first n) p) (sym e) (makes_none p)
 
 -- a start more, before the others
-pub starts_more : (q r s : Progress) (services k process next : ℕ) → k < services → Makes q (start_of (services - k) process (k + 1)) r
+pub starts_more : (q r s : Progress) (services k process next : ℕ) → k < services → Makes q (run_of (services - k) process (k + 1)) r
     → next ≡ process + depth_of (services - k)
-    → Makes r (starts (services - (k + 1)) next (k + 1 + 1)) s → Makes q (starts (services - k) process (k + 1)) s
+    → Makes r (all_runs (services - (k + 1)) next (k + 1 + 1)) s → Makes q (all_runs (services - k) process (k + 1)) s
 starts_more q r s services k process next lt made e rest =
     let left : services - k ≡ suc (services - (k + 1)) = omega (arith, lt) in
     let i = services - (k + 1) in
-    let now : Makes q (start_of (suc i) process (k + 1)) r = subst (λ n. Makes q (start_of n process (k + 1)) r) left made in
+    let now : Makes q (run_of (suc i) process (k + 1)) r = subst (λ n. Makes q (run_of n process (k + 1)) r) left made in
     let first : next ≡ process + depth_of (suc i) = e ∙ ap (λ n. process + depth_of n) left in
-    subst (λ n. Makes q (starts n process (k + 1)) s) (sym left)
-    (makes_both q r s (start_of (suc i) process (k + 1)) (starts i (process + depth_of (suc i)) (k + 1 + 1)) now
-    (subst (λ n. Makes r (starts i n (k + 1 + 1)) s) first rest))
+    subst (λ n. Makes q (all_runs n process (k + 1)) s) (sym left)
+    (makes_both q r s (run_of (suc i) process (k + 1)) (all_runs i (process + depth_of (suc i)) (k + 1 + 1)) now
+    (subst (λ n. Makes r (all_runs i n (k + 1 + 1)) s) first rest))
 
 -- no start is left
-pub starts_none : (p : Progress) (services k process plan : ℕ) → k ≡ services → Makes p (starts (services - k) process plan) p
+pub starts_none : (p : Progress) (services k process plan : ℕ) → k ≡ services → Makes p (all_runs (services - k) process plan) p
 starts_none p services k process plan e =
     let none : services - k ≡ 0 = omega (arith, e) in
-    subst (λ n. Makes p (starts n process plan) p) (sym none) (makes_none p)
+    subst (λ n. Makes p (all_runs n process plan) p) (sym none) (makes_none p)
 
 -- a whole start
 pub started_all : (p a b d r : Progress) (i process plan count : ℕ) → count ≡ depth_of i
     → Makes p (asked_start i ∷ []) a → Makes a (ups process count) b → Makes b (at_once (EndStart 1 plan) ∷ []) d
     → Makes d (downs process count) r
-    → Makes p (start_of i process plan) r
+    → Makes p (run_of i process plan) r
 started_all p a b d r i process plan count e asked upward answered downward =
     let answer = at_once (EndStart 1 plan) in
     subst (λ n. Makes p (asked_start i ∷ (ups process n ++ (answer ∷ downs process n))) r) e
@@ -282,12 +282,12 @@ started_all p a b d r i process plan count e asked upward answered downward =
     (makes_both b d r (answer ∷ []) (downs process count) answered downward))
 
 -- the whole list
-pub made_all : (p a b d r : Progress) (n : ℕ) → Makes p opening_calls a → Makes a (creations n) b → Makes b (starts n 1 1) d
+pub made_all : (p a b d r : Progress) (n : ℕ) → Makes p opening_calls a → Makes a (creations n) b → Makes b (all_runs n 1 1) d
     → Makes d (at_once (Gone 1) ∷ []) r → Makes p (generated n) r
 unfolding generated
 made_all p a b d r n first second third last =
-    makes_three p a b r opening_calls (creations n) (starts n 1 1 ++ (at_once (Gone 1) ∷ [])) first second
-    (makes_both b d r (starts n 1 1) (at_once (Gone 1) ∷ []) third last)
+    makes_three p a b r opening_calls (creations n) (all_runs n 1 1 ++ (at_once (Gone 1) ∷ [])) first second
+    (makes_both b d r (all_runs n 1 1) (at_once (Gone 1) ∷ []) third last)
 
 pub on_ok : {T E P Q : Type 0} (r : Result T E) → OnOk r P → (P → Q) → OnOk r Q
 on_ok (Ok done) h f = f h

@@ -8,7 +8,6 @@ use Rattle.scm_model.specs.declared.flat.Limits.{Limits}
 use Rattle.scm_model.specs.declared.steps.Step.TheVariants.{LaunchTaken, Launched, Report}
 use Rattle.scm_model.specs.Entries.{Entry}
 use Rattle.start_plan.specs.Entered.{wanted_process, wanted_row}
-use Rattle.start_plan.specs.Moves.{has}
 use Rattle.scm_rules.specs.Launches.{is_launched}
 use Rattle.scm_rules.specs.Reports.{current_of, report_told}
 use Rattle.scm_generate.specs.Listed.{at_once, told, up, ups}
@@ -19,6 +18,7 @@ use Rattle.scm_generate.proofs.Launching.{told_report, up_last}
 use Rattle.scm_generate.proofs.Settling.{HasUp, IsAtRest, at_one, decided, enters_next, pending, runs, under_way}
 use Rattle.scm_generate.proofs.Shape.{Live, rows}
 use Rattle.scm_generate.proofs.Untold.{report_alone}
+use Rattle.scm_text.specs.Numbers.{has}
 
 -- of what was tried, nothing lies above the service that is being launched
 abbrev pub Untried : List ℕ → ℕ → Type 0
@@ -69,10 +69,10 @@ module _ (l : Limits) (n : ℕ) (look : ℕ → Live) (plan target s t : ℕ) (r
   up_for : HasUp looked t
   up_for some_need = subst (λ m. (looked m).status.state ≡ 4) (sym half) running_here
 
-  runs_next : Goes l launched (at_once (Report p (told 4 1)) ∷ []) (next_wanting (p + 1))
-  runs_next = goes_one l launched (next_wanting (p + 1)) (Report p (told 4 1))
+  runs_next : Goes l launched (at_once (Report p 0 (told 4 1)) ∷ []) (next_wanting (p + 1))
+  runs_next = goes_one l launched (next_wanting (p + 1)) (Report p 0 (told 4 1))
       (ap (λ o. is_launched o && true) (launched_found l n look plan target s (t ∷ rest) tried done first due low some lt climbing)) refl
-      (stepped l launched (Report p (told 4 1))
+      (stepped l launched (Report p 0 (told 4 1))
       (record {
         answer = report_told (current_of launched p) (told 4 1);
         flat = under_way n looked (ran first (s ∷ done)) [] plan target (s ∷ t ∷ rest) tried (p + 1) due;
@@ -98,10 +98,10 @@ module _ (l : Limits) (n : ℕ) (look : ℕ → Live) (plan target s t : ℕ) (r
       subst (λ m. Goes l wanting (up p) (next_wanting m)) next_number
       (goes_on l wanting (taking l n look plan target s (t ∷ rest) tried done first due low some lt climbing)
       (next_wanting (p + 1)) LaunchTaken
-      (at_once (Launched p p) ∷ at_once (Report p (told 4 1)) ∷ [])
+      (at_once (Launched p p) ∷ at_once (Report p 0 (told 4 1)) ∷ [])
       (takes l n look plan target s (t ∷ rest) tried done first due low some lt climbing)
       (goes_on l (taking l n look plan target s (t ∷ rest) tried done first due low some lt climbing) launched (next_wanting (p + 1))
-      (Launched p p) (at_once (Report p (told 4 1)) ∷ [])
+      (Launched p p) (at_once (Report p 0 (told 4 1)) ∷ [])
       (goes_up l n look plan target s (t ∷ rest) tried done first due low some lt climbing passed) runs_next))
 
   -- how the services stand then

@@ -4,6 +4,7 @@ use Rattle.std.proofs.Common.{◌++◌, None, Some, filter, length, ap, sym, ref
 use Rattle.std.specs.Prelude.{is_none, is_some, option_and_then, nat_le}
 use Rattle.std.proofs.lemmas.Bool.{or_from, lt-leb, lt-ltb}
 use Rattle.scm_text.specs.Fold.{same_text}
+use Rattle.scm_text.specs.Numbers.{has}
 use Rattle.scm_model.specs.declared.flat.Config.{Config}
 use Rattle.scm_model.specs.declared.flat.Flat.{Flat}
 use Rattle.scm_model.specs.declared.flat.HandleKind.TheVariants as kinds
@@ -20,7 +21,7 @@ use Rattle.scm_model.specs.declared.steps.Kept.TheVariants as appended
 use Rattle.scm_model.specs.declared.steps.Step.TheVariants.{Call, Joined}
 use Rattle.scm_model.specs.declared.flat.Principal.TheVariants.{Admin}
 use Rattle.scm_model.specs.Changes.{new_service}
-use Rattle.scm_model.specs.Needs.{has, numbers_of, with_row}
+use Rattle.scm_model.specs.Needs.{numbers_of, with_row}
 use Rattle.scm_model.specs.Order.{is_cyclic}
 use Rattle.scm_model.specs.Refused.{Refusals, first_refusal}
 use Rattle.scm_model.specs.Rows.{held_by, is_shown, manager_mask, mask_of_manager, named}
@@ -34,7 +35,7 @@ use Rattle.scm_rules.specs.OpenService.{service_granted}
 use Rattle.scm_rules.specs.Opening.{opening}
 use Rattle.scm_rules.specs.Rights.{manager_lacks}
 use Rattle.scm_rules.specs.Verdicts.{done_of, tells_right, unless_refused}
-use Rattle.scm_generate.specs.Listed.{called, at_once, creation_of, creations, nth_name, nth_service, opening_calls}
+use Rattle.scm_generate.specs.Listed.{call_now, at_once, creation_of, creations, nth_name, nth_service, opening_calls}
 use Rattle.scm_generate.proofs.Built.{Each, any_built, map_built, filter_built, find_base, length_built, none_built}
 use Rattle.scm_generate.proofs.Goes.{Goes, all_stay, called_well, goes_both, goes_none, goes_on, goes_one, stepped}
 use Rattle.scm_generate.proofs.Graph.{not_cyclic}
@@ -217,12 +218,12 @@ opens_verdict : (l : Limits) → IsWide l 0 → open_manager_verdict l joined 1 
 opens_verdict l wide = all_pass (open_manager_refusals l joined 1 None 0x02000000)
     (refl, (refl, (refl, (lt-leb l.handles 0 (let h = wide.handles in omega (arith, h)), tt))))
 
-opens_manager : (l : Limits) → IsWide l 0 → Goes l joined (called opens_it appended.NotAsked ∷ []) (created 0)
+opens_manager : (l : Limits) → IsWide l 0 → Goes l joined (call_now opens_it appended.NotAsked ∷ []) (created 0)
 opens_manager l wide = goes_one l joined (created 0) (Call 1 opens_it appended.NotAsked) refl refl
     (stepped l joined (Call 1 opens_it appended.NotAsked) (record { answer = answer.Reply (reply.Handle 1 0); flat = created 0 })
     (created 0) (created 0)
     (called_well l joined opens_it appended.NotAsked (opens_verdict l wide)) refl refl (all_stay (created 0) fresh 0 refl refl))
 
 pub begins : (l : Limits) → IsWide l 0 → Goes l (opening l [] [] 0) opening_calls (created 0)
-begins l wide = goes_on l (opening l [] [] 0) joined (created 0) (Joined Admin) (called opens_it appended.NotAsked ∷ []) (joins l wide)
+begins l wide = goes_on l (opening l [] [] 0) joined (created 0) (Joined Admin) (call_now opens_it appended.NotAsked ∷ []) (joins l wide)
     (opens_manager l wide)

@@ -14,7 +14,7 @@ use Rattle.scm_generate.proofs.Fits.{short_text}
 use Rattle.scm_generate.proofs.Whole.{ample_legal, ample_made}
 use Rattle.scm_rules.specs.Steps.{step_of}
 use Rattle.scm_generate.specs.Progress.{IsOpenTo, Progress, progress_after, after_one, at_first, summed_up}
-use Rattle.scm_generate.specs.Summary.{four_lines, launch_in, launches, running, summary}
+use Rattle.scm_generate.specs.Summary.{four_lines, launch_in, launches, running, generated_summary}
 
 -- the state and the counts behind a list
 abbrev behind : Progress → List Entry → Progress
@@ -58,7 +58,7 @@ run_through p (e ∷ es) =
     count
 
 -- what a run tells at its end is the summary of its list
-pub sums_up : (l : Limits) (h : List Entry) → summed_up (progress_after (at_first l) h) ≡ summary l (opening l [] [] 0) h
+pub sums_up : (l : Limits) (h : List Entry) → summed_up (progress_after (at_first l) h) ≡ generated_summary l (opening l [] [] 0) h
 sums_up l h =
     let f = run_state l (opening l [] [] 0) h in
     let steps : 0 + length h ≡ length h = omega arith in
@@ -69,7 +69,7 @@ sums_up l h =
 
 -- of a run from the beginning on
 pub told_of : {E : Type 0} (l : Limits) (p : Progress) (h : List Entry) (r : Result (List ℕ) E) → p ≡ at_first l
-    → IfOk r (λ text. text ≡ summed_up (progress_after p h)) → IfOk r (λ text. text ≡ summary l (opening l [] [] 0) h)
+    → IfOk r (λ text. text ≡ summed_up (progress_after p h)) → IfOk r (λ text. text ≡ generated_summary l (opening l [] [] 0) h)
 told_of l p h (Ok text) e told = told ∙ ap (λ (q : Progress). summed_up (progress_after q h)) e ∙ sums_up l h
 told_of l p h (Err fault) e told = tt
 

@@ -106,9 +106,9 @@ module _ (l : Limits) (n : ℕ) (look : ℕ → Live) (first s : ℕ) (done : Li
   found : find (λ (row : Process). row.number == p) (ran first (s ∷ done)) ≡ Some (running_process p s)
   found = last_found first p done (running_process p s) (omega arith) refl
 
-  stops : Goes l before (at_once (Report p (told 1 0)) ∷ []) reported
-  stops = goes_one l before reported (Report p (told 1 0)) (ap (λ o. is_launched o && true) found) refl
-      (stepped l before (Report p (told 1 0)) (record { answer = report_told (current_of before p) (told 1 0); flat = reported }) reported
+  stops : Goes l before (at_once (Report p 0 (told 1 0)) ∷ []) reported
+  stops = goes_one l before reported (Report p 0 (told 1 0)) (ap (λ o. is_launched o && true) found) refl
+      (stepped l before (Report p 0 (told 1 0)) (record { answer = report_told (current_of before p) (told 1 0); flat = reported }) reported
       reported
       (ap (λ f. record { answer = report_told (current_of before p) (told 1 0); flat = f })
       (report_alone before p (told 1 0) (rows looked n) refl refl (map_built (reported_if p (told 1 0)) [] (λ k. row_at k (look k)) []
@@ -148,7 +148,7 @@ module _ (l : Limits) (n : ℕ) (look : ℕ → Live) (first s : ℕ) (done : Li
       refl (told_end after (current_of reported p)) (all_stay after looked n refl refl))
 
   pub goes_down : Goes l before (down p) after
-  goes_down = goes_on l before reported after (Report p (told 1 0)) (at_once (Ended p) ∷ []) stops ends
+  goes_down = goes_on l before reported after (Report p 0 (told 1 0)) (at_once (Ended p) ∷ []) stops ends
 
   fewer_run : (live : Live) → (live.process == p) ≡ false → IsAtRest live ⊎ IsRun first (first + length (s ∷ done)) live → IsAtRest live
       ⊎ IsRun first p live

@@ -36,7 +36,7 @@ use Rattle.scm_owed.proofs.Histories.{found_legal}
 use Rattle.scm_owed.proofs.Whole.{gives as gives_owed, opened_owes}
 use Rattle.scm_generate.specs.Ample.{IsAmple}
 use Rattle.scm_generate.specs.Listed.{alone, asked_start, at_once, creation_of, creations, depth_of, down, downs, generated, nth_name}
-use Rattle.scm_generate.specs.Listed.{nth_need, opening_calls, start_of, starts, up, ups, wide_bytes}
+use Rattle.scm_generate.specs.Listed.{nth_need, opening_calls, run_of, all_runs, up, ups, wide_bytes}
 
 -- ## How many services a run can have
 
@@ -165,7 +165,7 @@ module _ (m : Step → ℕ) (create start report : ℕ) (bounded : IsBounded m c
       let product = suc-mul k report in
       omega (arith, both, rest, one, product)
 
-  sum_start : (i process plan : ℕ) → i ≤ 512 → sum_of m (start_of i process plan) ≤ start + 20 * report
+  sum_start : (i process plan : ℕ) → i ≤ 512 → sum_of m (run_of i process plan) ≤ start + 20 * report
   sum_start i process plan few =
       let d = depth_of i in
       let short : d ≤ 10 = length-digits_of-le 2 10 i (omega arith) (omega (arith, few)) in
@@ -177,10 +177,10 @@ module _ (m : Step → ℕ) (create start report : ℕ) (bounded : IsBounded m c
       let product = mul-le d report 10 report short (omega arith) in
       omega (arith, both, first, upward, downward, none, product)
 
-  sum_starts : (i process plan : ℕ) → i ≤ 512 → sum_of m (starts i process plan) ≤ i * (start + 20 * report)
+  sum_starts : (i process plan : ℕ) → i ≤ 512 → sum_of m (all_runs i process plan) ≤ i * (start + 20 * report)
   sum_starts zero process plan few = omega arith
   sum_starts (suc i) process plan few =
-      let both = sum_both m (start_of (suc i) process plan) (starts i (process + depth_of (suc i)) (plan + 1)) in
+      let both = sum_both m (run_of (suc i) process plan) (all_runs i (process + depth_of (suc i)) (plan + 1)) in
       let one = sum_start (suc i) process plan few in
       let rest = sum_starts i (process + depth_of (suc i)) (plan + 1) (omega (arith, few)) in
       let product = suc-mul i (start + 20 * report) in
@@ -190,9 +190,9 @@ module _ (m : Step → ℕ) (create start report : ℕ) (bounded : IsBounded m c
   unfolding generated
   sum_all n few =
       let ends = at_once (Gone 1) ∷ [] in
-      let begin = sum_both m opening_calls (creations n ++ (starts n 1 1 ++ ends)) in
-      let both = sum_both m (creations n) (starts n 1 1 ++ ends) in
-      let last = sum_both m (starts n 1 1) ends in
+      let begin = sum_both m opening_calls (creations n ++ (all_runs n 1 1 ++ ends)) in
+      let both = sum_both m (creations n) (all_runs n 1 1 ++ ends) in
+      let last = sum_both m (all_runs n 1 1) ends in
       let made = sum_creations n few in
       let run = sum_starts n 1 1 few in
       let none = bounded.gone in

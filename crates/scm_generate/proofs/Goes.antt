@@ -18,7 +18,7 @@ use Rattle.scm_rules.specs.Runs.{EachStep, IsLegal, run_state}
 use Rattle.scm_rules.specs.Steps.{at_moment, call_answer, effect_of, finished, may, step_of, tells_plan}
 use Rattle.scm_rules.specs.Verdicts.{done_of, told_refused, verdict}
 use Rattle.scm_generate.specs.Listed.{at_once}
-use Rattle.scm_generate.specs.Progress.{IsQuietStep, is_quiet}
+use Rattle.scm_generate.specs.Progress.{IsQuietStep, wants_nothing}
 use Rattle.scm_generate.proofs.Built.{filter_built}
 use Rattle.scm_generate.proofs.Shape.{Live, rows, row_at}
 use Rattle.scm_generate.proofs.Untold.{events_untold}
@@ -54,7 +54,7 @@ goes_both l f g h xs ys a b =
       leads = state_both l f xs ys ∙ b'.leads;
     }
 
-pub goes_one : (l : Limits) (f g : Flat) (step : Step) → may l f 0 step ≡ true → is_quiet f step ≡ true → (step_of l f 0 step).flat ≡ g
+pub goes_one : (l : Limits) (f g : Flat) (step : Step) → may l f 0 step ≡ true → wants_nothing f step ≡ true → (step_of l f 0 step).flat ≡ g
     → Goes l f (at_once step ∷ []) g
 goes_one l f g step can quiet is = record { legal = (can, tt); quiet = (quiet, tt); leads = is }
 

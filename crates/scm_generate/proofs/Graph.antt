@@ -5,7 +5,7 @@ use Rattle.std.proofs.lemmas.Bool.{eqb-false, cases_lt}
 use Rattle.std.proofs.lemmas.Int.Digits.{length-digits_of_step}
 use Rattle.scm_model.specs.declared.flat.Need.TheVariants as needs
 use Rattle.scm_model.specs.declared.flat.NeedRow.{NeedRow}
-use Rattle.scm_model.specs.Needs.{has, is_met, met_by, met_by_all, needs_of, numbers_of, row_needs}
+use Rattle.scm_model.specs.Needs.{is_met, met_by, met_by_all, needs_of, numbers_of, row_needs}
 use Rattle.scm_model.specs.Order.{is_cyclic, order_in, runs_in, visit, visit_all}
 use Rattle.scm_model.specs.Walks.{IsAcyclic, IsWalk, Needs}
 use Rattle.dependency_index.proofs.Cycles.{acyclic_ends}
@@ -14,6 +14,7 @@ use Rattle.scm_generate.specs.Listed.{depth_of, nth_name}
 use Rattle.scm_generate.proofs.Built.{Each, any_there, filter_one, find_built, map_built, none_built}
 use Rattle.scm_generate.proofs.Names.{other_names, same_name}
 use Rattle.scm_generate.proofs.Shape.{graph, need_row_at}
+use Rattle.scm_text.specs.Numbers.{has}
 
 -- the services that one needs
 abbrev pub needed : ℕ → List ℕ

@@ -30,10 +30,12 @@ use Rattle.scm_generate.proofs.Untold.{report_alone}
 -- ## The processes
 
 abbrev pub taken_process : ℕ → ℕ → Process
-taken_process number service = record { number = number; service = service; phase = phases.Taken; pid = 0; controls = [] }
+taken_process number service =
+    record { number = number; service = service; shared = false; phase = phases.Taken; pid = 0; controls = [] }
 
 abbrev pub running_process : ℕ → ℕ → Process
-running_process number service = record { number = number; service = service; phase = phases.Launched; pid = number; controls = [] }
+running_process number service =
+    record { number = number; service = service; shared = false; phase = phases.Launched; pid = number; controls = [] }
 
 -- the processes of these services, the last one's first, from a first number on
 abbrev pub ran : (first : ℕ) → List ℕ → List Process
@@ -208,14 +210,17 @@ module _ (l : Limits) (n : ℕ) (look : ℕ → Live) (plan target s : ℕ) (res
   abbrev finished_all : Flat
   finished_all = decided n running (ran first (s ∷ done)) plan target (s ∷ rest) tried (p + 1) due
 
-  runs_last : Goes l succeeded (at_once (Report p (told 4 1)) ∷ []) finished_all
-  runs_last = goes_one l succeeded finished_all (Report p (told 4 1)) (ap (λ o. is_launched o && true) launched_found) refl
-      (stepped l succeeded (Report p (told 4 1)) (record { answer = report_told (current_of succeeded p) (told 4 1); flat = finished_all })
+  runs_last : Goes l succeeded (at_once (Report p 0 (told 4 1)) ∷ []) finished_all
+  runs_last = goes_one l succeeded finished_all (Report p 0 (told 4 1)) (ap (λ o. is_launched o && true) launched_found) refl
+      (stepped l succeeded (Report p 0 (told 4 1)) (record {
+        answer = report_told (current_of succeeded p) (told 4 1);
+        flat = finished_all;
+      })
       finished_all finished_all
       (ap (λ f. record { answer = report_told (current_of succeeded p) (told 4 1); flat = f })
       (report_alone succeeded p (told 4 1) (rows running n) refl refl reports_all))
       refl (told_report finished_all (current_of succeeded p) (told 4 1)) (all_stay finished_all running n refl refl))
 
   pub up_last : (target == s) ≡ true → Goes l wanting (up p) finished_all
-  up_last this = goes_on l wanting taking finished_all LaunchTaken (at_once (Launched p p) ∷ at_once (Report p (told 4 1)) ∷ []) takes
-      (goes_on l taking succeeded finished_all (Launched p p) (at_once (Report p (told 4 1)) ∷ []) (goes_last this) runs_last)
+  up_last this = goes_on l wanting taking finished_all LaunchTaken (at_once (Launched p p) ∷ at_once (Report p 0 (told 4 1)) ∷ []) takes
+      (goes_on l taking succeeded finished_all (Launched p p) (at_once (Report p 0 (told 4 1)) ∷ []) (goes_last this) runs_last)

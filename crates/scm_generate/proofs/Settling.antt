@@ -5,6 +5,7 @@ use Rattle.std.specs.Prelude.{is_some}
 use Rattle.std.specs.List.{list_all}
 use Rattle.std.proofs.lemmas.Bool.{lt-leb, and_right, eqb-false}
 use Rattle.scm_text.specs.Fold.{same_text}
+use Rattle.scm_text.specs.Numbers.{has}
 use Rattle.scm_model.specs.declared.flat.Due.{Due}
 use Rattle.scm_model.specs.declared.flat.DueKind.TheVariants as dues
 use Rattle.scm_model.specs.declared.flat.Flat.{Flat}
@@ -19,7 +20,7 @@ use Rattle.scm_model.specs.Refused.{first_refusal}
 use Rattle.scm_model.specs.Rows.{service_of}
 use Rattle.start_plan.specs.declared.settling.Move.TheVariants as moves
 use Rattle.start_plan.specs.Entered.{started_if, starting_in, wanted_process, wanted_row, with_entered}
-use Rattle.start_plan.specs.Moves.{cause_at, cause_of, entering_at, has, is_full, is_pending, move_by, move_of}
+use Rattle.start_plan.specs.Moves.{cause_at, cause_of, entering_at, is_full, is_pending, move_by, move_of}
 use Rattle.start_plan.specs.Settle.{dropped, move_code, moved, settle_all, settle_entries, settle_plan, settled, tidied, with_tried}
 use Rattle.start_plan.specs.Settle.{words_for}
 use Rattle.scm_generate.specs.Listed.{nth_name, told}

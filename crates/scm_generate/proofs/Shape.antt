@@ -31,6 +31,8 @@ row_at i live = record {
   process = live.process;
   failures = 0;
   last_failure = 0;
+  asked = false;
+  security = [];
 }
 
 abbrev pub rows : (ℕ → Live) → ℕ → List Service

@@ -13,7 +13,7 @@ use Rattle.scm_model.specs.Needs.{needs_of}
 use Rattle.scm_model.specs.Walks.{IsWalk}
 use Rattle.scm_generate.proofs.Fits.{all_fits}
 use Rattle.scm_rules.specs.Steps.{step_of}
-use Rattle.scm_generate.specs.Listed.{asked_start, at_once, creations, depth_of, downs, generated, opening_calls, start_of, starts, ups}
+use Rattle.scm_generate.specs.Listed.{asked_start, at_once, creations, depth_of, downs, generated, opening_calls, run_of, all_runs, ups}
 use Rattle.scm_generate.specs.Ample.{IsAmple}
 use Rattle.scm_generate.specs.Progress.{CanBeMade}
 use Rattle.scm_generate.proofs.Asking.{asks, line}
@@ -72,7 +72,7 @@ module _ (l : Limits) (n : ℕ) (look : ℕ → Live) (i process plan due : ℕ)
 
   -- after the first service was entered
   fallen : (f : Flat) → Goes l rest (asked_start i ∷ []) f → HasClimbed l n process plan i due (depth_of i) f (ups process (depth_of i))
-      → HasFallen l n (process + depth_of i) (plan + 1) (due + 1) rest (start_of i process plan)
+      → HasFallen l n (process + depth_of i) (plan + 1) (due + 1) rest (run_of i process plan)
   fallen f asked climbed =
       let run = decided n climbed.look (ran process climbed.done) plan i climbed.entries climbed.tried (process
       + length climbed.done) due in
@@ -91,7 +91,7 @@ module _ (l : Limits) (n : ℕ) (look : ℕ → Live) (i process plan due : ℕ)
       })
 
   started_by : (entries : List ℕ) → start_order rest i ≡ entries → IsLine n i entries
-      → HasFallen l n (process + depth_of i) (plan + 1) (due + 1) rest (start_of i process plan)
+      → HasFallen l n (process + depth_of i) (plan + 1) (due + 1) rest (run_of i process plan)
   started_by [] is line = absurd (let none = line.climbs in omega (arith, none, some))
   started_by (t ∷ more) is line =
       let climbs = line.climbs in
@@ -99,13 +99,13 @@ module _ (l : Limits) (n : ℕ) (look : ℕ → Live) (i process plan due : ℕ)
       (let long = line.long in omega (arith, long, space)))
       (climbed t more climbs.1 climbs.2 climbs.3 line.long)
 
-  pub started : HasFallen l n (process + depth_of i) (plan + 1) (due + 1) rest (start_of i process plan)
+  pub started : HasFallen l n (process + depth_of i) (plan + 1) (due + 1) rest (run_of i process plan)
   started = started_by (start_order rest i) refl (line l n look i process plan due small some lt still)
 
 -- after all starts the caller goes
 pub starts_all : (l : Limits) (n : ℕ) (look : ℕ → Live) (i process plan due : ℕ) → n < 2 ^ 64 → 0 < process → i ≤ n
     → ((k : ℕ) → IsAtRest (look k)) → ((k : ℕ) → k ≤ n → depth_of k ≤ l.processes)
-    → (g : Flat) × Goes l (resting n look process plan due) (starts i process plan ++ (at_once (Gone 1) ∷ [])) g
+    → (g : Flat) × Goes l (resting n look process plan due) (all_runs i process plan ++ (at_once (Gone 1) ∷ [])) g
 starts_all l n look zero process plan due small low lt still space =
     let f = resting n look process plan due in
     ((step_of l f 0 (Gone 1)).flat, goes_one l f (step_of l f 0 (Gone 1)).flat (Gone 1) refl refl refl)
@@ -115,9 +115,9 @@ starts_all l n look (suc i) process plan due small low lt still space =
     let rest = starts_all l n first.look i next (plan + 1) (due + 1) small (omega (arith, low)) (omega (arith, lt)) first.still space in
     let f = resting n look process plan due in (
       rest.0,
-      subst (λ es. Goes l f es rest.0) (sym (append_assoc (start_of (suc i) process plan) (starts i next (plan + 1))
+      subst (λ es. Goes l f es rest.0) (sym (append_assoc (run_of (suc i) process plan) (all_runs i next (plan + 1))
           (at_once (Gone 1) ∷ [])))
-          (goes_both l f _ rest.0 (start_of (suc i) process plan) (starts i next (plan + 1) ++ (at_once (Gone 1) ∷ [])) first.goes rest.1),
+          (goes_both l f _ rest.0 (run_of (suc i) process plan) (all_runs i next (plan + 1) ++ (at_once (Gone 1) ∷ [])) first.goes rest.1),
     )
 
 pub all_goes : (l : Limits) (n : ℕ) → IsWide l n → ((k : ℕ) → k ≤ n → depth_of k ≤ l.processes) → (g : Flat)
@@ -129,8 +129,9 @@ all_goes l n wide space =
     (λ k. record { state = refl; kind = refl; process = refl }) space in
     let ends = at_once (Gone 1) ∷ [] in (
       last.0,
-      goes_both l (opening l [] [] 0) (created 0) last.0 opening_calls (creations n ++ (starts n 1 1 ++ ends)) (begins l (widens l n wide))
-          (goes_both l (created 0) (created n) last.0 (creations n) (starts n 1 1 ++ ends) (creates_all l n wide) last.1),
+      goes_both l (opening l [] [] 0) (created 0) last.0 opening_calls (creations n ++ (all_runs n 1 1 ++ ends))
+          (begins l (widens l n wide))
+          (goes_both l (created 0) (created n) last.0 (creations n) (all_runs n 1 1 ++ ends) (creates_all l n wide) last.1),
     )
 
 pub can_be_made : (l : Limits) (n : ℕ) → IsWide l n → ((k : ℕ) → k ≤ n → depth_of k ≤ l.processes)

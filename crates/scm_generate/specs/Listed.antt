@@ -19,14 +19,14 @@ abbrev pub at_once : Step → Entry
 at_once step = (0, step)
 
 -- there is one caller
-abbrev pub called : Request → Kept → Entry
-called asked append = at_once (Call 1 asked append)
+abbrev pub call_now : Request → Kept → Entry
+call_now asked append = at_once (Call 1 asked append)
 
 -- ## The beginning
 
 -- an administrator joins, and opens the manager with every right that it may have; this is handle 1
 abbrev pub opening_calls : List Entry
-opening_calls = at_once (Joined Admin) ∷ called (request.OpenManager None 0x02000000) appended.NotAsked ∷ []
+opening_calls = at_once (Joined Admin) ∷ call_now (request.OpenManager None 0x02000000) appended.NotAsked ∷ []
 
 -- ## The services
 
@@ -46,7 +46,7 @@ alone name = wide_bytes name ++ 0 ∷ 0 ∷ 0 ∷ 0 ∷ []
 abbrev pub nth_need : ℕ → Option (List ℕ)
 nth_need j = if j == 0 then None else Some (alone (nth_name j))
 
--- a process of its own that is started on demand, of which an error is told
+-- a process of its own that is started on demand; an error of it is reported
 abbrev pub nth_service : ℕ → NewService
 nth_service i = record {
   handle = 1;
@@ -64,7 +64,7 @@ nth_service i = record {
 }
 
 abbrev pub creation_of : ℕ → Entry
-creation_of i = called (request.Create (nth_service i)) appended.Kept
+creation_of i = call_now (request.Create (nth_service i)) appended.Kept
 
 -- S1 to Sn are created in order, so that Si has handle i + 1
 abbrev pub creations : ℕ → List Entry
@@ -83,11 +83,11 @@ told state accepted = record { kind = 0x10; state = state; accepted = accepted; 
 
 -- a process is launched, which has its number as the system's too, and tells that it is RUNNING and accepts STOP
 abbrev pub up : ℕ → List Entry
-up process = at_once LaunchTaken ∷ at_once (Launched process process) ∷ at_once (Report process (told 4 1)) ∷ []
+up process = at_once LaunchTaken ∷ at_once (Launched process process) ∷ at_once (Report process 0 (told 4 1)) ∷ []
 
 -- a process tells that it is STOPPED, and ends
 abbrev pub down : ℕ → List Entry
-down process = at_once (Report process (told 1 0)) ∷ at_once (Ended process) ∷ []
+down process = at_once (Report process 0 (told 1 0)) ∷ at_once (Ended process) ∷ []
 
 -- so many processes from a first one on are launched, in order
 abbrev pub ups : (first count : ℕ) → List Entry
@@ -100,24 +100,24 @@ downs first zero = []
 downs first (suc count) = down (first + count) ++ downs first count
 
 abbrev pub asked_start : ℕ → Entry
-asked_start i = called (request.Start (i + 1) (Some [])) appended.NotAsked
+asked_start i = call_now (request.Start (i + 1) (Some [])) appended.NotAsked
 
 -- Si is started with what it needs, the start is answered, and the processes end; this is the number of the first process,
 -- and that of the plan
-abbrev pub start_of : (i process plan : ℕ) → List Entry
-start_of i process plan =
+abbrev pub run_of : (i process plan : ℕ) → List Entry
+run_of i process plan =
     asked_start i
     ∷ (ups process (depth_of i) ++ (at_once (EndStart 1 plan) ∷ downs process (depth_of i)))
 
 -- this for Si down to S1; the numbers of processes and plans go on rising
-abbrev pub starts : (i process plan : ℕ) → List Entry
-starts zero process plan = []
-starts (suc i) process plan = start_of (suc i) process plan ++ starts i (process + depth_of (suc i)) (plan + 1)
+abbrev pub all_runs : (i process plan : ℕ) → List Entry
+all_runs zero process plan = []
+all_runs (suc i) process plan = run_of (suc i) process plan ++ all_runs i (process + depth_of (suc i)) (plan + 1)
 
 -- ## All
 
 unfoldable pub generated : ℕ → List Entry
-generated n = opening_calls ++ (creations n ++ (starts n 1 1 ++ (at_once (Gone 1) ∷ [])))
+generated n = opening_calls ++ (creations n ++ (all_runs n 1 1 ++ (at_once (Gone 1) ∷ [])))
 
 -- how many processes there are in it
 abbrev pub lines_to : ℕ → ℕ

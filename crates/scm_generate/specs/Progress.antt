@@ -13,7 +13,7 @@ use Rattle.scm_rules.specs.Steps.{wants_launch, step_of}
 use Rattle.scm_generate.specs.declared.run.Run.TheInside.{Inside}
 use Rattle.scm_generate.specs.Summary.{four_lines, launch_in, running}
 
--- the state, the limits, how many steps were made and how much text they had, and how many launches were taken in hand
+-- the state, the limits, how many steps were made and how much text they had, and how many launches were taken
 pub record Progress : Type 0 where
   pub flat : Flat
   pub limits : Limits
@@ -56,12 +56,12 @@ progress_after p [] = p
 progress_after p (e ∷ es) = progress_after (after_one p e) es
 
 -- no launch is wanted any more where a start is ended
-abbrev pub is_quiet : Flat → Step → Bool
-is_quiet f (EndStart caller plan) = not (wants_launch f.wanted)
-is_quiet f step = true
+abbrev pub wants_nothing : Flat → Step → Bool
+wants_nothing f (EndStart caller plan) = not (wants_launch f.wanted)
+wants_nothing f step = true
 
 abbrev pub IsQuietStep : Flat → Entry → Answer → Flat → Type 0
-IsQuietStep before e told now = IsTrue (is_quiet before e.1)
+IsQuietStep before e told now = IsTrue (wants_nothing before e.1)
 
 -- each entry may be made in the state before it, and each end of a start comes where no launch is wanted
 pub record CanBeMade (l : Limits) (f : Flat) (es : List Entry) : Type 0 where

@@ -10,12 +10,12 @@ use Rattle.scm_model.specs.Entries.{Entry}
 use Rattle.scm_summary.specs.Lines.{numbered}
 use Rattle.scm_model.specs.declared.codes.TheConstants.{SERVICE_RUNNING}
 
--- whether a step takes a launch in hand: 1 or 0
+-- whether a step takes a launch: 1 or 0
 abbrev pub launch_in : Step → ℕ
 launch_in LaunchTaken = 1
 launch_in step = 0
 
--- how many launches were taken in hand
+-- how many launches were taken
 abbrev pub launches : List Entry → ℕ
 launches [] = 0
 launches (e ∷ es) = launch_in e.1 + launches es
@@ -31,7 +31,7 @@ four_lines steps services taken running =
     ++ (numbered (codes "launches ") taken
     ++ numbered (codes "running ") running))
 
--- of a list that is run from a state on: its length, the services that are there behind it, the launches that were taken in hand in it,
--- and the services that are RUNNING behind it
-abbrev pub summary : Limits → Flat → List Entry → List ℕ
-summary l f h = four_lines (length h) (length (run_state l f h).services) (launches h) (running (run_state l f h).services)
+-- of a list that is run from a state on: its length, the services that are there after it, the launches that were taken in it, and
+-- the services that are RUNNING after it
+abbrev pub generated_summary : Limits → Flat → List Entry → List ℕ
+generated_summary l f h = four_lines (length h) (length (run_state l f h).services) (launches h) (running (run_state l f h).services)

@@ -4,8 +4,9 @@ ghost use Rattle.scm_rules.specs.Opening.{opening};
 ghost use Rattle.scm_generate.specs.Ample.{IsAmple};
 ghost use Rattle.scm_generate.specs.Listed.{generated};
 ghost use Rattle.scm_generate.specs.Printed.{IfMade, IsPrintCaused, Prints};
-ghost use Rattle.scm_generate.specs.Progress.{CanBeMade, IsOpenTo, Makes, progress_after, summed_up};
-ghost use Rattle.scm_generate.specs.Summary.{summary};
+ghost use Rattle.scm_generate.specs.Progress.{CanBeMade, IsOpenTo, Makes, progress_after};
+ghost use Rattle.scm_generate.specs.Progress.{summed_up};
+ghost use Rattle.scm_generate.specs.Summary.{generated_summary};
 
 use super::creating::{CALLER, begin, create_all};
 use super::generated::Generated;
@@ -44,7 +45,7 @@ fn summary_of(alloc: Global, limits: Limits, services: u32) -> Result<Items<u8>,
     requires ample { IsAmple limits }
     requires few { services ≤ 512 }
     ensures { IfOk result (λ text. text
-        ≡ summary limits (opening limits [] [] 0) (generated services)) }
+        ≡ generated_summary limits (opening limits [] [] 0) (generated services)) }
 {
     let mut run = Run::new(alloc, limits)?;
     let text = summed_up(&mut run, alloc, services);
@@ -59,7 +60,7 @@ pub fn generate<O: Sink>(alloc: Global, limits: Limits, services: u32, output: &
     requires small { AreSmall limits }
     requires ample { IsAmple limits }
     requires few { services ≤ 512 }
-    ensures prints { Prints (summary limits (opening limits [] [] 0) (generated services))
+    ensures prints { Prints (generated_summary limits (opening limits [] [] 0) (generated services))
         (O.held output.old) (O.held output.new) result }
     // What is summed up is a legal history.
     ensures can { IfMade result

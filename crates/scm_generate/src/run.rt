@@ -16,8 +16,7 @@ use std::marker::Model;
 /// The moment at which every step takes place, in milliseconds.
 const MOMENT: u64 = 0;
 
-/// A run of steps over a manager of its own, which counts its steps and the launches that it took
-/// in hand.
+/// A run of steps over a manager of its own, which counts its steps and the launches that it took.
 #[derive(Drop)]
 pub struct Run {
     manager: Manager,
@@ -37,7 +36,7 @@ impl Model for Run {
     ghost invariant = { IsCounted };
 }
 
-/// Whether a step takes a launch in hand: 1 or 0.
+/// Whether a step takes a launch: 1 or 0.
 fn launch_in(step: &Step) -> u64
     ensures value { result ≡ launch_in step.now }
     ensures small { result ≤ 1 }
@@ -54,7 +53,8 @@ fn act(manager: &mut Manager, step: &mut Step)
     requires room { WasMadeFor manager.old.room step.old }
     requires steps { manager.old.steps < 2 ^ 50 }
     requires text { manager.old.text + text_of step.old < 2 ^ 63 }
-    ensures flat { manager.new.flat ≡ (step_of manager.old.limits manager.old.flat 0 step.old).flat }
+    ensures flat { manager.new.flat
+        ≡ (step_of manager.old.limits manager.old.flat 0 step.old).flat }
     ensures limits { manager.new.limits ≡ manager.old.limits }
     ensures steps { manager.new.steps ≡ manager.old.steps + 1 }
     ensures text { manager.new.text ≡ manager.old.text + text_of step.old }

@@ -1,5 +1,5 @@
 ghost use Rattle.std.specs.Prelude.{◌≡◌, ◌<◌, ◌≤◌, ◌+◌, ◌^◌, ◌∷◌, [], IfOk, OnOk};
-ghost use Rattle.scm_generate.specs.Listed.{asked_start, down, downs, depth_of, start_of, starts};
+ghost use Rattle.scm_generate.specs.Listed.{asked_start, down, downs, depth_of, run_of, all_runs};
 ghost use Rattle.scm_generate.specs.Listed.{told, up, ups};
 ghost use Rattle.scm_generate.specs.Progress.{IsOpenTo, Makes};
 
@@ -55,6 +55,7 @@ fn up(run: &mut Run, number: u32) -> Result<(), OutOfMemory>
     })?;
     run.make(Step::Report {
         process,
+        service: 0,
         status: told(SERVICE_RUNNING, SERVICE_ACCEPT_STOP),
     })
 }
@@ -82,6 +83,7 @@ fn down(run: &mut Run, number: u32) -> Result<(), OutOfMemory>
     let process = number as u64;
     run.make(Step::Report {
         process,
+        service: 0,
         status: told(SERVICE_STOPPED, 0),
     })?;
     run.make(Step::Ended { process })
@@ -129,8 +131,8 @@ fn start(
     plan: u64,
 ) -> Result<u32, OutOfMemory>
     requires small { process + depth_of number < 2 ^ 32 }
-    requires open { IsOpenTo run.old (start_of number process plan) }
-    ensures made { OnOk result (Makes run.old (start_of number process plan) run.new) }
+    requires open { IsOpenTo run.old (run_of number process plan) }
+    ensures made { OnOk result (Makes run.old (run_of number process plan) run.new) }
     ensures next { IfOk result (λ next. next ≡ process + depth_of number) }
 {
     let count = line_of(number);
@@ -147,8 +149,8 @@ fn start(
 /// Starts and ends the services from the last one to the first.
 pub fn start_all(run: &mut Run, alloc: Global, services: u32) -> Result<(), OutOfMemory>
     requires few { services ≤ 512 }
-    requires open { IsOpenTo run.old (starts services 1 1) }
-    ensures { OnOk result (Makes run.old (starts services 1 1) run.new) }
+    requires open { IsOpenTo run.old (all_runs services 1 1) }
+    ensures { OnOk result (Makes run.old (all_runs services 1 1) run.new) }
 {
     let mut process = 1;
     for before in 0..services {

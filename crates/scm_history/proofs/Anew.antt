@@ -137,7 +137,8 @@ past_effect l f moment (Launched process pid) number low past =
     ((launches process pid).number_same row)) f.processes)
     ∙ past_launched process pid (find (has number) f.processes) past
 past_effect l f moment (LaunchFailed process code) number low past = left_not is_wanted_in refl number process f.processes past
-past_effect l f moment (Report process status) number low past = failing_apart (λ (g : Flat). is_wanted_in (process_of g number) ≡ false)
+past_effect l f moment (Report process service status) number low past =
+    failing_apart (λ (g : Flat). is_wanted_in (process_of g number) ≡ false)
     (failed_by status (current_of f process)) _ past
 past_effect l f moment (Ended process) number low past =
     failing_apart (λ (g : Flat). is_wanted_in (process_of (without_process g process) number) ≡ false) (current_of f process)

@@ -136,8 +136,8 @@ of_step : (l : Limits) (f : Flat) (moment : ℕ) (step : Step) → Sound f → I
     → BeginsOwn f step (step_of l f moment step).answer (step_of l f moment step).flat
 of_step l f moment (Call caller (request.Start handle words) append) s ok =
     of_start l f moment caller handle words append s (and_parts _ _ (and_parts _ _ ok).0).0
-of_step l f moment (Report process status) s ok =
-    report_begins (settled l (effect_of l (at_moment f moment (Report process status)) (Report process status)).flat)
+of_step l f moment (Report process service status) s ok =
+    report_begins (settled l (effect_of l (at_moment f moment (Report process service status)) (Report process service status)).flat)
     (current_of f process) status
 of_step l f moment (Ended process) s ok = end_begins (settled l (effect_of l (at_moment f moment (Ended process)) (Ended process)).flat)
     (current_of f process)

@@ -206,8 +206,8 @@ of_step number caller l f moment LaunchTaken somebody all not_told =
 of_step number caller l f moment (ControlTaken process) somebody all not_told =
     let done = effect_of l (with_moment f moment) (ControlTaken process) in
     finishes number caller (settled l done.flat) done.answer (settles l done.flat number caller all)
-of_step number caller l f moment (Report process status) somebody all not_told =
-    let done = effect_of l (with_moment f moment) (Report process status) in
+of_step number caller l f moment (Report process service status) somebody all not_told =
+    let done = effect_of l (with_moment f moment) (Report process service status) in
     finishes number caller (settled l done.flat) done.answer
     (settles l done.flat number caller (failing_apart (λ (g : Flat). AreOther number caller g.plans)
     (failed_by status (current_of f process)) _ all))

@@ -6,7 +6,7 @@ use Rattle.scm_model.specs.declared.flat.Process.{Process}
 use Rattle.scm_model.specs.declared.calls.Request.{Request}
 use Rattle.scm_model.specs.declared.calls.Request.TheVariants as request
 use Rattle.scm_model.specs.declared.steps.Kept.{Kept}
-use Rattle.scm_rules.specs.Controls.{controlled_if}
+use Rattle.scm_rules.specs.Controls.{controlled_if, order_to}
 use Rattle.scm_rules.specs.Verdicts.{call_of, done_of, told_refused, verdict}
 use Rattle.scm_runs.proofs.Calls.{by_verdict}
 use Rattle.scm_runs.proofs.Lists.{map_same}
@@ -57,9 +57,10 @@ of_done l f caller (request.Start handle words) =
 of_done l f caller (request.Control handle control) = record {
   callers = refl;
   processes = found_keeps (λ (rows : List Process). map apart_from_controls rows ≡ map apart_from_controls f.processes)
-      (λ (row : Service). map (controlled_if l.controls row.process control))
-      (held_service f caller handle) f.processes refl (λ row is. controls_apart (controlled_if l.controls row.process control)
-      (controls_more l.controls row.process control) f.processes);
+      (λ (row : Service). map (controlled_if l.controls row.process (order_to row.number control)))
+      (held_service f caller handle) f.processes refl (λ row is. controls_apart
+      (controlled_if l.controls row.process (order_to row.number control))
+      (controls_more l.controls row.process (order_to row.number control)) f.processes);
   next_caller = refl;
   next_process = refl;
 }
@@ -93,8 +94,8 @@ of_raise l f caller subtype = raised_by (Spares f) l subtype (record {
   };
   stops = λ g row action there is stops gets p. record {
     callers = p.callers;
-    processes = controls_apart (controlled_if l.controls row.process SERVICE_CONTROL_STOP)
-        (controls_more l.controls row.process SERVICE_CONTROL_STOP) g.processes ∙ p.processes;
+    processes = controls_apart (controlled_if l.controls row.process (order_to row.number SERVICE_CONTROL_STOP))
+        (controls_more l.controls row.process (order_to row.number SERVICE_CONTROL_STOP)) g.processes ∙ p.processes;
     next_caller = p.next_caller;
     next_process = p.next_process;
   };
@@ -120,7 +121,7 @@ callers_left l f moment (Gone caller) e = absurd cc
 callers_left l f moment (Call caller asked append) e =
     let spares = of_call l (with_moment f moment) caller asked append in
     record { rows = spares.callers; next = spares.next_caller }
-callers_left l f moment (Report process status) e = failing_apart (HasCallers f) (failed_by status (current_of f process)) _
+callers_left l f moment (Report process service status) e = failing_apart (HasCallers f) (failed_by status (current_of f process)) _
     (record { rows = refl; next = refl })
 callers_left l f moment (Ended process) e =
     failing_apart (λ (g : Flat). HasCallers f (without_process g process)) (current_of f process)

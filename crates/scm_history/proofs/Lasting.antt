@@ -6,6 +6,7 @@ use Rattle.scm_model.specs.declared.flat.DueKind.{DueKind}
 use Rattle.scm_model.specs.declared.flat.DueKind.TheVariants as dues
 use Rattle.scm_model.specs.declared.flat.Flat.{Flat}
 use Rattle.scm_model.specs.declared.flat.Limits.{Limits}
+use Rattle.scm_model.specs.declared.flat.Order.{Order}
 use Rattle.scm_model.specs.declared.flat.Plan.{Plan}
 use Rattle.scm_model.specs.declared.flat.Service.{Service}
 use Rattle.scm_model.specs.declared.flat.Status.{Status}
@@ -120,7 +121,7 @@ of_effect number Over Left P lasts l f moment (Launched process pid) low allowed
     starts_decided number Over Left P lasts (service_of_process f process) 0 f.plans p
 of_effect number Over Left P lasts l f moment (LaunchFailed process code) low allowed p =
     starts_decided number Over Left P lasts (service_of_process f process) code f.plans p
-of_effect number Over Left P lasts l f moment (Report process status) low allowed p =
+of_effect number Over Left P lasts l f moment (Report process service status) low allowed p =
     failing_apart (λ (g : Flat). P g.plans) (failed_by status (current_of f process)) _ p
 of_effect number Over Left P lasts l f moment (Ended process) low allowed p =
     failing_apart (λ (g : Flat). P g.plans) (current_of f process) (with_fallen (with_moment f moment) process ERROR_PROCESS_ABORTED) p
@@ -164,7 +165,7 @@ pub launch_none : (P : ℕ → Type 0) (found : Option ℕ) → IfSome (plan_mad
 launch_none P None = tt
 launch_none P (Some process) = tt
 
-pub control_none : (P : ℕ → Type 0) (found : Option ℕ) → IfSome (plan_made (control_sent found)) P
+pub control_none : (P : ℕ → Type 0) (found : Option Order) → IfSome (plan_made (control_sent found)) P
 control_none P None = tt
 control_none P (Some code) = tt
 
@@ -174,7 +175,7 @@ pub begins_next : (l : Limits) (f : Flat) (moment : ℕ) (step : Step) → IfSom
 begins_next l f moment (Call caller asked append) =
     let g = with_moment f moment in
     answers_next (tells_plan asked (verdict l g caller asked append)) f.next.plan (call_of l g caller asked append).reply
-begins_next l f moment (Report process status) = report_none (λ number. number ≡ f.next.plan) (current_of f process) status
+begins_next l f moment (Report process service status) = report_none (λ number. number ≡ f.next.plan) (current_of f process) status
 begins_next l f moment (Ended process) = end_none (λ number. number ≡ f.next.plan) (current_of f process)
 begins_next l f moment LaunchTaken = launch_none (λ number. number ≡ f.next.plan) (first_wanted f.wanted)
 begins_next l f moment (ControlTaken process) = control_none (λ number. number ≡ f.next.plan) (first_control (controls_of f process))

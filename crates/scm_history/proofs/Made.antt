@@ -73,7 +73,8 @@ made : (l : Limits) (f : Flat) (number : ℕ) (es : List Entry) → is_caller f 
     → has_made l f number es ≡ true
 made l f number [] none there = absurd cc
 made l f number (e ∷ es) none there =
-    elim (makes_caller f number e.1) as (λ b. makes_caller f number e.1 ≡ b → (b || has_made l (step_of l f e.0 e.1).flat number es) ≡ true) [
+    elim (makes_caller f number e.1) as (λ b. makes_caller f number e.1 ≡ b
+    → (b || has_made l (step_of l f e.0 e.1).flat number es) ≡ true) [
       | true ↦ λ h. refl
       | false ↦ λ h. made l (step_of l f e.0 e.1).flat number es (caller_after l f e.0 e.1 number
           ∙ not_made l f e.0 e.1 number h none) there
@@ -149,7 +150,7 @@ not_begun l f moment LaunchTaken number ok other none =
     (λ one is. ap is_begun (others_changed number one (taken_if one) f.processes (takes one) (ap (is_it number) (sym is) ∙ other)) ∙ none)
 not_begun l f moment (Launched process pid) number ok other none = launched_not number process pid f.processes (and_parts _ _ ok).0 none
 not_begun l f moment (LaunchFailed process code) number ok other none = left_not is_begun refl number process f.processes none
-not_begun l f moment (Report process status) number ok other none = failing_apart (IsNotBegun number)
+not_begun l f moment (Report process service status) number ok other none = failing_apart (IsNotBegun number)
     (failed_by status (current_of f process)) _ none
 not_begun l f moment (Ended process) number ok other none =
     failing_apart (λ (g : Flat). IsNotBegun number (without_process g process)) (current_of f process)

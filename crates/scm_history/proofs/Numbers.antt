@@ -93,7 +93,7 @@ plan_call l f caller asked append =
 
 plan_effect : (l : Limits) (f : Flat) (moment : ℕ) (step : Step) → f.next.plan ≤ (effect_of l (at_moment f moment step) step).flat.next.plan
 plan_effect l f moment (Call caller asked append) = plan_call l (with_moment f moment) caller asked append
-plan_effect l f moment (Report process status) = failing_apart (λ (g : Flat). f.next.plan ≤ g.next.plan)
+plan_effect l f moment (Report process service status) = failing_apart (λ (g : Flat). f.next.plan ≤ g.next.plan)
     (failed_by status (current_of f process)) _ (omega arith)
 plan_effect l f moment (Ended process) = failing_apart (λ (g : Flat). f.next.plan ≤ g.next.plan) (current_of f process)
     (with_fallen (with_moment f moment) process ERROR_PROCESS_ABORTED) (omega arith)
@@ -146,8 +146,8 @@ begun_call l f moment caller asked append = tt
 begun_effect : (l : Limits) (f : Flat) (moment : ℕ) (step : Step) → IfSome (plan_made (effect_of l (at_moment f moment step) step).answer)
     (IsGiven f.next.plan (effect_of l (at_moment f moment step) step).flat.next.plan)
 begun_effect l f moment (Call caller asked append) = begun_call l f moment caller asked append
-begun_effect l f moment (Report process status) =
-    report_none (IsGiven f.next.plan (effect_of l (with_moment f moment) (Report process status)).flat.next.plan)
+begun_effect l f moment (Report process service status) =
+    report_none (IsGiven f.next.plan (effect_of l (with_moment f moment) (Report process service status)).flat.next.plan)
     (current_of f process) status
 begun_effect l f moment (Ended process) = end_none (IsGiven f.next.plan (effect_of l (with_moment f moment) (Ended process)).flat.next.plan)
     (current_of f process)

@@ -42,9 +42,9 @@ use Rattle.scm_history.proofs.Finds.{found_below}
 use Rattle.scm_history.proofs.Numbers.{plan_rises, stays_none}
 use Rattle.scm_history.proofs.Plans.{plan_below}
 use Rattle.scm_history.proofs.Processes.{after_effect, none_effect, process_rises}
-use Rattle.scm_history.specs.Once.{AllAreGivenOnce, HasStood, IsNeverAgain, NoneIsGivenAgain, has_number, HasWatched}
+use Rattle.scm_history.specs.Once.{AllAreGivenOnce, HasStood, IsNeverAgain, NoneIsGivenAgain, is_in_rows, HasWatched}
 use Rattle.scm_history.proofs.Registrations.{Stands, watching_row, made_number, of_step as registrations_of_step}
-use Rattle.scm_model.specs.Notices.{notified, taken_if}
+use Rattle.scm_model.specs.Notices.{notified, taken_once}
 use Rattle.scm_runs.proofs.Told.{notified_or}
 use Rattle.scm_runs.proofs.Registered.{all_put, taken_or}
 use Rattle.scm_runs.proofs.Failing.{failing_keeps}
@@ -105,7 +105,7 @@ effect_rises : (l : Limits) (f : Flat) (moment : ℕ) (step : Step) → Rises f 
 effect_rises l f moment (Call caller asked append) =
     let up = call_rises l (with_moment f moment) caller asked append in
     record { service = up.service; registration = up.registration; due = up.due }
-effect_rises l f moment (Report process status) = failing_rises f (failed_by status (current_of f process)) _
+effect_rises l f moment (Report process service status) = failing_rises f (failed_by status (current_of f process)) _
     (record { service = omega arith; registration = omega arith; due = omega arith })
 effect_rises l f moment (Ended process) =
     let up = failing_rises f (current_of f process) (with_fallen (with_moment f moment) process ERROR_PROCESS_ABORTED)
@@ -148,7 +148,7 @@ rises l f moment step =
 
 -- the number of a service that stood, or one that was not given
 abbrev IsOwn : Flat → ℕ → Type 0
-IsOwn f number = (has_number (λ (row : Service). row.number) number f.services ≡ true) ⊎ (f.next.service ≤ number)
+IsOwn f number = (is_in_rows (λ (row : Service). row.number) number f.services ≡ true) ⊎ (f.next.service ≤ number)
 
 made_own : (f : Flat) (step : Step) (told : Answer) → All (IsOwn f) (created f step told)
 made_own f (Call caller (request.Create new) append) told =
@@ -226,7 +226,8 @@ call_dues l f caller asked append =
 
 effect_dues : (l : Limits) (f : Flat) (moment : ℕ) (step : Step) → All (IsOld f) (effect_of l (at_moment f moment step) step).flat.dues
 effect_dues l f moment (Call caller asked append) = call_dues l (with_moment f moment) caller asked append
-effect_dues l f moment (Report process status) = (failing_old f (failed_by status (current_of f process)) _ (omega arith, old_dues f)).1
+effect_dues l f moment (Report process service status) = (failing_old f (failed_by status (current_of f process)) _
+    (omega arith, old_dues f)).1
 effect_dues l f moment (Ended process) = (failing_old f (current_of f process)
     (with_fallen (with_moment f moment) process ERROR_PROCESS_ABORTED) (omega arith, old_dues f)).1
 effect_dues l f moment Tick = (ticked_by (AreOld f) l (record {
@@ -257,7 +258,7 @@ IsWatching f row = HasWatched f row ⊎ (f.next.registration ≤ row.number)
 
 -- a change that leaves the number
 watching_still : (f : Flat) (old new : Registration) → new.number ≡ old.number → IsWatching f old → IsWatching f new
-watching_still f old new same is = subst (λ n. (has_number (λ (row : Registration). row.number) n f.registrations ≡ true)
+watching_still f old new same is = subst (λ n. (is_in_rows (λ (row : Registration). row.number) n f.registrations ≡ true)
     ⊎ (f.next.registration ≤ n)) (sym same) is
 
 registrations_stand : (f : Flat) (step : Step) → Stands (All (IsWatching f)) f step
@@ -272,8 +273,8 @@ registrations_stand f step =
       was = λ quiet. was;
       comes = λ caller handle mask append of e is. all_put (IsWatching f) (watching_row f caller handle mask of) f.registrations was
           (inr (let next = made_number f caller handle mask of in omega (arith, next)));
-      taken = λ caller handle number append e is. All-map (IsWatching f) (taken_if number) f.registrations
-          (λ k d lt. watching_still f (get_or f.registrations k d) (taken_if number (get_or f.registrations k d))
+      taken = λ caller handle number append e is. All-map (IsWatching f) (taken_once number) f.registrations
+          (λ k d lt. watching_still f (get_or f.registrations k d) (taken_once number (get_or f.registrations k d))
           (taken_or (λ new. new.number ≡ (get_or f.registrations k d).number) number (get_or f.registrations k d) (λ e. refl) refl)
           (was k d lt));
       closed = λ caller handle number append e is. All-filter (λ (row : Registration). not (row.number == number))
@@ -307,26 +308,26 @@ gives l f e s ok =
 
 -- a number that is there is below the next one
 is_below : {A : Type 0} (number_of : A → ℕ) (n next : ℕ) (rows : List A) → All (λ row. number_of row < next) rows
-    → has_number number_of n rows ≡ true → n < next
+    → is_in_rows number_of n rows ≡ true → n < next
 is_below number_of n next rows below there = found_below number_of n next rows below (is_some-find (λ row. number_of row == n) rows ∙ there)
 
 -- who stood has a number that was there
 has_contained : {A : Type 0} (number_of : A → ℕ) (rows : List A) (row : A) → Contains rows row
-    → has_number number_of (number_of row) rows ≡ true
+    → is_in_rows number_of (number_of row) rows ≡ true
 has_contained number_of rows row at = any_at (λ r. number_of r == number_of row) rows at.0 row at.1 (eq-eqb _ _ (ap number_of at.2))
 
 not_back : {A : Type 0} (number_of : A → ℕ) (Stood : A → Type 0) (next n : ℕ) (befores : List A) (row : A)
-    → (Stood row → has_number number_of (number_of row) befores ≡ true) → n < next
-    → has_number number_of n befores ≡ false → number_of row ≡ n → Stood row ⊎ (next ≤ number_of row) → ⊥
+    → (Stood row → is_in_rows number_of (number_of row) befores ≡ true) → n < next
+    → is_in_rows number_of n befores ≡ false → number_of row ≡ n → Stood row ⊎ (next ≤ number_of row) → ⊥
 not_back number_of Stood next n befores row there low none same (inl stood) =
-    (let has = subst (λ m. has_number number_of m befores ≡ true) same (there stood) in cc)
+    (let has = subst (λ m. is_in_rows number_of m befores ≡ true) same (there stood) in cc)
 not_back number_of Stood next n befores row there low none same (inr up) = omega (arith, up, same, low)
 
 -- a number that was given and isn't there doesn't come to be there
 stays_away : {A : Type 0} (number_of : A → ℕ) (Stood : A → Type 0) (next n : ℕ) (befores rows : List A)
-    → ((row : A) → Stood row → has_number number_of (number_of row) befores ≡ true)
-    → All (λ row. Stood row ⊎ (next ≤ number_of row)) rows → n < next → has_number number_of n befores ≡ false
-    → has_number number_of n rows ≡ false
+    → ((row : A) → Stood row → is_in_rows number_of (number_of row) befores ≡ true)
+    → All (λ row. Stood row ⊎ (next ≤ number_of row)) rows → n < next → is_in_rows number_of n befores ≡ false
+    → is_in_rows number_of n rows ≡ false
 stays_away number_of Stood next n befores rows there once low none =
     list_any_none (λ row. number_of row == n) rows (All-weaker (λ row. Stood row ⊎ (next ≤ number_of row))
     (λ row. (number_of row == n) ≡ false)
@@ -388,7 +389,7 @@ of_plans l = record {
   away = λ f e n s ok low none. stays_none l f e.0 e.1 n low none;
 }
 
-of_services : (l : Limits) → IsKind l (λ number g. has_number (λ (row : Service). row.number) number g.services)
+of_services : (l : Limits) → IsKind l (λ number g. is_in_rows (λ (row : Service). row.number) number g.services)
     (λ (g : Flat). g.next.service)
 of_services l = record {
   below = λ f n s there. is_below (λ (row : Service). row.number) n f.next.service f.services s.services.numbered.below there;
@@ -397,7 +398,7 @@ of_services l = record {
       (gives l f e s ok).services.once low none;
 }
 
-of_handles : (l : Limits) → IsKind l (λ number g. has_number (λ (row : HandleRow). row.number) number g.handles)
+of_handles : (l : Limits) → IsKind l (λ number g. is_in_rows (λ (row : HandleRow). row.number) number g.handles)
     (λ (g : Flat). g.next.handle)
 of_handles l = record {
   below = λ f n s there. is_below (λ (row : HandleRow). row.number) n f.next.handle f.handles s.handles.handles.below there;
@@ -407,7 +408,7 @@ of_handles l = record {
       (gives l f e s ok).handles.once low none;
 }
 
-of_registrations : (l : Limits) → IsKind l (λ number g. has_number (λ (row : Registration). row.number) number g.registrations)
+of_registrations : (l : Limits) → IsKind l (λ number g. is_in_rows (λ (row : Registration). row.number) number g.registrations)
     (λ (g : Flat). g.next.registration)
 of_registrations l = record {
   below = λ f n s there. is_below (λ (row : Registration). row.number) n f.next.registration f.registrations
@@ -417,7 +418,7 @@ of_registrations l = record {
       (λ row stood. stood) (gives l f e s ok).registrations.once low none;
 }
 
-of_dues : (l : Limits) → IsKind l (λ number g. has_number (λ (row : Due). row.number) number g.dues) (λ (g : Flat). g.next.due)
+of_dues : (l : Limits) → IsKind l (λ number g. is_in_rows (λ (row : Due). row.number) number g.dues) (λ (g : Flat). g.next.due)
 of_dues l = record {
   below = λ f n s there. is_below (λ (row : Due). row.number) n f.next.due f.dues s.dues.numbered.below there;
   rising = λ f e s ok. (gives l f e s ok).dues.rising;

@@ -17,7 +17,7 @@ use Rattle.scm_runs.proofs.Handled.{has_caller}
 use Rattle.scm_runs.proofs.Sound.{Sound}
 use Rattle.scm_rules.specs.Named.{caller_named, is_it, makes_caller, names_caller, of_caller}
 use Rattle.scm_history.specs.Numbers.{IsGiven}
-use Rattle.scm_history.specs.Own.{BeginsWithJoined, all_named, is_joined}
+use Rattle.scm_history.specs.Own.{BeginsWithJoined, named_entries, is_joined}
 use Rattle.scm_history.proofs.Callers.{next_after, rising, stays_out}
 use Rattle.scm_history.proofs.Effects.{callers_left}
 use Rattle.scm_history.proofs.Finds.{found_below}
@@ -32,15 +32,15 @@ makes_not f caller (Joined principal) low = ne_eqb caller f.next.caller (λ e. a
 makes_not f caller step low = refl
 
 pub all_later : (l : Limits) (f : Flat) (caller : ℕ) (es : List Entry) → caller < f.next.caller
-    → of_caller l f caller es ≡ all_named caller es
+    → of_caller l f caller es ≡ named_entries caller es
 all_later l f caller [] low = refl
 all_later l f caller (e ∷ es) low =
     let rest = all_later l (step_of l f e.0 e.1).flat caller es (let up = rising l f e.0 e.1 in omega (arith, up, low)) in
     let own = of_caller l (step_of l f e.0 e.1).flat caller es in
-    elim (names_caller caller e.1) as (λ b. cond (b || makes_caller f caller e.1) (e ∷ own) own ≡ cond b (e ∷ all_named caller es)
-    (all_named caller es)) [
+    elim (names_caller caller e.1) as (λ b. cond (b || makes_caller f caller e.1) (e ∷ own) own ≡ cond b (e ∷ named_entries caller es)
+    (named_entries caller es)) [
       | true ↦ ap (λ later. e ∷ later) rest
-      | false ↦ subst (λ b. cond b (e ∷ own) own ≡ all_named caller es) (sym (makes_not f caller e.1 low)) rest
+      | false ↦ subst (λ b. cond b (e ∷ own) own ≡ named_entries caller es) (sym (makes_not f caller e.1 low)) rest
     ]
 
 -- ## Until it joins
@@ -79,7 +79,7 @@ begins l f (e ∷ es) s legal caller up =
     (elim (makes_caller f caller e.1) as (λ b. makes_caller f caller e.1 ≡ b → BeginsWithJoined caller (e ∷ es) (cond b (e ∷ own) own)) [
       | true ↦ λ h. record {
         joins = makes_joined f caller e.1 h;
-        names = subst (λ (b : Bool). own ≡ cond b (e ∷ all_named caller es) (all_named caller es)) (sym other)
+        names = subst (λ (b : Bool). own ≡ cond b (e ∷ named_entries caller es) (named_entries caller es)) (sym other)
             (all_later l after caller es (given_it f.next.caller after.next.caller caller _ (joins_after l f e.0 e.1) h));
       }
       | false ↦ λ h. still e es own other (begins l after es (keeps l f e s legal.0) legal.1 caller
@@ -89,11 +89,11 @@ begins l f (e ∷ es) s legal caller up =
     -- an entry that names another caller, or none
     still : (e : Entry) (es own : List Entry) → names_caller caller e.1 ≡ false → BeginsWithJoined caller es own
         → BeginsWithJoined caller (e ∷ es) own
-    still e es [] other rest = subst (λ (b : Bool). cond b (e ∷ all_named caller es) (all_named caller es) ≡ []) (sym other) rest
+    still e es [] other rest = subst (λ (b : Bool). cond b (e ∷ named_entries caller es) (named_entries caller es) ≡ []) (sym other) rest
     still e es (first ∷ own) other rest = record {
       joins = rest.joins;
       names =
-          subst (λ (b : Bool). own ≡ cond b (e ∷ all_named caller es) (all_named caller es)) (sym other) rest.names;
+          subst (λ (b : Bool). own ≡ cond b (e ∷ named_entries caller es) (named_entries caller es)) (sym other) rest.names;
     }
 
 -- ## Numbers of nobody
@@ -106,10 +106,10 @@ named_is f caller (Some number) out there = ne_eqb caller number (λ e. absurd
 
 -- who has left, or never was, is not named
 none_named : (l : Limits) (f : Flat) (caller : ℕ) (es : List Entry) → IsLegal l f es → caller < f.next.caller → is_caller f caller ≡ false
-    → all_named caller es ≡ []
+    → named_entries caller es ≡ []
 none_named l f caller [] legal low out = refl
 none_named l f caller (e ∷ es) legal low out =
-    subst (λ (b : Bool). cond b (e ∷ all_named caller es) (all_named caller es) ≡ [])
+    subst (λ (b : Bool). cond b (e ∷ named_entries caller es) (named_entries caller es) ≡ [])
     (sym (named_is f caller (caller_named e.1) out (caller_there l f e.0 e.1 legal.0)))
     (none_named l (step_of l f e.0 e.1).flat caller es legal.1 (let up = rising l f e.0 e.1 in omega (arith, up, low))
     (stays_out l f e.0 e.1 caller low out))

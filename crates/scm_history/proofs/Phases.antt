@@ -79,12 +79,12 @@ of_launched l f moment process pid s taken =
 
 -- ## Steps
 
-of_report : (l : Limits) (f : Flat) (moment process : ℕ) (report : Status) → Sound f → is_launched (process_of f process) ≡ true
-    → RunsOn f (step_of l f moment (Report process report)).flat process
-of_report l f moment process report s running =
+of_report : (l : Limits) (f : Flat) (moment process service : ℕ) (report : Status) → Sound f → is_launched (process_of f process) ≡ true
+    → RunsOn f (step_of l f moment (Report process service report)).flat process
+of_report l f moment process service report s running =
     let low = listed_below f process s (runs_listed (process_of f process) running) in
-    let same : process_of (step_of l f moment (Report process report)).flat process ≡ process_of f process =
-    after_effect l f moment (Report process report) process low
+    let same : process_of (step_of l f moment (Report process service report)).flat process ≡ process_of f process =
+    after_effect l f moment (Report process service report) process low
     ∙ failing_apart (λ (g : Flat). process_of g process ≡ process_of f process) (failed_by report (current_of f process)) _ refl in
     record { phase = ap (option_map (λ (row : Process). row.phase)) same ∙ runs (process_of f process) running; same = same }
 
@@ -94,7 +94,8 @@ of_step l f moment LaunchTaken s ok =
     let first = first_of f.wanted (and_parts _ _ ok).0 in
     subst (IsInHand (step_of l f moment LaunchTaken).flat) (sym first.is) (in_hand _ (taken_is_listed l f moment first.number s first.is))
 of_step l f moment (Launched process pid) s ok = of_launched l f moment process pid s (and_parts _ _ ok).0
-of_step l f moment (Report process status) s ok = of_report l f moment process status s (and_parts _ _ ok).0
+of_step l f moment (Report process service status) s ok = of_report l f moment process service status s
+    (and_parts _ _ (and_parts _ _ ok).0).1
 of_step l f moment (LaunchFailed process code) s ok =
     after_effect l f moment (LaunchFailed process code) process (listed_below f process s
     (taken_listed (process_of f process) (and_parts _ _ (and_parts _ _ ok).0).0)) ∙ none_left process f.processes

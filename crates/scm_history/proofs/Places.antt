@@ -161,8 +161,8 @@ of_effect l f moment (LaunchFailed process code) = record {
   others = others_left (λ n. names_process n (LaunchFailed process code) || takes_process f n (LaunchFailed process code)) process
       (λ n e. or_left _ _ e) f.processes;
 }
-of_effect l f moment (Report process status) =
-    failing_apart (λ (g : Flat). HavePlaces f (Report process status) g.processes) (failed_by status (current_of f process)) _
+of_effect l f moment (Report process service status) =
+    failing_apart (λ (g : Flat). HavePlaces f (Report process service status) g.processes) (failed_by status (current_of f process)) _
     (record { places = all_stay f.processes; others = refl })
 of_effect l f moment (Ended process) =
     failing_apart (λ (g : Flat). HavePlaces f (Ended process) (without_process g process).processes) (current_of f process)

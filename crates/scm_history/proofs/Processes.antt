@@ -162,7 +162,7 @@ of_effect l f moment LaunchTaken number low named taken =
 of_effect l f moment (Launched process pid) number low named taken =
     ap (option_map apart_from_controls) (others_changed number process (launched_if process pid) f.processes (launches process pid) named)
 of_effect l f moment (LaunchFailed process code) number low named taken = others_left number process f.processes named
-of_effect l f moment (Report process status) number low named taken =
+of_effect l f moment (Report process service status) number low named taken =
     failing_apart (λ (g : Flat). option_map apart_from_controls (process_of g number) ≡ option_map apart_from_controls
     (process_of f number)) (failed_by status (current_of f process)) _ refl
 of_effect l f moment (Ended process) number low named taken =
@@ -190,7 +190,7 @@ none_effect l f moment (Launched process pid) number low none = none_changed num
     (launches process pid) ∙ none
 none_effect l f moment (LaunchFailed process code) number low none = none_filter (has number)
     (λ (row : Process). not (row.number == process)) f.processes none
-none_effect l f moment (Report process status) number low none = failing_apart (λ (g : Flat). is_some (process_of g number) ≡ false)
+none_effect l f moment (Report process service status) number low none = failing_apart (λ (g : Flat). is_some (process_of g number) ≡ false)
     (failed_by status (current_of f process)) _ none
 none_effect l f moment (Ended process) number low none =
     failing_apart (λ (g : Flat). is_some (process_of (without_process g process) number) ≡ false) (current_of f process)
@@ -209,7 +209,7 @@ pub process_effect : (l : Limits) (f : Flat) (moment : ℕ) (step : Step)
     → f.next.process ≤ (effect_of l (at_moment f moment step) step).flat.next.process
 process_effect l f moment (Call caller asked append) = (let e = (of_call l (with_moment f moment) caller asked append).next_process in
     omega (arith, e))
-process_effect l f moment (Report process status) = failing_apart (λ (g : Flat). f.next.process ≤ g.next.process)
+process_effect l f moment (Report process service status) = failing_apart (λ (g : Flat). f.next.process ≤ g.next.process)
     (failed_by status (current_of f process)) _ (omega arith)
 process_effect l f moment (Ended process) =
     failing_apart (λ (g : Flat). f.next.process ≤ g.next.process) (current_of f process)

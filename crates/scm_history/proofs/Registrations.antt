@@ -4,7 +4,7 @@ use Rattle.std.proofs.Common.{sym, refl, is_some, is_none}
 use Rattle.std.specs.Prelude.{All, unwrap_or}
 use Rattle.scm_model.proofs.Found.{found_keeps}
 use Rattle.scm_runs.proofs.Lists.{found_has}
-use Rattle.scm_model.specs.Notices.{event_of_creation, event_of_mark, noted, pid_of, put_in, taken_if, notified_of_move, new_registration}
+use Rattle.scm_model.specs.Notices.{event_of_creation, event_of_mark, noted, pid_of, put_in, taken_once, notified_of_move, new_registration}
 use Rattle.scm_model.specs.Notices.{notified, event_of_state}
 use Rattle.scm_model.specs.Changes.{with_moment}
 use Rattle.scm_model.specs.Rows.{held_service, is_caller}
@@ -57,7 +57,7 @@ pub record Stands (P : List Registration → Type 0) (f : Flat) (step : Step) : 
       → watched f caller handle ≡ Some of
       → P (put_in (watching_row f caller handle mask of) f.registrations)
   pub taken : (caller handle number : ℕ) (append : Kept) → step ≡ Call caller (request.GetNotify handle) append
-      → notify_of f caller handle ≡ Some number → P (map (taken_if number) f.registrations)
+      → notify_of f caller handle ≡ Some number → P (map (taken_once number) f.registrations)
   pub closed : (caller handle number : ℕ) (append : Kept) → step ≡ Call caller (request.CloseNotify handle) append
       → notify_of f caller handle ≡ Some number
       → P (filter (λ (row : Registration). not (row.number == number)) f.registrations)
@@ -108,7 +108,7 @@ of_done l P f caller (request.Notify handle mask) append st s there e =
     notify_keeps (λ (g : Flat). P g.registrations) f caller handle mask (st.was refl)
     (λ of is. st.comes caller handle mask append of refl is)
 of_done l P f caller (request.GetNotify handle) append st s there e =
-    by_number (λ n. P (map (taken_if n) f.registrations)) (notify_of f caller handle) e
+    by_number (λ n. P (map (taken_once n) f.registrations)) (notify_of f caller handle) e
     (λ number is. st.taken caller handle number append refl is)
 of_done l P f caller (request.CloseNotify handle) append st s there e =
     by_number (λ n. P (filter (λ (row : Registration). not (row.number == n)) f.registrations)) (notify_of f caller handle) e
@@ -170,7 +170,7 @@ of_effect l P f moment (LaunchFailed process code) st s ok = fall_tells P st.tel
 of_effect l P f moment (Ended process) st s ok =
     failing_apart (λ (g : Flat). P g.registrations) (current_of f process) (with_fallen (with_moment f moment) process 1067)
     (fall_tells P st.tells process 1067 f.services f.registrations (are_named f s) (st.was refl))
-of_effect l P f moment (Report process report) st s ok =
+of_effect l P f moment (Report process service report) st s ok =
     failing_apart (λ (g : Flat). P g.registrations) (failed_by report (current_of f process)) _
     (found_keeps P (λ (row : Service). notified_of_move (pid_of f.processes (reported_if row.process report row)) row
     (reported_if row.process report row)) (current_of f process) f.registrations (st.was refl)

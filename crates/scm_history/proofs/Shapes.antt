@@ -4,6 +4,7 @@ use Rattle.std.specs.Prelude.{is_some, unwrap_or, option_and_then}
 use Rattle.scm_model.specs.declared.codes.TheConstants.{ERROR_INVALID_DATA}
 use Rattle.scm_model.specs.declared.flat.Flat.{Flat}
 use Rattle.scm_model.specs.declared.flat.Limits.{Limits}
+use Rattle.scm_model.specs.declared.flat.Order.{Order}
 use Rattle.scm_model.specs.declared.flat.Service.{Service}
 use Rattle.scm_model.specs.declared.flat.Status.{Status}
 use Rattle.scm_model.specs.declared.calls.Reply.TheVariants as reply
@@ -129,16 +130,16 @@ of_end g (Some row) = record { stale = λ e. absurd cc; done = λ e. refl }
 same_current : (f : Flat) (process : ℕ) → is_some (current_of f process) ≡ has_current f process
 same_current f process = is_some-find (λ (row : Service). row.process == process) f.services
 
-of_control : (g : Flat) (codes : List ℕ) → waits codes ≡ true → IsControl (finished g (control_sent (first_control codes))).answer
+of_control : (g : Flat) (orders : List Order) → waits orders ≡ true → IsControl (finished g (control_sent (first_control orders))).answer
 of_control g [] some = absurd cc
-of_control g (code ∷ codes) some = record { code = code; is = refl }
+of_control g (order ∷ orders) some = record { order = order; is = refl }
 
 of_step : (l : Limits) (f : Flat) (moment : ℕ) (step : Step) → IsTrue (may l f moment step)
     → HasShape f step (step_of l f moment step).answer
 of_step l f moment (Call caller asked append) ok = of_call l f moment caller asked append
 of_step l f moment (EndStart caller plan) ok = record { code = unwrap_or (code_of f.plans plan) 0; is = refl }
-of_step l f moment (Report process status) ok =
-    let told = of_report (settled l (effect_of l (at_moment f moment (Report process status)) (Report process status)).flat)
+of_step l f moment (Report process service status) ok =
+    let told = of_report (settled l (effect_of l (at_moment f moment (Report process service status)) (Report process service status)).flat)
     (current_of f process) status in
     record { stale = λ e. told.stale (same_current f process ∙ e); heard = λ e. told.heard (same_current f process ∙ e) }
 of_step l f moment (Ended process) ok =

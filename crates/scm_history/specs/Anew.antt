@@ -7,7 +7,7 @@ use Rattle.scm_model.specs.Entries.{Entry}
 use Rattle.scm_rules.specs.Steps.{step_of}
 use Rattle.scm_rules.specs.Named.{caller_made, has_begun, has_made, has_taken, plan_made, process_taken}
 
--- behind this front an entry makes a caller, takes a process in hand or begins a plan that no entry of the front did
+-- after this front an entry makes a caller, takes the launch of a process or begins a plan that no entry of the front did
 pub record MakesAnew (l : Limits) (f : Flat) (front : List Entry) (e : Entry) : Type 0 where
   pub joined : IfSome (caller_made (state l f front) e.1) (λ number. has_made l f number front ≡ false)
   pub taken : IfSome (process_taken (state l f front) e.1) (λ number. has_taken l f number front ≡ false)

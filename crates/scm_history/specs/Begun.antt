@@ -16,7 +16,7 @@ abbrev pub IsPlanFor : Flat → ℕ → ℕ → Option Service → Type 0
 IsPlanFor f number caller None = ⊥
 IsPlanFor f number caller (Some row) = IsPlanOf f number caller row.number
 
--- behind a Start that waits its plan is there, of the caller that asked and aimed at its handle's service; no other step is told a plan
+-- after a Start that waits its plan is there, of the caller that asked and aimed at its handle's service; no other step returns a plan
 abbrev pub BeginsOwn : Flat → Step → Answer → Flat → Type 0
 BeginsOwn before (Call caller (request.Start handle words) append) told after =
     IfSome (plan_made told) (λ number. IsPlanFor after number caller (held_service before caller handle))

@@ -22,7 +22,7 @@ pub record CallersStay (before : Flat) (e : Entry) (told : Answer) (after : Flat
   pub gone : (number : ℕ) → IsTrue (takes_leave number e.1) → is_caller after number ≡ false
   pub away : (number : ℕ) → number < before.next.caller → is_caller before number ≡ false → is_caller after number ≡ false
 
--- behind its Gone, and all that follows, a caller isn't in the state
+-- after its Gone, and all that follows, a caller isn't in the state
 abbrev pub IsGoneForGood : Limits → Flat → List Entry → Type 0
 IsGoneForGood l f es =
     (number : ℕ) (front : List Entry) (e : Entry) (rest : List Entry) → es ≡ front ++ e ∷ rest → IsTrue (takes_leave number e.1)

@@ -12,7 +12,7 @@ abbrev pub AnswersItsOwn : Limits → Flat → List Entry → Step → Type 0
 AnswersItsOwn l f front (EndStart caller plan) = IsTrue (has_begun l f caller plan front)
 AnswersItsOwn l f front step = Unit {0}
 
--- behind this front an entry names a caller that a Joined of the front made, and a process that a LaunchTaken of the front took; it answers
+-- after this front an entry names a caller that a Joined of the front made, and a process that a LaunchTaken of the front took; it answers
 -- a start that a Call of the front began
 pub record StandsBehind (l : Limits) (f : Flat) (front : List Entry) (e : Entry) : Type 0 where
   pub caller : IfSome (caller_named e.1) (λ number. IsTrue (has_made l f number front))

@@ -16,24 +16,24 @@ use Rattle.scm_rules.specs.Launches.{process_of}
 use Rattle.scm_rules.specs.Valid.{AreNumbered, AreApart}
 
 -- whether a row has this number
-abbrev pub has_number : {A : Type 0} → (A → ℕ) → ℕ → List A → Bool
-has_number number_of number rows = list_any (λ row. number_of row == number) rows
+abbrev pub is_in_rows : {A : Type 0} → (A → ℕ) → ℕ → List A → Bool
+is_in_rows number_of number rows = list_any (λ row. number_of row == number) rows
 
 abbrev pub has_service : ℕ → Flat → Bool
-has_service number f = has_number (λ (row : Service). row.number) number f.services
+has_service number f = is_in_rows (λ (row : Service). row.number) number f.services
 
 abbrev pub has_handle : ℕ → Flat → Bool
-has_handle number f = has_number (λ (row : HandleRow). row.number) number f.handles
+has_handle number f = is_in_rows (λ (row : HandleRow). row.number) number f.handles
 
 abbrev pub has_registration : ℕ → Flat → Bool
-has_registration number f = has_number (λ (row : Registration). row.number) number f.registrations
+has_registration number f = is_in_rows (λ (row : Registration). row.number) number f.registrations
 
 abbrev pub has_due : ℕ → Flat → Bool
-has_due number f = has_number (λ (row : Due). row.number) number f.dues
+has_due number f = is_in_rows (λ (row : Due). row.number) number f.dues
 
 -- ## A step: services, handles, registrations and rows that become due
 
--- the rows of one kind behind a step: their numbers rise below the next one, which never falls, and
+-- the rows of one kind after a step: their numbers rise below the next one, which never falls, and
 -- each row stood before, or has a number that was not given before
 pub record AreGivenOnce {A : Type 0} (number_of : A → ℕ) (Stood : A → Type 0) (next later : ℕ)
     (rows : List A) : Type 0 where
@@ -45,7 +45,7 @@ pub record AreGivenOnce {A : Type 0} (number_of : A → ℕ) (Stood : A → Type
 abbrev pub HasStood : Flat → Service → Type 0
 HasStood before row = has_service row.number before ≡ true
 
--- so does a registration, whatever it is told
+-- so does a registration, whatever it is notified of
 abbrev pub HasWatched : Flat → Registration → Type 0
 HasWatched before row = has_registration row.number before ≡ true
 
@@ -66,7 +66,7 @@ pub record AllAreGivenOnce (before : Flat) (e : Entry) (told : Answer) (after : 
 
 -- ## A history
 
--- a number that an entry takes away isn't there behind anything that follows
+-- a number that an entry takes away isn't there after anything that follows
 abbrev pub IsNeverAgain : (ℕ → Flat → Bool) → Limits → Flat → List Entry → Type 0
 IsNeverAgain is_there l f es =
     (number : ℕ) (front : List Entry) (e : Entry) (rest : List Entry) → es ≡ front ++ e ∷ rest

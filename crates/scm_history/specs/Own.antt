@@ -12,17 +12,17 @@ is_joined (Joined principal) = true
 is_joined step = false
 
 -- the entries that name a caller
-abbrev pub all_named : ℕ → List Entry → List Entry
-all_named caller es = filter (λ (e : Entry). names_caller caller e.1) es
+abbrev pub named_entries : ℕ → List Entry → List Entry
+named_entries caller es = filter (λ (e : Entry). names_caller caller e.1) es
 
 -- first comes a Joined, and then each entry of the history that names the caller
 pub record JoinsFirst (caller : ℕ) (es : List Entry) (first : Entry) (later : List Entry) : Type 0 where
   pub joins : IsTrue (is_joined first.1)
-  pub names : later ≡ all_named caller es
+  pub names : later ≡ named_entries caller es
 
 -- where there are none, no entry names the caller
 abbrev pub BeginsWithJoined : ℕ → List Entry → List Entry → Type 0
-BeginsWithJoined caller es [] = all_named caller es ≡ []
+BeginsWithJoined caller es [] = named_entries caller es ≡ []
 BeginsWithJoined caller es (first ∷ later) = JoinsFirst caller es first later
 
 -- so it is with the entries of each caller of a history

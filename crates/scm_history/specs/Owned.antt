@@ -21,7 +21,7 @@ pub record Made : Type 0 where
 abbrev pub made_of : Entry → Answer → Made
 made_of e told = record { entry = e; told = told }
 
--- whether a step makes or names a caller, or takes in hand or names a process, in the state before it
+-- whether a step makes or names a caller, or takes the launch of a process or names it, in the state before it
 abbrev pub is_by_name : Flat → Name → Step → Bool
 is_by_name f (names.Caller caller) step = names_caller caller step || makes_caller f caller step
 is_by_name f (names.Process process) step = names_process process step || takes_process f process step
@@ -48,7 +48,7 @@ abbrev pub is_last_of : Name → Step → Bool
 is_last_of (names.Caller caller) step = takes_leave caller step
 is_last_of (names.Process process) step = takes_away process step
 
--- behind it nothing is of that name
+-- after it nothing is of that name
 abbrev pub LastsOnce : Limits → Flat → List Entry → Type 0
 LastsOnce l f es =
     (name : Name) (front : List Entry) (e : Entry) (rest : List Entry) → es ≡ front ++ e ∷ rest → is_last_of name e.1 ≡ true

@@ -23,13 +23,13 @@ process_numbers rows = map (λ (row : Process). row.number) rows
 abbrev pub those_that_stay : Step → List Process → List Process
 those_that_stay step rows = filter (λ (row : Process). not (takes_away row.number step)) rows
 
--- those that a step neither names nor takes in hand, in the state before, apart from their controls
+-- those that a step doesn't name, and whose launch it doesn't take, in the state before, apart from their controls
 abbrev pub those_not_meant : Flat → Step → List Process → List Process
 those_not_meant f step rows =
     map apart_from_controls (filter (λ (row : Process). not (names_process row.number step || takes_process f row.number step)) rows)
 
--- Behind a step stand those that were listed, in their order and without one that leaves, and then those that are new. Whom the step
--- neither names nor takes in hand is as it was, apart from its controls.
+-- After a step the list has those that were listed, in their order and without one that leaves, and then those that are new. A process
+-- that the step doesn't name, and whose launch it doesn't take, is as it was, apart from its controls.
 pub record PlacesStay (before : Flat) (e : Entry) (told : Answer) (after : Flat) : Type 0 where
   pub old : List Process
   pub new : List Process

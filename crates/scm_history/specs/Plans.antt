@@ -29,7 +29,7 @@ PlansAreTheirCallers before e told after =
     → ends_plan number e.1 ≡ false → takes_leave caller e.1 ≡ false
     → IsPlanOf after number caller target
 
--- behind the EndStart of a plan no entry is its EndStart again
+-- after the EndStart of a plan no entry is its EndStart again
 abbrev pub EachEndsOnce : List Entry → Type 0
 EachEndsOnce es =
     (number : ℕ) (front : List Entry) (e : Entry) (rest : List Entry) → es ≡ front ++ e ∷ rest → IsTrue (ends_plan number e.1)

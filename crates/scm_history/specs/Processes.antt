@@ -17,7 +17,7 @@ pub record Stays (before after : Flat) (number : ℕ) : Type 0 where
       → option_map apart_from_controls (process_of after number) ≡ option_map apart_from_controls (process_of before number)
   pub unlisted : is_some (process_of before number) ≡ false → number < before.next.process → is_some (process_of after number) ≡ false
 
--- so it is with each process that an entry neither names nor takes in hand
+-- so it is with each process that an entry doesn't name, and whose launch it doesn't take
 abbrev pub OthersStay : Flat → Entry → Answer → Flat → Type 0
 OthersStay before e told after =
     (number : ℕ) → names_process number e.1 ≡ false → takes_process before number e.1 ≡ false → Stays before after number

@@ -3,6 +3,7 @@ use Rattle.std.specs.Prelude.{ℕ, Bool, ◌≡◌, ◌⊎◌, ◌==◌, true, f
 use Rattle.std.specs.List.{list_any}
 use Rattle.scm_model.specs.declared.codes.TheConstants.{ERROR_INVALID_DATA}
 use Rattle.scm_model.specs.declared.flat.Flat.{Flat}
+use Rattle.scm_model.specs.declared.flat.Order.{Order}
 use Rattle.scm_model.specs.declared.flat.Service.{Service}
 use Rattle.scm_model.specs.declared.calls.Reply.{Reply}
 use Rattle.scm_model.specs.declared.calls.Reply.TheVariants as reply
@@ -21,9 +22,9 @@ abbrev pub is_code : Reply → Bool
 is_code (reply.Code code) = true
 is_code told = false
 
-abbrev pub is_handle : Reply → Bool
-is_handle (reply.Handle handle code) = true
-is_handle told = false
+abbrev pub is_handle_reply : Reply → Bool
+is_handle_reply (reply.Handle handle code) = true
+is_handle_reply told = false
 
 abbrev pub is_state : Reply → Bool
 is_state (reply.State status code) = true
@@ -67,17 +68,19 @@ is_notice told = false
 
 -- whether a reply has the form of those to a request
 abbrev pub is_reply_to : Request → Reply → Bool
-is_reply_to (request.Close handle) told = is_handle told
+is_reply_to (request.Close handle) told = is_handle_reply told
 is_reply_to (request.Control handle control) told = is_state told
 is_reply_to (request.Delete handle) told = is_code told
-is_reply_to (request.Lock handle) told = is_handle told
+is_reply_to (request.Lock handle) told = is_handle_reply told
+is_reply_to (request.QuerySecurity handle parts size) told = are_bytes told
+is_reply_to (request.SetSecurity handle parts bytes) told = is_code told
 is_reply_to (request.QueryStatus handle) told = is_state told
 is_reply_to (request.SetStatus handle status) told = is_code told
-is_reply_to (request.Unlock handle) told = is_handle told
+is_reply_to (request.Unlock handle) told = is_handle_reply told
 is_reply_to (request.Change change) told = is_tag told
 is_reply_to (request.Create new) told = is_made told
-is_reply_to (request.OpenManager database access) told = is_handle told
-is_reply_to (request.OpenService handle name access) told = is_handle told
+is_reply_to (request.OpenManager database access) told = is_handle_reply told
+is_reply_to (request.OpenService handle name access) told = is_handle_reply told
 is_reply_to (request.QueryConfig handle size) told = is_config_reply told
 is_reply_to (request.QueryLock handle size) told = is_lock_state told
 is_reply_to (request.Start handle words) told = is_code told
@@ -88,9 +91,9 @@ is_reply_to (request.EnumServices handle kinds states size resume) told = is_pag
 is_reply_to (request.QueryStatusEx handle level size) told = are_bytes told
 is_reply_to (request.Change2 handle level) told = is_code told
 is_reply_to (request.QueryConfig2 handle level size) told = are_bytes told
-is_reply_to (request.Notify handle mask) told = is_handle told
+is_reply_to (request.Notify handle mask) told = is_handle_reply told
 is_reply_to (request.GetNotify handle) told = is_notice told
-is_reply_to (request.CloseNotify handle) told = is_handle told
+is_reply_to (request.CloseNotify handle) told = is_handle_reply told
 
 -- ## Answers
 
@@ -126,8 +129,8 @@ pub record IsEnded (told : Answer) : Type 0 where
 
 -- a control that waited
 pub record IsControl (told : Answer) : Type 0 where
-  pub code : ℕ
-  pub is : told ≡ answer.Control code
+  pub order : Order
+  pub is : told ≡ answer.Control order
 
 -- the process of the launch that was wanted first
 pub record IsFirstLaunch (before : Flat) (told : Answer) : Type 0 where
@@ -140,7 +143,7 @@ HasShape before (Joined principal) told = told ≡ answer.Caller before.next.cal
 HasShape before (Call caller asked append) told = IsAnswered before asked told
 HasShape before (EndStart caller plan) told = IsEnded told
 HasShape before LaunchTaken told = IsFirstLaunch before told
-HasShape before (Report process status) told = IsStaleOrHeard before process told
+HasShape before (Report process service status) told = IsStaleOrHeard before process told
 HasShape before (Ended process) told = IsStaleOrDone before process told
 HasShape before (ControlTaken process) told = IsControl told
 HasShape before (Raised caller subtype) told = IsEnded told

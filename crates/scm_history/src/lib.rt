@@ -25,34 +25,35 @@ use scm_model::{Flat, Limits, Step};
 use scm_text::Items;
 
 /// An entry names only a caller that is in the state before it, and a process that is listed there:
-/// in hand where the entry tells the outcome of its launch, launched where it is a report or its
-/// end.
+/// with its launch taken if the entry is the outcome of the launch, launched if it is a report or
+/// the process's end.
 pub fn names_who_is_there(limits: &Limits, steps: &Items<(u64, Step)>, opening: &Flat)
     requires begins { IsOpening limits.now opening.now }
     requires legal { IsLegal limits.now opening.now steps.now }
     ensures { EachStep NamesWhoIsThere limits.now opening.now steps.now }
 {}
 
-/// A process that an entry neither names nor takes in hand stays as it is: listed with the same
-/// service, phase and system's number, or not listed. Controls may come to wait for it, and be
-/// taken.
+/// A process that an entry doesn't name, and whose launch it doesn't take, stays as it is: listed
+/// with the same service, phase and system's number, or not listed. Controls for it may be added
+/// and taken.
 pub fn others_stay(limits: &Limits, steps: &Items<(u64, Step)>, opening: &Flat)
     requires begins { IsOpening limits.now opening.now }
     requires legal { IsLegal limits.now opening.now steps.now }
     ensures { EachStep OthersStay limits.now opening.now steps.now }
 {}
 
-/// Processes keep their places in the list: behind an entry stand those that were listed, in their
-/// order, without one whose launch failed or that ended, and then those that are new. Whom the
-/// entry neither names nor takes in hand stands there as it was, apart from its controls.
+/// Processes keep their places in the list: after an entry it has those that were listed, in their
+/// order, without one whose launch failed or that ended, and then those that are new. A process
+/// that the entry doesn't name, and whose launch it doesn't take, is as it was, apart from its
+/// controls.
 pub fn places_stay(limits: &Limits, steps: &Items<(u64, Step)>, opening: &Flat)
     requires begins { IsOpening limits.now opening.now }
     requires legal { IsLegal limits.now opening.now steps.now }
     ensures { EachStep PlacesStay limits.now opening.now steps.now }
 {}
 
-/// No number of a caller, a process or a plan is given twice: the next ones never fall, and whoever
-/// is new has one that was not given before.
+/// No number of a caller, a process or a plan is given twice: the next ones never fall, and each
+/// that is new has one that was not given before.
 pub fn numbers_are_made_once(limits: &Limits, steps: &Items<(u64, Step)>, opening: &Flat)
     requires begins { IsOpening limits.now opening.now }
     requires legal { IsLegal limits.now opening.now steps.now }
@@ -60,7 +61,7 @@ pub fn numbers_are_made_once(limits: &Limits, steps: &Items<(u64, Step)>, openin
 {}
 
 /// No number is given again, of whatever kind: one that an entry takes away never comes back.
-/// Behind each step the numbers of services, handles, registrations and rows that become due are
+/// After each step the numbers of services, handles, registrations and rows that become due are
 /// below the next ones, which never fall, and each row stood before, or has a number that was not
 /// given before.
 pub fn numbers_are_never_given_again(limits: &Limits, steps: &Items<(u64, Step)>, opening: &Flat)
@@ -70,17 +71,17 @@ pub fn numbers_are_never_given_again(limits: &Limits, steps: &Items<(u64, Step)>
     ensures for_good { NoneIsGivenAgain limits.now opening.now steps.now }
 {}
 
-/// Each entry that names a caller stands behind the Joined that made it, each that names a process
-/// behind a LaunchTaken that took it in hand, and each EndStart behind a Call of the same caller
-/// that began its plan.
+/// Each entry that names a caller comes after the Joined that made it, each that names a process
+/// after a LaunchTaken that took its launch, and each EndStart after a Call of the same caller that
+/// began its plan.
 pub fn who_is_not_made_is_not_named(limits: &Limits, steps: &Items<(u64, Step)>, opening: &Flat)
     requires begins { IsOpening limits.now opening.now }
     requires legal { IsLegal limits.now opening.now steps.now }
     ensures { EachStandsBehind limits.now opening.now steps.now }
 {}
 
-/// A Joined makes a caller that none before it made, a LaunchTaken takes a process in hand that
-/// none before it took, and a Call whose start waits begins a plan that none before it began.
+/// A Joined makes a caller that none before it made, a LaunchTaken takes the launch of a process
+/// that none before it took, and a Call whose start waits begins a plan that none before it began.
 pub fn nobody_is_made_twice(limits: &Limits, steps: &Items<(u64, Step)>, opening: &Flat)
     requires begins { IsOpening limits.now opening.now }
     requires legal { IsLegal limits.now opening.now steps.now }
@@ -112,25 +113,25 @@ pub fn plans_are_their_callers(limits: &Limits, steps: &Items<(u64, Step)>, open
     ensures once { EachEndsOnce steps.now }
 {}
 
-/// Behind a LaunchTaken its process is in hand, behind a Launched it runs and has that number of
-/// the system, behind a Report it runs as it did, and behind a LaunchFailed or an Ended it isn't
-/// listed.
+/// After a LaunchTaken the launch of its process is taken, after a Launched the process runs and
+/// has that number of the system, after a Report it runs as it did, and after a LaunchFailed or an
+/// Ended it isn't listed.
 pub fn entries_leave_processes_so(limits: &Limits, steps: &Items<(u64, Step)>, opening: &Flat)
     requires begins { IsOpening limits.now opening.now }
     requires legal { Legal limits.now opening.now steps.now }
     ensures { EachEntry LawOfPhases limits.now opening.now steps.now }
 {}
 
-/// Behind a Start that waits its plan is there, of the caller that asked and aimed at the service
-/// of its handle; no other step is told a plan.
+/// After a Start that waits its plan is there, of the caller that asked and aimed at the service of
+/// its handle; no other step returns a plan.
 pub fn a_plan_is_who_began_its(limits: &Limits, steps: &Items<(u64, Step)>, opening: &Flat)
     requires begins { IsOpening limits.now opening.now }
     requires legal { Legal limits.now opening.now steps.now }
     ensures { EachEntry LawOfBegun limits.now opening.now steps.now }
 {}
 
-/// Each answer has the shape of its step: a call is told a reply of its request's form, or, where
-/// it is a start, its plan; a report and an end are stale exactly where no service has the process.
+/// Each answer has the shape of its step: a call returns a reply of its request's form, or, if it
+/// is a start, its plan; a report and an end are stale exactly if no service has the process.
 pub fn answers_have_shapes(limits: &Limits, steps: &Items<(u64, Step)>, opening: &Flat)
     requires begins { IsOpening limits.now opening.now }
     requires legal { Legal limits.now opening.now steps.now }
@@ -143,7 +144,7 @@ pub fn law_of_own_entries(limits: &Limits, first: &Flat)
     ensures { LawOfOwn limits.now first.now }
 {}
 
-/// Behind a caller's Gone no entry is that caller's, and behind a process's LaunchFailed or Ended
+/// After a caller's Gone no entry is that caller's, and after a process's LaunchFailed or Ended
 /// none is that process's.
 pub fn own_entries_end(limits: &Limits, steps: &Items<(u64, Step)>, opening: &Flat)
     requires begins { IsOpening limits.now opening.now }

@@ -20,7 +20,7 @@ use Rattle.service_record.specs.Spelling.{need_bytes, number, encoding, text}
 use Rattle.scm_runs.proofs.Calls.{all_pass}
 use Rattle.scm_runs.proofs.Lists.{none_any}
 use Rattle.scm_runs.proofs.Sizes.{are_short}
-use Rattle.scm_kept.specs.Fitting.{IsText}
+use Rattle.scm_kept.specs.Fitting.{AreUnits}
 use Rattle.scm_kept.proofs.Given.{HasText, HasUnits}
 
 -- ## What is accepted
@@ -97,7 +97,7 @@ is_small config e =
 
 -- ## It has a encoding
 
-text_fits : (units : List ℕ) → length units ≤ 2048 → IsText units → FitsText units
+text_fits : (units : List ℕ) → length units ≤ 2048 → AreUnits units → FitsText units
 text_fits units short is = (omega (arith, short), is)
 
 need_fits : (need : Need) → IsShortNeed need → HasText need → IsNeed need

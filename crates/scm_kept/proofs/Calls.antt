@@ -28,7 +28,7 @@ use Rattle.scm_rules.specs.Change.{change_change, change_done, change_refusals, 
 use Rattle.scm_rules.specs.Change.{new_config}
 use Rattle.scm_rules.specs.Change2.{change2_change, change2_done, change2_refusals, change2_verdict, level_config}
 use Rattle.scm_rules.specs.Create.{create_change, create_done, create_refusals, create_verdict}
-use Rattle.scm_rules.specs.Delete.{delete_change, delete_done, delete_refusals, delete_verdict, marked_in, removed}
+use Rattle.scm_rules.specs.Delete.{delete_change, delete_done, delete_refusals, delete_verdict, marked_in, removal_of}
 use Rattle.scm_rules.specs.Verdicts.{call_of, change_of_call, tells_right, told_refused, unless_refused}
 use Rattle.scm_history.specs.Kept.{kept_change, one_or_none}
 use Rattle.scm_runs.proofs.Calls.{all_pass, by_verdict}
@@ -125,7 +125,7 @@ created l f moment caller new appended.Failed right =
 -- ## Delete
 
 one_marked : (f : Flat) (found : Option Service) → Sound f → IfSome found (λ row. service_of f row.number ≡ Some row)
-    → KeptBy f.services (option_map removed found) (marked_in found f.services)
+    → KeptBy f.services (option_map removal_of found) (marked_in found f.services)
 one_marked f None s is = all_same (unmarked f.services)
 one_marked f (Some row) s is = same_kept _ _ (marked_unmarked row.number row.config.name f.services
     (all_named row.number row f.services s.services.names s.services.numbered.rising is))

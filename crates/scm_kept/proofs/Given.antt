@@ -18,11 +18,11 @@ use Rattle.scm_model.specs.declared.calls.Info.TheVariants as info
 use Rattle.scm_model.specs.declared.calls.NewService.{NewService}
 use Rattle.service_record.specs.Checks.{name_of_need}
 use Rattle.service_record.specs.Spelling.{FitsNumber, IsUnit}
-use Rattle.scm_rules.specs.Change.{config_from, display_or, tag_or}
+use Rattle.scm_rules.specs.Change.{changed_config, display_or, tag_or}
 use Rattle.scm_rules.specs.Change2.{config_at, trigger_of}
 use Rattle.scm_rules.specs.Create.{created_config, display_of, next_tag, tag_of}
 use Rattle.scm_rules.specs.Needs.{need_named, needs_in_bytes, needs_or, needs_read, units_in_bytes}
-use Rattle.scm_kept.specs.Fitting.{AreBytes, AreBytesIn, FitsDelay, IsByte, IsText, IsTextIn, FitsChange, FitsCreation, FitsLevel}
+use Rattle.scm_kept.specs.Fitting.{AreBytes, AreBytesIn, FitsDelay, IsByte, AreUnits, IsTextIn, FitsChange, FitsCreation, FitsLevel}
 
 -- ## Needs in bytes
 
@@ -30,7 +30,7 @@ abbrev IsLow : ℕ → Type 0
 IsLow u = u < 2 ^ 16
 
 abbrev AreTexts : List (List ℕ) → Type 0
-AreTexts texts = AllByRecursion IsText texts
+AreTexts texts = AllByRecursion AreUnits texts
 
 unit_before : (low high : ℕ) (read : Option (List ℕ)) → IsByte low → IsByte high → IfSome read (All IsLow)
     → IfSome (option_map (λ units. (low + 256 * high) ∷ units) read) (All IsLow)
@@ -57,7 +57,7 @@ pieces_are (suc u ∷ units) each =
     front_text (suc u) (pieces units) (omega arith, All-head IsLow (suc u) units each)
     (pieces_are units (All-tail IsLow (suc u) units each))
 
-one_behind : (name : List ℕ) (read : Reading) → IsText name → IfOk read AreTexts → IfOk (read_behind (name ∷ []) read) AreTexts
+one_behind : (name : List ℕ) (read : Reading) → AreUnits name → IfOk read AreTexts → IfOk (read_behind (name ∷ []) read) AreTexts
 one_behind name (Ok more) is each = (is, each)
 one_behind name (Err fault) is each = tt
 
@@ -75,9 +75,9 @@ names_are place ((u ∷ name) ∷ texts) each =
 
 -- a need's name is a text
 abbrev pub HasText : Need → Type 0
-HasText need = IsText (name_of_need need)
+HasText need = AreUnits (name_of_need need)
 
-need_is : (name : List ℕ) → IsText name → HasText (need_named name)
+need_is : (name : List ℕ) → AreUnits name → HasText (need_named name)
 need_is [] is = is
 need_is (u ∷ name) is =
     elim (u == 43) as (λ b. HasText (cond b (needs.Group name)
@@ -107,24 +107,24 @@ needs_given old (Some bytes) is each = some_or (needs_in_bytes bytes) old (names
 -- ## Configurations
 
 pub record HasUnits (config : Config) : Type 0 where
-  pub name : IsText config.name
-  pub display : IsText config.display
-  pub path : IsText config.path
-  pub group : IsText config.group
+  pub name : AreUnits config.name
+  pub display : AreUnits config.display
+  pub path : AreUnits config.path
+  pub group : AreUnits config.group
   pub tag : FitsNumber config.tag
   pub needs : All HasText config.needs
-  pub description : IsText config.description
+  pub description : AreUnits config.description
   pub reset : FitsNumber config.reset
   pub actions : All FitsDelay config.actions
-  pub command : IsText config.command
+  pub command : AreUnits config.command
 
-given_or : (given : Option (List ℕ)) (old : List ℕ) → IsTextIn given → IsText old → IsText (unwrap_or given old)
+given_or : (given : Option (List ℕ)) (old : List ℕ) → IsTextIn given → AreUnits old → AreUnits (unwrap_or given old)
 given_or None old each is = is
 given_or (Some text) old each is = each
 
-display_is : (name : List ℕ) (given : Option (List ℕ)) → IsText name → IsTextIn given → IsText (display_of name given)
+display_is : (name : List ℕ) (given : Option (List ℕ)) → AreUnits name → IsTextIn given → AreUnits (display_of name given)
 display_is name None is each = is
-display_is name (Some display) is each = elim (length display == 0) as (λ b. IsText (cond b name display)) [ true ↦ is | false ↦ each ]
+display_is name (Some display) is each = elim (length display == 0) as (λ b. AreUnits (cond b name display)) [ true ↦ is | false ↦ each ]
 
 tag_is : (f : Flat) (group : List ℕ) (asked : Option ℕ) → FitsNumber (tag_of f group asked)
 tag_is f group None = omega arith
@@ -145,7 +145,7 @@ created_units f new fits = record {
   command = All-nil IsUnit;
 }
 
-display_left : (old : Config) (given : Option (List ℕ)) → HasUnits old → IsTextIn given → IsText (display_or old given)
+display_left : (old : Config) (given : Option (List ℕ)) → HasUnits old → IsTextIn given → AreUnits (display_or old given)
 display_left old None is each = is.display
 display_left old (Some display) is each = display_is old.name (Some display) is.name each
 
@@ -154,7 +154,7 @@ tag_left f old group None is = is.tag
 tag_left f old group (Some asked) is = omega arith
 
 pub changed_units : (f : Flat) (change : ChangeService) (old : Config) → FitsChange change → HasUnits old
-    → HasUnits (config_from f change old)
+    → HasUnits (changed_config f change old)
 changed_units f change old fits is = record {
   name = is.name;
   display = display_left old change.display is fits.display;

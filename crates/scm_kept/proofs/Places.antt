@@ -28,7 +28,7 @@ use Rattle.scm_rules.specs.Change.{change_change, change_refusals, change_verdic
 use Rattle.scm_rules.specs.Change.{tags_no_group}
 use Rattle.scm_rules.specs.Change2.{change2_change, change2_refusals, change2_verdict, has_bad_trigger, is_refused, level_config}
 use Rattle.scm_rules.specs.Create.{create_refusals, create_verdict, created_config, tags_nothing}
-use Rattle.scm_rules.specs.Delete.{delete_refusals, delete_verdict, is_marked, removed}
+use Rattle.scm_rules.specs.Delete.{delete_refusals, delete_verdict, is_marked, removal_of}
 use Rattle.scm_rules.specs.Needs.{are_unreadable}
 use Rattle.scm_rules.specs.Verdicts.{change_of_call, unless_refused}
 use Rattle.scm_rules.proofs.Held.{held_is}
@@ -166,9 +166,9 @@ creation l f caller new few fits =
 deletion : (l : Limits) (f : Flat) (caller handle : ℕ) → Sound f → HaveUnits f.services
     → IfSome (change_of_call l f caller (request.Delete handle)) (IsPlaced f)
 deletion l f caller handle s each =
-    not_refused f (delete_verdict f caller handle appended.Kept) (option_map removed (held_service f caller handle)) (λ e.
+    not_refused f (delete_verdict f caller handle appended.Kept) (option_map removal_of (held_service f caller handle)) (λ e.
     let p = all_pass (delete_refusals f caller handle appended.Kept) (refl, (refl, (refl, (refl, tt)))) e in
-    found_all (λ (found : Option Service). IfSome (option_map removed found) (IsPlaced f)) (held_service f caller handle) tt (λ row is.
+    found_all (λ (found : Option Service). IfSome (option_map removal_of found) (IsPlaced f)) (held_service f caller handle) tt (λ row is.
     let stands = stands_so f caller handle row is p.1.1.0 in
     let found = held_is f caller handle row is in
     record {

@@ -16,7 +16,7 @@ use Rattle.record_journal.specs.Entries.{Entries, IsPart, Whole, all_from, can_r
 use Rattle.record_journal.specs.Entries.{if_read, is_unfinished, last_of, read_journal, replay_of, replayable, whole_entry, with_body}
 use Rattle.record_journal.specs.Entries.{with_change}
 use Rattle.record_journal.specs.Format.{HasEntry, entry_bytes, header, piece}
-use Rattle.record_journal.specs.ReadBack.{held_change, written}
+use Rattle.record_journal.specs.ReadBack.{held_change, journal}
 use Rattle.record_journal.specs.Replay.{after_change, replayed}
 use Rattle.record_journal.specs.declared.replaying.Replay.{Replay}
 use Rattle.record_journal.proofs.Back.{read_back}
@@ -315,9 +315,9 @@ read_again bytes replay is =
 
 -- ## One change more
 
-first_piece : (change : Change) → piece 0 change ≡ written (change ∷ []) ++ []
+first_piece : (change : Change) → piece 0 change ≡ journal (change ∷ []) ++ []
 unfolding piece
-first_piece change = ap (λ (xs : List ℕ). header ++ xs) (sym (append-nil (entry_bytes change))) ∙ sym (append-nil (written (change ∷ [])))
+first_piece change = ap (λ (xs : List ℕ). header ++ xs) (sym (append-nil (entry_bytes change))) ∙ sym (append-nil (journal (change ∷ [])))
 
 pub later_piece : (n : ℕ) (change : Change) → n ≢ 0 → piece n change ≡ entry_bytes change
 unfolding piece
@@ -337,7 +337,7 @@ one_more good configs change is entry can =
     (subst (λ (xs : List ℕ). IsJournalOf (xs ++ piece (length xs) change) (after_change [] (held_change change))) (sym none)
     (subst (λ (xs : List ℕ). IsJournalOf xs (after_change [] (held_change change))) (sym (first_piece change))
     (read_back (change ∷ []) (entry, first, tt) [] nothing ∙ ap (λ (xs : List ℕ). Ok
-    (record { configs = after_change [] (held_change change); kept = length xs })) (sym (append-nil (written (change ∷ []))))))))
+    (record { configs = after_change [] (held_change change); kept = length xs })) (sym (append-nil (journal (change ∷ []))))))))
     (λ (s : Stood (take (length good) good) configs).
     let all : Stood good configs = subst (λ (xs : List ℕ). Stood xs configs) (take_all (length good) good (omega arith)) s in
     let some : length good ≢ 0 = (λ q. let h = ap length all.headed in absurd (omega (arith, q, h))) in

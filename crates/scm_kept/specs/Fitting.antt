@@ -19,21 +19,21 @@ IsByte byte = byte < 2 ^ 8
 abbrev pub AreBytes : List ℕ → Type 0
 AreBytes bytes = All IsByte bytes
 
-abbrev pub IsText : List ℕ → Type 0
-IsText units = All IsUnit units
+abbrev pub AreUnits : List ℕ → Type 0
+AreUnits units = All IsUnit units
 
 abbrev pub AreBytesIn : Option (List ℕ) → Type 0
 AreBytesIn given = IfSome given AreBytes
 
 abbrev pub IsTextIn : Option (List ℕ) → Type 0
-IsTextIn given = IfSome given IsText
+IsTextIn given = IfSome given AreUnits
 
 -- ## What a request gives for a configuration
 
 pub record FitsCreation (new : NewService) : Type 0 where
-  pub name : IsText new.name
+  pub name : AreUnits new.name
   pub display : IsTextIn new.display
-  pub path : IsText new.path
+  pub path : AreUnits new.path
   pub group : IsTextIn new.group
   pub needs : AreBytesIn new.needs
 

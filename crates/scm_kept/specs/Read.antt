@@ -18,7 +18,7 @@ abbrev pub IsReadAgain : List ℕ → Replay → Type 0
 IsReadAgain bytes replay =
     read_journal bytes ≡ Ok replay → IsJournalOf (take replay.kept bytes) replay.configs
 
--- changes that are appended to a journal and can be replayed are read behind what stood
+-- changes that are appended to a journal and can be replayed are read after what stood
 abbrev pub IsReadOn : List ℕ → List Config → List Change → Type 0
 IsReadOn bytes configs changes =
     IsJournalOf bytes configs → AreReplayable configs changes

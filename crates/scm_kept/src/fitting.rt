@@ -3,7 +3,7 @@ ghost use Rattle.std.specs.Prelude.{All, IfSome};
 ghost use Rattle.scm_text.specs.Fold.{HasNoZero};
 ghost use Rattle.scm_kept.specs.Fitting.{AllFit, AreBytes, AreBytesIn, FitsDelay};
 ghost use Rattle.scm_kept.specs.Fitting.{FitsChange, FitsCreation, FitsLevel, FitsRequest};
-ghost use Rattle.scm_kept.specs.Fitting.{FitsStep, IsText, IsTextIn};
+ghost use Rattle.scm_kept.specs.Fitting.{FitsStep, AreUnits, IsTextIn};
 ghost use Rattle.service_record.specs.Spelling.{FitsNumber};
 
 use scm_model::{Action, ChangeService, Info, NewService, Request, Step};
@@ -11,11 +11,11 @@ use scm_text::{Items, WText};
 
 fn units_fit(units: &[u16])
     requires { HasNoZero units.now }
-    ensures { IsText units.now }
+    ensures { AreUnits units.now }
 {}
 
 fn text_fits(text: &WText)
-    ensures { IsText text.now }
+    ensures { AreUnits text.now }
 {
     units_fit(text.units());
 }

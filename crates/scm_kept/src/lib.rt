@@ -29,9 +29,9 @@ pub fn unmarked_configurations_are_kept(limits: &Limits, steps: &Items<(u64, Ste
     ensures { UnmarkedAreKept limits.now opening.now steps.now }
 {}
 
-/// Read once more, what an opening keeps of a journal comes to the same configurations, and changes
-/// that are appended to it and can be replayed are read after them: so what one run kept is what
-/// the next one opens with. Where the last append was cut off, the journal isn't damaged: all
+/// Read once more, what an opening keeps of a journal results in the same configurations, and
+/// changes that are appended to it and can be replayed are read after them: so what one run kept is
+/// what the next one opens with. If the last append was cut off, the journal isn't damaged: all
 /// before it is read, or all with its change.
 pub fn what_was_kept_is_read()
     ensures again { (bytes : List ℕ) (replay : Replay) → IsReadAgain bytes replay }

@@ -6,14 +6,14 @@ use Rattle.scm_book.specs.declared.reporting.TickEnd.{TickEnd}
 use Rattle.scm_book.specs.declared.reporting.TickEnd.TheVariants as ticks
 use Rattle.scm_book.specs.Passes.{Known}
 use Rattle.scm_book.specs.Reporting.{TickEnds}
-use Rattle.scm_launcher.specs.Ticks.{Chain, IsTicked, IsTicksEnd, TicksOn, is_full}
+use Rattle.scm_launcher.specs.Ticks.{Chain, IsTicked, IsTicksEnd, TicksOn, no_room}
 
 module _ (tells : ℕ → Type 0) (o : Opening) where
   -- ticks that found room lead from k to m
   pub record Ticked (k m : Known) : Type 0 where
     pub ends : List TickEnd
     pub chain : Chain tells o k m ends
-    pub room : All (λ end. is_full end ≡ false) ends
+    pub room : All (λ end. no_room end ≡ false) ends
 
   -- a tick behind a chain
   pub chain_then : (k m k' : Known) (done : List TickEnd) (end : TickEnd) → Chain tells o k m done → IsTicked tells o m end k'
@@ -22,12 +22,12 @@ module _ (tells : ℕ → Type 0) (o : Opening) where
   chain_then k m k' (d ∷ done) end first then = (first.0, first.1, chain_then first.0 m k' done end first.2 then)
 
   -- a tick that found room, after others that did
-  pub one_more : (k m k' : Known) (moment : ℕ) (end : TickEnd) → tells moment → TickEnds o m moment end k' → is_full end ≡ false
+  pub one_more : (k m k' : Known) (moment : ℕ) (end : TickEnd) → tells moment → TickEnds o m moment end k' → no_room end ≡ false
       → Ticked k m → Ticked k k'
   one_more k m k' moment end told ends room so = record {
     ends = so.ends ++ end ∷ [];
     chain = chain_then k m k' so.ends end so.chain (record { moment = moment; told = told; ends = ends });
-    room = All-push (λ e. is_full e ≡ false) so.ends end so.room room;
+    room = All-push (λ e. no_room e ≡ false) so.ends end so.room room;
   }
 
   pub ticked : (k m k' : Known) (moment : ℕ) (end : TickEnd) → tells moment → TickEnds o m moment end k' → Ticked k m → TicksOn tells o k k'
@@ -60,7 +60,7 @@ module _ (tells : ℕ → Type 0) (o : Opening) where
   spent_end asked k m k' goes nobody ticked end = subst (IsTicksEnd asked o) (sym (spent_as k m k' goes nobody ticked)) end
 
 -- one that found no room ends it
-pub full_end : (asked : Type 0) (o : Opening) (k k' : Known) (moment : ℕ) (end : TickEnd) → TickEnds o k moment end k' → is_full end ≡ true
+pub full_end : (asked : Type 0) (o : Opening) (k k' : Known) (moment : ℕ) (end : TickEnd) → TickEnds o k moment end k' → no_room end ≡ true
     → IsTicksEnd asked o k'
 full_end asked o k k' moment ticks.Full ends full = inr ends.0.full
 full_end asked o k k' moment ticks.Ticked ends full = absurd cc

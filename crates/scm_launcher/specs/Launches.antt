@@ -1,4 +1,4 @@
--- What a look of the launcher comes to.
+-- The outcome of a look of the launcher.
 use Rattle.std.specs.Prelude.{ℕ, ◌≡◌}
 use Rattle.scm_model.specs.declared.flat.Phase.TheVariants as phases
 use Rattle.book_rule.specs.declared.view.Opening.{Opening}
@@ -11,7 +11,7 @@ use Rattle.scm_launcher.specs.declared.launching.Child.{Child}
 use Rattle.scm_launcher.specs.declared.launching.Next.{Next}
 use Rattle.scm_launcher.specs.declared.launching.Next.TheVariants as nexts
 
--- the pass of a child has it in hand, and the other one is a runner's; both are of the book
+-- the pass of a child is responsible for it, and the other one is a runner's; both are of the book
 pub record IsHanded {L F : Type 0} (b : Identity) (child : Child L F) : Type 0 where
   pub book : IsOf b child.taken
   pub nobody : child.taken.caller ≡ 0

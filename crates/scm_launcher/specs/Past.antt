@@ -1,4 +1,4 @@
--- What a pass has seen behind what it had, and the passes that a child leaves.
+-- What a pass has seen after what it had seen, and the passes that a child leaves.
 use Rattle.std.specs.Prelude.{◌≡◌}
 use mathlib.Core.List.{IsPrefix}
 use Rattle.scm_rules.specs.Histories.{Legal}

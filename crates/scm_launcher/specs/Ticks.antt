@@ -8,9 +8,9 @@ use Rattle.scm_book.specs.Passes.{Known, room_behind}
 use Rattle.scm_book.specs.Reporting.{TickEnds}
 
 -- the limits had no room for it
-abbrev pub is_full : TickEnd → Bool
-is_full ticks.Full = true
-is_full end = false
+abbrev pub no_room : TickEnd → Bool
+no_room ticks.Full = true
+no_room end = false
 
 module _ (tells : ℕ → Type 0) (o : Opening) where
   -- a tick at a moment that the clock tells came to this
@@ -29,7 +29,7 @@ module _ (tells : ℕ → Type 0) (o : Opening) where
     pub before : List TickEnd
     pub last : TickEnd
     pub chain : Chain k k' (before ++ last ∷ [])
-    pub room : All (λ end. is_full end ≡ false) before
+    pub room : All (λ end. no_room end ≡ false) before
 
 -- why a ticker ended: it was asked to, or the limits have no room for a tick in the last state that it saw
 abbrev pub IsTicksEnd : (asked : Type 0) → Opening → Known → Type 0

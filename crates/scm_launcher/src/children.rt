@@ -45,9 +45,9 @@ fn serve_link<R: Wait, K: Keeper, L: Link + Drop, C: Clock>(
     ended
 }
 
-/// Serves a child that was launched by the pass that has it in hand, and sends it its controls by
-/// another, until both are over. The controls are sent in a thread of their own; where none can be
-/// started they come last, when the child has ended and gets none.
+/// Serves a launched child by the pass that launched it, and sends it its controls by another,
+/// until both are over. The controls are sent in a thread of their own. If no thread can be started
+/// they come last, when the child has ended and gets none.
 pub fn run_child<R, K, L, F, C, Q>(
     rt: &R,
     alloc: Global,

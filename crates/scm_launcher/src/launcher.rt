@@ -302,7 +302,7 @@ fn make_room<R: Wait, K: Keeper, Q: Quit>(
 
 #[tactic(auto, using(crate::proofs::Seeing::sees_none, crate::proofs::Seeing::sees_then))]
 /// Begins a child's thread for each launch that is wanted, until `quit` asks for the end. The
-/// bell's count is read before each look, so no launch that comes behind the look is slept over.
+/// bell's count is read before each look, so no launch that comes after the look is missed.
 fn launch_until<'s, E, R, K, P, L, F, C, Q>(
     scope: &Scope<'s, E>,
     rt: &'s R,

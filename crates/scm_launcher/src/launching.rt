@@ -13,7 +13,7 @@ use std::alloc::Global;
 use std::mem;
 use std::sync::Wait;
 
-/// A process that was launched: its ends, the pass that has it in hand, and one for its controls.
+/// A process that was launched: its ends, the pass that launched it, and one for its controls.
 #[derive(Drop)]
 pub struct Child<L, F> {
     pub process: u64,
@@ -23,7 +23,7 @@ pub struct Child<L, F> {
     pub other: Pass,
 }
 
-/// What a look for a launch comes to.
+/// The outcome of a look for a launch.
 #[derive(Drop)]
 pub enum Next<L, F> {
     /// The process was launched.

@@ -1,7 +1,7 @@
 // What is due, done time after time.
 ghost use Rattle.std.specs.Prelude.{◌≡◌};
 ghost use Rattle.scm_book.specs.Passes.{IsOf};
-ghost use Rattle.scm_launcher.specs.Ticks.{IsTicksEnd, TicksOn, is_full};
+ghost use Rattle.scm_launcher.specs.Ticks.{IsTicksEnd, TicksOn, no_room};
 
 use outside::Clock;
 use process_runner::Quit;
@@ -16,7 +16,7 @@ const PAUSE: u64 = 50;
 
 /// Whether the limits had no room for a tick.
 fn is_full(end: TickEnd) -> bool
-    ensures { result ≡ is_full end }
+    ensures { result ≡ no_room end }
 {
     matches!(end, TickEnd::Full)
 }

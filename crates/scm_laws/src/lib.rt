@@ -41,7 +41,7 @@ pub fn law_2(limits: &Limits, steps: &Items<(u64, Step)>, opening: &Flat)
     law_of_starts(limits, steps, opening)
 }
 
-/// Of controls: what a Control is told, and which controls wait for a process.
+/// Of controls: what a Control returns, and which controls wait for a process.
 pub fn law_3(limits: &Limits, steps: &Items<(u64, Step)>, opening: &Flat)
     requires begins { IsOpening limits.now opening.now }
     requires legal { IsLegal limits.now opening.now steps.now }

@@ -1,4 +1,4 @@
--- What an accept comes to.
+-- The outcome of an accept.
 use Rattle.std.specs.Prelude.{ℕ, ◌≡◌, ◌≢◌, ◌≤◌, List, [], ◌∷◌, Option, None, Some, Bool, true, false, ⊤, IfSome}
 use Rattle.outside.specs.Causes.{Rose}
 use Rattle.scm_listener.specs.declared.accepted.Accepted.{Accepted}
@@ -11,9 +11,9 @@ IfConn (accept.Conn input output) P = P input output
 IfConn accept.Closed P = ⊤
 IfConn accept.Failed P = ⊤
 
-abbrev pub is_failed : {I O : Type 0} → Accepted I O → Bool
-is_failed accept.Failed = true
-is_failed accepted = false
+abbrev pub is_accept_failed : {I O : Type 0} → Accepted I O → Bool
+is_accept_failed accept.Failed = true
+is_accept_failed accepted = false
 
 -- how many connections came
 abbrev pub came : {I O : Type 0} → Accepted I O → ℕ
@@ -28,8 +28,8 @@ pub record IsNew (number at_input at_output : ℕ) (held : Option (List ℕ)) (r
   pub unread : read_faults ≡ 0
   pub unfailed : write_faults ≡ 0
 
--- What the peers of the connections to come send, where it is told: the one that came was the first of them; the listener is
--- closed exactly where none is left.
+-- What the peers of the connections to come send, if it is known: the one that came was the first of them; the listener is closed
+-- exactly if none is left.
 abbrev pub Takes : {I O : Type 0} → (I → Option (List ℕ)) → Accepted I O → (left left_now : Option (List (List ℕ))) → Type 0
 Takes sent accepted None now = now ≡ None
 Takes sent (accept.Conn input output) (Some left) now =
@@ -40,5 +40,5 @@ Takes sent accept.Failed (Some left) now = (left ≢ []) × (now ≡ Some left)
 -- the count of faults never falls; it rose where the accept failed, and is the same where it didn't
 pub record HasAcceptCause {I O : Type 0} (before now : ℕ) (accepted : Accepted I O) : Type 0 where
   pub grows : before ≤ now
-  pub rose : is_failed accepted ≡ true → Rose before now
-  pub kept : is_failed accepted ≡ false → now ≡ before
+  pub rose : is_accept_failed accepted ≡ true → Rose before now
+  pub kept : is_accept_failed accepted ≡ false → now ≡ before

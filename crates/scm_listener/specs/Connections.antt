@@ -2,7 +2,7 @@
 use Rattle.std.specs.Prelude.{ℕ, List, [], ◌∷◌, ◌++◌, Option, Result, Ok, Err, option_map}
 use Rattle.scm_listener.specs.declared.listener.Listening.{Listening}
 
--- what is told of a connection that is past
+-- what is known of a connection that is past
 pub record PastConnection : Type 0 where
   -- how many were handed out before it
   pub number : ℕ
@@ -17,7 +17,7 @@ abbrev pub past_of : (number : ℕ) → (left written : Option (List ℕ)) → (
 past_of number left written read_faults write_faults =
     record { number = number; left = left; written = written; read_faults = read_faults; write_faults = write_faults }
 
--- these and one more, where they are told
+-- these and one more, if they are known
 abbrev pub and_last : {A : Type 0} → Option (List A) → A → Option (List A)
 and_last told x = option_map (λ xs. xs ++ x ∷ []) told
 

@@ -20,13 +20,13 @@ pub record ListeningMemory : Type 0 where
   pub faults : ℕ
 
 -- what a connection in memory tells
-abbrev pub told_of : MemoryEnds → PastConnection
-told_of ends = past_of ends.number (Some ends.input.left) (Some ends.output.held) ends.input.faults ends.output.faults
+abbrev pub ends_told : MemoryEnds → PastConnection
+ends_told ends = past_of ends.number (Some ends.input.left) (Some ends.output.held) ends.input.faults ends.output.faults
 
 -- the connections that were noted, in order
 abbrev pub noted_in : Noted → List PastConnection
 noted_in Nothing = []
-noted_in (Last' ends p earlier) = noted_in earlier ++ told_of ends ∷ []
+noted_in (Last' ends p earlier) = noted_in earlier ++ ends_told ends ∷ []
 
 -- what the peers send that are to come
 abbrev pub peers_of : List MemoryPeer → Option (List (List ℕ))
@@ -39,7 +39,7 @@ pub record IsPeers (peer : MemoryPeer) (input : GivingMemory) (output : HoldingM
   pub writes : output.fails ≡ peer.writes.items
 
 -- the connection that came is the first of those that were waiting; where none came they wait still
-abbrev pub Comes : {I O : Type 0} → (I → GivingMemory) → (O → HoldingMemory) → List MemoryPeer → Accepted I O → List MemoryPeer → Type 0
-Comes source sink waiting (accept.Conn input output) now = (peer : MemoryPeer) × (waiting ≡ peer ∷ now)
+abbrev pub ConnComes : {I O : Type 0} → (I → GivingMemory) → (O → HoldingMemory) → List MemoryPeer → Accepted I O → List MemoryPeer → Type 0
+ConnComes source sink waiting (accept.Conn input output) now = (peer : MemoryPeer) × (waiting ≡ peer ∷ now)
     × IsPeers peer (source input.end) (sink output.end)
-Comes source sink waiting accepted now = now ≡ waiting
+ConnComes source sink waiting accepted now = now ≡ waiting

@@ -6,7 +6,7 @@ pub struct Numbered<E> {
     pub end: E,
 }
 
-/// What an accept comes to.
+/// The outcome of an accept.
 #[derive(Drop)]
 pub enum Accepted<I, O> {
     /// A connection came. These are its ends.

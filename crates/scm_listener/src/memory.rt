@@ -3,9 +3,9 @@ ghost use Rattle.std.specs.Io.KnownBytes.{ReadConsumes};
 ghost use Rattle.outside.specs.Causes.{HasCause, Rose};
 ghost use Rattle.outside.specs.Fates.{IsTold, one_more};
 ghost use Rattle.scm_listener.specs.Accepting.{HasAcceptCause, IfConn, IsNew, Takes, came};
-ghost use Rattle.scm_listener.specs.Accepting.{is_failed};
+ghost use Rattle.scm_listener.specs.Accepting.{is_accept_failed};
 ghost use Rattle.scm_listener.specs.Connections.{and_last, listened_after, past_of};
-ghost use Rattle.scm_listener.specs.InMemory.{Comes, noted_in, peers_of, told_of};
+ghost use Rattle.scm_listener.specs.InMemory.{ConnComes, noted_in, peers_of, ends_told};
 
 use crate::accepted::{Accepted, Numbered};
 use crate::listener::{Listener, Listening};
@@ -170,7 +170,7 @@ impl Listener for MemoryListener {
 
     ghost faults = { λ l. l.faults };
 
-    ghost tells = { λ past. told_of past.ends };
+    ghost tells = { λ past. ends_told past.ends };
 
     fn listen(&mut self, port: u16, take: Option<u64>) -> Result<(), Failed>
         ensures listened { Some self.new.listened ≡ listened_after result
@@ -210,8 +210,8 @@ impl Listener for MemoryListener {
         ensures listened { Some self.new.listened ≡ Some self.old.listened }
         ensures cause { HasAcceptCause self.old.faults self.new.faults result }
         ensures told { self.old.waiting ≢ [] → IsTold self.old.fails self.new.fails
-            self.old.faults self.new.faults (is_failed result) }
-        ensures first { Comes (λ input. input.source) (λ output. output)
+            self.old.faults self.new.faults (is_accept_failed result) }
+        ensures first { ConnComes (λ input. input.source) (λ output. output)
             self.old.waiting result self.new.waiting }
     {
         if self.waiting.is_empty() {
@@ -246,7 +246,7 @@ impl Listener for MemoryListener {
 
     fn end(input: Numbered<MemoryIn>, output: Numbered<MemorySink>) -> MemoryPast
         requires { input.number ≡ output.number }
-        ensures { told_of result.ends ≡ past_of input.number
+        ensures { ends_told result.ends ≡ past_of input.number
             (Some input.end.source.left) (Some output.end.held)
             input.end.source.faults output.end.faults }
     {

@@ -1,7 +1,7 @@
 -- Which services a service needs.
-use Rattle.std.specs.Prelude.{ℕ, Bool, ◌==◌, ◌++◌, List, [], ◌∷◌, Option, None, Some, find, filter, map, eqb, if◌then◌else◌}
-use Rattle.std.specs.List.{list_any}
+use Rattle.std.specs.Prelude.{ℕ, Bool, ◌==◌, ◌++◌, List, [], ◌∷◌, Option, None, Some, find, filter, map, if◌then◌else◌}
 use Rattle.scm_text.specs.Fold.{same_text}
+use Rattle.scm_text.specs.Numbers.{has}
 use Rattle.scm_model.specs.declared.flat.Need.{Need}
 use Rattle.scm_model.specs.declared.flat.Need.TheVariants as kinds
 use Rattle.scm_model.specs.declared.flat.NeedRow.{NeedRow}
@@ -34,9 +34,6 @@ abbrev pub needs_of : List NeedRow → ℕ → List ℕ
 needs_of rows number = met_by_all rows (row_needs (find (λ (row : NeedRow). row.number == number) rows))
 
 -- ## A row put in
-
-abbrev pub has : List ℕ → ℕ → Bool
-has numbers number = list_any (eqb number) numbers
 
 abbrev pub instead : NeedRow → NeedRow → NeedRow
 instead new row = if row.number == new.number then new else row

@@ -1,4 +1,4 @@
--- Events, and the registrations that are told of them.
+-- Events, and the registrations that are notified of them.
 use Rattle.std.specs.Prelude.{ℕ, Bool, false, true, not, ◌&&◌, ◌==◌, bit_and, nat_le, nat_lt, ◌+◌, ◌++◌, List, [], ◌∷◌, Option, None, Some}
 use Rattle.std.specs.Prelude.{filter, find, length, map, if◌then◌else◌}
 use Rattle.scm_model.specs.declared.codes.TheConstants.{SERVICE_CONTINUE_PENDING, SERVICE_PAUSED, SERVICE_PAUSE_PENDING, SERVICE_RUNNING}
@@ -73,7 +73,7 @@ event_of_creation name status = record { service = 0; bit = SERVICE_NOTIFY_CREAT
 abbrev pub event_of_leaving : Service → Event
 event_of_leaving row = record { service = 0; bit = SERVICE_NOTIFY_DELETED; status = with_pid row.status 0; name = row.config.name }
 
--- ## What registrations are told
+-- ## What registrations are notified of
 
 -- whether a registration waits for an event: of its service or the manager, and in its mask
 abbrev pub takes_event : Event → Registration → Bool
@@ -137,10 +137,10 @@ abbrev pub registered_by : Flat → ℕ → ℕ
 registered_by f caller = length (filter (λ (row : Registration). row.caller == caller) f.registrations)
 
 -- what a registration was told is taken once, and no second event comes
-abbrev pub taken_if : ℕ → Registration → Registration
-taken_if number row =
+abbrev pub taken_once : ℕ → Registration → Registration
+taken_once number row =
     if row.number == number && not (row.fired == 0) then record row { fired = 0; status = zero_process_status; name = []; spent = true }
     else row
 
 abbrev pub with_taken_result : Flat → ℕ → Flat
-with_taken_result f number = record f { registrations = map (taken_if number) f.registrations }
+with_taken_result f number = record f { registrations = map (taken_once number) f.registrations }

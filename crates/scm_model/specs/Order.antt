@@ -3,8 +3,9 @@ use Rattle.std.specs.Prelude.{ℕ, ◌≡◌, ◌==◌, Bool, true, false, ◌||
 use Rattle.std.specs.Prelude.{option_and_then, unwrap_or, length, if◌then◌else◌}
 use Rattle.scm_model.specs.declared.codes.TheConstants.{SERVICE_RUNNING}
 use Rattle.scm_model.specs.declared.flat.NeedRow.{NeedRow}
-use Rattle.scm_model.specs.Needs.{has, needs_of, numbers_of}
+use Rattle.scm_model.specs.Needs.{needs_of, numbers_of}
 use Rattle.scm_model.specs.Walks.{IsAcyclic}
+use Rattle.scm_text.specs.Numbers.{has}
 
 -- one number after another, each with what the one before came to
 abbrev pub try_all : (List ℕ → ℕ → Option (List ℕ)) → List ℕ → List ℕ → Option (List ℕ)
@@ -17,8 +18,8 @@ try_some go done None = Some done
 try_some go done (Some number) = go done number
 
 -- a number more, unless it is there
-abbrev pub noted : List ℕ → ℕ → List ℕ
-noted done number = if has done number then done else done ++ number ∷ []
+abbrev pub visited : List ℕ → ℕ → List ℕ
+visited done number = if has done number then done else done ++ number ∷ []
 
 -- what was done before, then what a service needs, then the service; one that is skipped adds nothing.
 -- None where needs go deeper than so many services
@@ -26,9 +27,9 @@ abbrev pub explore : (ℕ → List ℕ) → (ℕ → Bool) → ℕ → List ℕ 
 explore needs skipped zero done number = if skipped number || has done number then Some done else None
 explore needs skipped (suc depth) done number =
     if skipped number || has done number then Some done
-    else option_and_then (λ before. Some (noted before number)) (try_all (explore needs skipped depth) done (needs number))
+    else option_and_then (λ before. Some (visited before number)) (try_all (explore needs skipped depth) done (needs number))
 
--- whether going to every service comes to no end within that depth
+-- whether going to every service doesn't end within that depth
 abbrev pub is_cyclic : List NeedRow → Bool
 is_cyclic rows = is_none (try_all (explore (needs_of rows) (λ other. false) (length rows)) [] (numbers_of rows))
 

@@ -17,7 +17,7 @@ leaves handles row = row.marked && row.status.state == SERVICE_STOPPED && not
 abbrev pub leaving : Flat → List Service
 leaving f = filter (leaves f.handles) f.services
 
--- they leave, and the manager's registrations are told of each
+-- they leave, and the manager's registrations are notified of each
 abbrev pub purged : Flat → Flat
 purged f = record f {
   services = filter (λ (row : Service). not (leaves f.handles row)) f.services;

@@ -58,6 +58,7 @@ text_of_call (request.Create new) = text_of_new new
 text_of_call (request.Change2 handle asked) = text_of_info asked
 text_of_call (request.OpenManager database access) = some_text database
 text_of_call (request.OpenService handle name access) = 2 * length name
+text_of_call (request.SetSecurity handle parts bytes) = length bytes
 text_of_call (request.Start handle words) = some_words words
 text_of_call (request.DisplayName handle name size) = 2 * length name
 text_of_call (request.KeyName handle name size) = 2 * length name

@@ -21,6 +21,8 @@ pub const ERROR_GEN_FAILURE: u32 = 31;
 
 pub const ERROR_INVALID_PARAMETER: u32 = 87;
 
+pub const ERROR_CALL_NOT_IMPLEMENTED: u32 = 120;
+
 pub const ERROR_INSUFFICIENT_BUFFER: u32 = 122;
 
 pub const ERROR_INVALID_NAME: u32 = 123;
@@ -101,7 +103,7 @@ pub const SERVICE_INACTIVE: u32 = 2;
 
 pub const SERVICE_STATE_ALL: u32 = 3;
 
-// Events of which a registration is told, a bit each (`SERVICE_NOTIFY_..`).
+// Events of which a registration is notified, a bit each (`SERVICE_NOTIFY_..`).
 
 pub const SERVICE_NOTIFY_STOPPED: u32 = 0x1;
 
@@ -302,6 +304,10 @@ pub const R_CONTROL_SERVICE: u16 = 1;
 pub const R_DELETE_SERVICE: u16 = 2;
 
 pub const R_LOCK_SERVICE_DATABASE: u16 = 3;
+
+pub const R_QUERY_SERVICE_OBJECT_SECURITY: u16 = 4;
+
+pub const R_SET_SERVICE_OBJECT_SECURITY: u16 = 5;
 
 pub const R_QUERY_SERVICE_STATUS: u16 = 6;
 

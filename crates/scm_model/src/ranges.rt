@@ -73,6 +73,8 @@ impl Request {
             Request::Change2 { handle: _, info } => info.in_range(),
             Request::QueryLock { handle: _, size } => *size <= MAX_LOCK_STATUS_SIZE,
             Request::Start { handle: _, words } => are_few(words),
+            // No body is read as one of these yet.
+            Request::QuerySecurity { .. } | Request::SetSecurity { .. } => false,
             _ => true,
         }
     }

@@ -136,6 +136,11 @@ fn text_of_call(request: &Request) -> u128
             name,
             size: _,
         } => 2 * name.units().len() as u128,
+        Request::SetSecurity {
+            handle: _,
+            parts: _,
+            bytes,
+        } => bytes.len() as u128,
         Request::Start { handle: _, words } => some_words(words),
         _ => 0,
     }

@@ -10,6 +10,7 @@ use Rattle.scm_model.specs.declared.flat.HandleKind.{HandleKind}
 use Rattle.scm_model.specs.declared.flat.HandleKind.TheVariants as kinds
 use Rattle.scm_model.specs.declared.flat.HandleRow.{HandleRow}
 use Rattle.scm_model.specs.declared.flat.Limits.{Limits}
+use Rattle.scm_model.specs.declared.flat.Order.{Order}
 use Rattle.scm_model.specs.declared.flat.Process.{Process}
 use Rattle.scm_model.specs.declared.flat.Service.{Service}
 use Rattle.scm_model.specs.declared.calls.Reply.TheVariants as reply
@@ -24,7 +25,7 @@ use Rattle.scm_model.specs.Rows.{handle_of, opened, opened_at, opened_by, servic
 use Rattle.start_plan.specs.Settle.{settled}
 use Rattle.scm_rules.specs.Controls.{active_among, control_done, control_told, control_verdict, controlled_if, controls_in, controls_of}
 use Rattle.scm_rules.specs.Controls.{first_control, granted_in, waiting_for, waits, with_control, with_control_taken, control_sent}
-use Rattle.scm_rules.specs.Controls.{controlled_in}
+use Rattle.scm_rules.specs.Controls.{controlled_in, order_to}
 use Rattle.scm_rules.specs.Launches.{process_of}
 use Rattle.scm_rules.specs.Query.{status_in}
 use Rattle.scm_model.specs.Entries.{Entry}
@@ -121,16 +122,17 @@ one_more l f moment caller handle control None v known at e =
     absurd (let none = ap (λ (o : Option Service). is_some o) at in let no : false ≡ true = sym none ∙ some in cc)
 one_more l f moment caller handle control (Some row) v known at e =
     let process = row.process in
+    let order = order_to row.number control in
     let is : IsTaken (granted_in (opened f caller handle)) row.status (waiting_for f (Some row)) l.controls =
     subst (λ (o : Option Service). IsTaken (granted_in (opened f caller handle)) (status_in o) (waiting_for f o) l.controls) at
     (given l f caller handle control e) in
     let runs = running l f row v (held_is f caller handle row at) is.runs in
     record {
       there = runs.there;
-      waits = waiting_settled l (with_control l (with_moment f moment) process control) process
-          ∙ controlled l.controls process control f.processes runs.listed (fewer_wait l.controls (waiting_for f (Some row)) is.few);
-      others = λ number other. waiting_settled l (with_control l (with_moment f moment) process control) number
-          ∙ controlled_others l.controls process control number f.processes other;
+      waits = waiting_settled l (with_control l (with_moment f moment) process order) process
+          ∙ controlled l.controls process order f.processes runs.listed (fewer_wait l.controls (waiting_for f (Some row)) is.few);
+      others = λ number other. waiting_settled l (with_control l (with_moment f moment) process order) number
+          ∙ controlled_others l.controls process order number f.processes other;
     }
 
 -- ## The answer
@@ -158,8 +160,9 @@ needed_still l f caller handle control is =
 as_many : (l : Limits) (control : ℕ) (service : Option Service) (rows : List Process)
     → length (controlled_in l control service rows) ≡ length rows
 as_many l control service rows =
-    found_keeps (λ (more : List Process). length more ≡ length rows) (λ (row : Service). map (controlled_if l.controls row.process control))
-    service rows refl (λ row is. length-map rows (controlled_if l.controls row.process control))
+    found_keeps (λ (more : List Process). length more ≡ length rows)
+    (λ (row : Service). map (controlled_if l.controls row.process (order_to row.number control))) service rows refl
+    (λ row is. length-map rows (controlled_if l.controls row.process (order_to row.number control)))
 
 controlled_call : (l : Limits) (f : Flat) (moment caller handle control : ℕ) (append : Kept) → IsValid l f → Known f
     → IsControlled l f caller handle control (step_of l f moment (Call caller (request.Control handle control) append)).answer
@@ -192,14 +195,14 @@ controlled_call l f moment caller handle control append v known =
 
 -- ## A control that is taken in hand
 
-taken_by : (f g after : Flat) (process : ℕ) (codes : List ℕ) → controls_of f process ≡ codes → waits codes ≡ true
-    → controls_of after process ≡ drop 1 codes → FirstIsTaken f process (finished g (control_sent (first_control codes))).answer after
+taken_by : (f g after : Flat) (process : ℕ) (orders : List Order) → controls_of f process ≡ orders → waits orders ≡ true
+    → controls_of after process ≡ drop 1 orders → FirstIsTaken f process (finished g (control_sent (first_control orders))).answer after
 taken_by f g after process [] e some left = absurd cc
-taken_by f g after process (code ∷ codes) e some left = record {
-  code = code;
+taken_by f g after process (order ∷ orders) e some left = record {
+  order = order;
   answers = refl;
   first = e
-      ∙ ap (λ rest. code ∷ rest) (sym left);
+      ∙ ap (λ rest. order ∷ rest) (sym left);
 }
 
 taken_first : (l : Limits) (f : Flat) (moment process : ℕ) → waits (controls_of f process) ≡ true
@@ -210,16 +213,17 @@ taken_first l f moment process some =
 
 -- ## A raise
 
-stopped_behind : (f g : Flat) (limit process number : ℕ) → IsStopped f g number
-    → IsStopped f (record g { processes = map (controlled_if limit process 1) g.processes }) number
-stopped_behind f g limit process number is =
-    elim (one_behind limit process 1 number g.processes) as (λ _. IsStopped f
-    (record g { processes = map (controlled_if limit process 1) g.processes }) number) [
-      | inl same ↦ record { codes = is.codes; only = is.only; behind = same ∙ is.behind }
+stopped_behind : (f g : Flat) (limit process service number : ℕ) → IsStopped f g number
+    → IsStopped f (record g { processes = map (controlled_if limit process (order_to service 1)) g.processes }) number
+stopped_behind f g limit process service number is =
+    let stop = order_to service 1 in
+    elim (one_behind limit process stop number g.processes) as (λ _. IsStopped f
+    (record g { processes = map (controlled_if limit process stop) g.processes }) number) [
+      | inl same ↦ record { orders = is.orders; only = is.only; behind = same ∙ is.behind }
       | inr more ↦ record {
-        codes = is.codes ++ 1 ∷ [];
-        only = All-push (λ code. code ≡ 1) is.codes 1 is.only refl;
-        behind = more ∙ ap (λ codes. codes ++ 1 ∷ []) is.behind ∙ append_assoc (controls_of f number) is.codes (1 ∷ []);
+        orders = is.orders ++ stop ∷ [];
+        only = All-push (λ (order : Order). order.code ≡ 1) is.orders stop is.only refl;
+        behind = more ∙ ap (λ orders. orders ++ stop ∷ []) is.behind ∙ append_assoc (controls_of f number) is.orders (stop ∷ []);
       }
     ]
 
@@ -227,14 +231,14 @@ stops_raised : (l : Limits) (f : Flat) (moment caller : ℕ) (subtype : List ℕ
     → IsStopped f (step_of l f moment (Raised caller subtype)).flat number
 stops_raised l f moment caller subtype number =
     let is = raised_by (λ (g : Flat). IsStopped f g number) l subtype (record {
-      starts = λ g row there can s. record { codes = s.codes; only = s.only; behind = s.behind };
-      stops = λ g row action there is which gets s. stopped_behind f g l.controls row.process number s;
+      starts = λ g row there can s. record { orders = s.orders; only = s.only; behind = s.behind };
+      stops = λ g row action there is which gets s. stopped_behind f g l.controls row.process row.number number s;
     }) (with_moment f moment) caller (record {
-      codes = [];
-      only = All-nil (λ code. code ≡ 1);
+      orders = [];
+      only = All-nil (λ (order : Order). order.code ≡ 1);
       behind = sym (append-nil (controls_of f number));
     }) in
-    record { codes = is.codes; only = is.only; behind = waiting_after l f moment (Raised caller subtype) number ∙ is.behind }
+    record { orders = is.orders; only = is.only; behind = waiting_after l f moment (Raised caller subtype) number ∙ is.behind }
 
 of_controls : (l : Limits) (f : Flat) (moment : ℕ) (step : Step) → IsValid l f → Known f → IsTrue (may l f moment step)
     → OfControls l f step (step_of l f moment step).answer (step_of l f moment step).flat
@@ -274,7 +278,7 @@ fresh_control l f moment caller handle control number append (Some row) v known 
     elim (is.code == 0) as (λ b. (is.code == 0) ≡ b → controls_of (step_of l f moment
     (Call caller (request.Control handle control) append)).flat number ≡ []) [
       | true ↦ λ e. absurd (let more : OneMoreWaits f (step_of l f moment (Call caller (request.Control handle control) append)).flat
-          row.process control =
+          row.process (order_to row.number control) =
           subst (λ (o : Option Service). OneMoreWaitsFor f (step_of l f moment (Call caller (request.Control handle control) append)).flat o
           control) at (is.taken (eqb-true is.code 0 e)) in
           given_before f number row (holds l f v known) (held_is f caller handle row at) more.there
@@ -282,8 +286,8 @@ fresh_control l f moment caller handle control number append (Some row) v known 
       | false ↦ λ e. is.refused e number ∙ unlisted f.next.process number f.processes v.processes.below up
     ] refl
 
-none_taken : (code : ℕ) (codes left : List ℕ) → codes ≡ [] → codes ≡ code ∷ left → left ≡ []
-none_taken code codes left none some = absurd cc
+none_taken : (order : Order) (orders left : List Order) → orders ≡ [] → orders ≡ order ∷ left → left ≡ []
+none_taken order orders left none some = absurd cc
 
 -- who isn't listed isn't stopped
 unlisted_none : (next number : ℕ) (rows : List Process) → All (λ (row : Process). row.number < next) rows → next ≤ number
@@ -306,8 +310,8 @@ fresh_raised l f moment caller subtype number v up =
     (raised_by (λ (g : Flat). is_some (process_of g number) ≡ false) l subtype (record {
       starts = λ g row there can none. none;
       stops = λ g row action there is which gets none.
-          found_mapped (λ (r : Process). r.number) (controlled_if l.controls row.process 1) number
-          (controlled_number l.controls row.process 1) g.processes ∙ none;
+          found_mapped (λ (r : Process). r.number) (controlled_if l.controls row.process (order_to row.number 1)) number
+          (controlled_number l.controls row.process (order_to row.number 1)) g.processes ∙ none;
     }) (with_moment f moment) caller (unlisted_none f.next.process number f.processes v.processes.below up))
 
 fresh_changed : (l : Limits) (f : Flat) (moment : ℕ) (step : Step) (number : ℕ) → IsValid l f → Known f → IsTrue (may l f moment step)
@@ -319,7 +323,8 @@ fresh_changed l f moment (ControlTaken process) number v known ok changed up =
     let first = taken_first l f moment process (and_parts _ _ ok).0 in
     let is = eqb-true process number changed in
     subst (λ n. controls_of (step_of l f moment (ControlTaken process)).flat n ≡ []) is
-    (none_taken first.code (controls_of f process) _ (unlisted f.next.process process f.processes v.processes.below (omega (arith, is, up)))
+    (none_taken first.order (controls_of f process) _ (unlisted f.next.process process f.processes v.processes.below
+    (omega (arith, is, up)))
     first.first)
 fresh_changed l f moment (LaunchFailed process code) number v known ok changed up =
     ended_none l f moment (LaunchFailed process code) number changed

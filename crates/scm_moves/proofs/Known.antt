@@ -22,7 +22,7 @@ use Rattle.scm_model.specs.declared.steps.Answer.TheVariants as answer
 use Rattle.scm_model.specs.declared.steps.Kept.{Kept}
 use Rattle.scm_model.specs.declared.steps.Step.{Step}
 use Rattle.scm_model.specs.declared.steps.Step.TheVariants.{Call, LaunchFailed, Report, Ended, Gone, Tick, Raised}
-use Rattle.scm_model.specs.Changes.{configured_if, marked_if, with_moment, with_config}
+use Rattle.scm_model.specs.Changes.{configured_if, marked_if, with_moment, reconfigured}
 use Rattle.scm_model.specs.Purge.{leaves}
 use Rattle.scm_model.specs.Rows.{is_of_service, named, held_service}
 use Rattle.start_plan.specs.Decided.{code_of}
@@ -219,7 +219,7 @@ own_later next rows own = record {
 
 -- ## Calls
 
-holds_change : (f : Flat) (number : ℕ) (config : Config) → Holds f → Holds (with_config f number config)
+holds_change : (f : Flat) (number : ℕ) (config : Config) → Holds f → Holds (reconfigured f number config)
 holds_change f number config h = record {
   own = own_mapped f.next.process (configured_if number config) f.services (configures_plainly number config) h.own;
   opened = opened_mapped (configured_if number config) f.services f.handles (number_kept number config) h.opened;
@@ -339,7 +339,7 @@ holds_effect l f moment (Ended process) below h =
       opened = opened_mapped (fallen_if process 1067) f.services f.handles (fallen_number process 1067) h.opened;
     }) in
     record { own = ended.own; opened = ended.opened }
-holds_effect l f moment (Report process report) below h =
+holds_effect l f moment (Report process service report) below h =
     holds_failing (failed_by report (current_of (with_moment f moment) process)) _ (record {
       own = own_mapped f.next.process (reported_if process report) f.services (reports_plainly process report) h.own;
       opened = opened_mapped (reported_if process report) f.services f.handles (reported_number process report) h.opened;

@@ -22,10 +22,10 @@ use Rattle.scm_rules.specs.Reports.{moved_by, reported_if, set_status_verdict}
 use Rattle.scm_rules.specs.Steps.{at_moment, effect_of, may}
 use Rattle.scm_rules.specs.Valid.{IsValid}
 use Rattle.scm_rules.specs.Verdicts.{call_of, done_of, told_refused, verdict}
-use Rattle.scm_runs.specs.Leaving.{reports, is_process_of}
+use Rattle.scm_runs.specs.Leaving.{is_report, is_process_of}
 use Rattle.scm_runs.proofs.Calls.{by_verdict, set_status_runs}
 use Rattle.scm_runs.proofs.Lists.{found_has, found_passes, alone}
-use Rattle.scm_moves.specs.Moves.{MovesItself, code_of_end, report_in}
+use Rattle.scm_moves.specs.Moves.{MovesItself, code_of_end, reported_status}
 use Rattle.std.proofs.lemmas.Bool.{and_parts}
 use Rattle.scm_runs.proofs.Configured.{number_kept}
 use Rattle.scm_model.proofs.Found.{found_keeps}
@@ -106,8 +106,8 @@ own_fallen f step process code rising first by =
 
 -- ## Reports
 
-moved_own : (f : Flat) (step : Step) (report : Status) (row : Service) → 1 ≤ row.process → reports f step row ≡ true
-    → report_in step ≡ Some report → MovesItself f step row (moved_by row (take_report row.status report)).status
+moved_own : (f : Flat) (step : Step) (report : Status) (row : Service) → 1 ≤ row.process → is_report f step row ≡ true
+    → reported_status step ≡ Some report → MovesItself f step row (moved_by row (take_report row.status report)).status
 moved_own f step report row first by is =
     elim (takes row.status report) as (λ b. takes row.status report ≡ b
     → MovesItself f step row (moved_by row (cond b (Ok report) (Err 13))).status) [
@@ -116,7 +116,7 @@ moved_own f step report row first by is =
     ] refl
 
 reported_own : (f : Flat) (step : Step) (process : ℕ) (report : Status) (row : Service) → 1 ≤ process
-    → ((row.process == process) ≡ true → reports f step row ≡ true) → report_in step ≡ Some report
+    → ((row.process == process) ≡ true → is_report f step row ≡ true) → reported_status step ≡ Some report
     → MovesItself f step row (reported_if process report row).status
 reported_own f step process report row first by is =
     elim (row.process == process) as (λ b. (row.process == process) ≡ b
@@ -135,7 +135,7 @@ reported_number process report row =
     [ true ↦ moved_number row (take_report row.status report) | false ↦ refl ]
 
 own_reported : (f : Flat) (step : Step) (process : ℕ) (report : Status) → AreRising f.services → 1 ≤ process
-    → ((row : Service) → (row.process == process) ≡ true → reports f step row ≡ true) → report_in step ≡ Some report
+    → ((row : Service) → (row.process == process) ≡ true → is_report f step row ≡ true) → reported_status step ≡ Some report
     → All (HasOwn f step) (map (reported_if process report) f.services)
 own_reported f step process report rising first by is =
     own_mapped f step (reported_if process report) rising (reported_number process report)
@@ -233,10 +233,11 @@ own_effect l f moment (Ended process) v ok =
     (with_fallen (with_moment f moment) process 1067)
     (own_fallen f _ process 1067 v.services.rising (running_first l f process (process_of f process) v refl (and_parts _ _ ok).0)
     (ends_with process 1067))
-own_effect l f moment (Report process report) v ok =
-    failing_rows (HasOwn f (Report process report)) (λ row failures last own. own)
+own_effect l f moment (Report process service report) v ok =
+    failing_rows (HasOwn f (Report process service report)) (λ row failures last own. own)
     (failed_by report (current_of (with_moment f moment) process)) _
-    (own_reported f _ process report v.services.rising (running_first l f process (process_of f process) v refl (and_parts _ _ ok).0)
+    (own_reported f _ process report v.services.rising
+    (running_first l f process (process_of f process) v refl (and_parts _ _ (and_parts _ _ ok).0).1)
     (λ row h. h) refl)
 own_effect l f moment Tick v ok = ticked_apart (λ (g : Flat). All (HasOwn f Tick) g.services) l (with_moment f moment)
     (own_same f Tick v.services.rising)

@@ -5,6 +5,7 @@ use Rattle.std.specs.Prelude.{All, AllPairs, is_some, max}
 use Rattle.std.proofs.lemmas.List.Elements.{All-cons, All-head, All-nil, All-tail, All-weaker}
 use Rattle.scm_model.specs.declared.flat.Flat.{Flat}
 use Rattle.scm_model.specs.declared.flat.Limits.{Limits}
+use Rattle.scm_model.specs.declared.flat.Order.{Order}
 use Rattle.scm_model.specs.declared.flat.Process.{Process}
 use Rattle.scm_model.specs.declared.flat.Service.{Service}
 use Rattle.scm_model.specs.declared.flat.Status.{Status}
@@ -207,19 +208,19 @@ launch_off : (found : Option ℕ) → tells_off (launch_told found) ≡ false
 launch_off None = refl
 launch_off (Some process) = refl
 
-control_off : (found : Option ℕ) → tells_off (control_sent found) ≡ false
+control_off : (found : Option Order) → tells_off (control_sent found) ≡ false
 control_off None = refl
-control_off (Some code) = refl
+control_off (Some order) = refl
 
 -- whether a step is a report or an end
 abbrev pub tells_of_process : Step → Bool
-tells_of_process (Report process status) = true
+tells_of_process (Report process service status) = true
 tells_of_process (Ended process) = true
 tells_of_process step = false
 
 effect_off : (l : Limits) (f : Flat) (step : Step) → tells_of_process step ≡ false → tells_off (effect_of l f step).answer ≡ false
 effect_off l f (Call caller asked append) e = call_off (tells_plan asked (verdict l f caller asked append)) f.next.plan _
-effect_off l f (Report process status) e = absurd cc
+effect_off l f (Report process service status) e = absurd cc
 effect_off l f (Ended process) e = absurd cc
 effect_off l f LaunchTaken e = launch_off (first_wanted f.wanted)
 effect_off l f (ControlTaken process) e = control_off (first_control (controls_of f process))
@@ -243,16 +244,16 @@ end_off code g (Some row) told = cc
 
 pub stale : (l : Limits) (f : Flat) (moment : ℕ) (step : Step) → IsValid l f → (step_of l f moment step).answer ≡ answer.Stale
     → (step_of l f moment step).flat.services ≡ f.services
-stale l f moment (Report process report) v told = stale_report l f moment process report (current_of f process) v refl told
+stale l f moment (Report process service report) v told = stale_report l f moment process report (current_of f process) v refl told
 stale l f moment (Ended process) v told = stale_end l f moment process (current_of f process) v refl told
 stale l f moment step v told = absurd (not_off _ (ap tells_off told) (step_off l f moment step refl))
 
 pub refused : (l : Limits) (f : Flat) (moment : ℕ) (step : Step) (code : ℕ) → IsValid l f → Known f → IsTrue (may l f moment step)
     → (step_of l f moment step).answer ≡ answer.Refused code
     → (code ≡ 13) × ((step_of l f moment step).flat.services ≡ f.services)
-refused l f moment (Report process report) code v known ok told =
+refused l f moment (Report process service report) code v known ok told =
     refused_report l f moment process report (current_of f process) code v known
-    (running_first l f process (process_of f process) v refl (and_parts _ _ ok).0) refl told
+    (running_first l f process (process_of f process) v refl (and_parts _ _ (and_parts _ _ ok).0).1) refl told
 refused l f moment (Ended process) code v known ok told = absurd (end_off code _ (current_of f process) told)
 refused l f moment step code v known ok told = absurd (not_off _ (ap tells_off told) (step_off l f moment step refl))
 

@@ -12,7 +12,7 @@ use Rattle.scm_model.specs.declared.flat.Service.{Service}
 use Rattle.scm_model.specs.declared.flat.Wanted.{Wanted}
 use Rattle.scm_model.specs.Purge.{purged}
 use Rattle.scm_model.specs.Rows.{service_of}
-use Rattle.start_plan.specs.Moves.{cause_at, entering_at, has, is_full, is_pending, move_by}
+use Rattle.start_plan.specs.Moves.{cause_at, entering_at, is_full, is_pending, move_by}
 use Rattle.scm_model.specs.Ready.{is_ready, state_in}
 use Rattle.start_plan.specs.Settle.{settled, tidied}
 use Rattle.start_plan.specs.declared.settling.Move.{Move}
@@ -20,6 +20,7 @@ use Rattle.start_plan.specs.declared.settling.Move.TheVariants as moves
 use Rattle.scm_rules.specs.Valid.{IsValid}
 use Rattle.scm_runs.proofs.Rests.{Rests, settled_rest, RestsAt, all_still}
 use Rattle.scm_model.specs.declared.flat.Registration.{Registration}
+use Rattle.scm_text.specs.Numbers.{has}
 
 -- the state with other processes, other wanted launches and other registrations, at another moment
 abbrev pub with_others : Flat → List Process → List Wanted → List Registration → ℕ → Flat

@@ -36,8 +36,9 @@ of_end g (Some row) = (λ told. absurd cc, λ none. absurd cc)
 
 told_stale : (l : Limits) (f : Flat) (moment : ℕ) (step : Step) → ((step_of l f moment step).answer ≡ answer.Stale) ↔
     (is_stale f step ≡ true)
-told_stale l f moment (Report process report) = of_report (settled l (effect_of l (at_moment f moment (Report process report))
-    (Report process report)).flat) report (current_of f process)
+told_stale l f moment (Report process service report) = of_report (settled l
+    (effect_of l (at_moment f moment (Report process service report))
+    (Report process service report)).flat) report (current_of f process)
 told_stale l f moment (Ended process) = of_end (settled l (effect_of l (at_moment f moment (Ended process)) (Ended process)).flat)
     (current_of f process)
 told_stale l f moment step = (λ told. absurd (not_off _ (ap tells_off told) (step_off l f moment step refl)), λ is. absurd cc)

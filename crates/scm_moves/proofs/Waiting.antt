@@ -7,6 +7,7 @@ use Rattle.std.proofs.lemmas.List.Elements.{All-contains, All-weaker}
 use Rattle.scm_model.specs.declared.flat.Flat.{Flat}
 use Rattle.scm_model.specs.declared.flat.Limits.{Limits}
 use Rattle.scm_model.specs.declared.flat.Phase.TheVariants as phases
+use Rattle.scm_model.specs.declared.flat.Order.{Order}
 use Rattle.scm_model.specs.declared.flat.Process.{Process}
 use Rattle.scm_model.specs.declared.calls.Request.{Request}
 use Rattle.scm_model.specs.declared.calls.Request.TheVariants as request
@@ -22,7 +23,7 @@ use Rattle.start_plan.specs.Entered.{wanted_process}
 use Rattle.start_plan.specs.Settle.{settled}
 use Rattle.start_plan.proofs.Enterings.{all_units}
 use Rattle.start_plan.proofs.Keeps.{Keeps, keeps_all}
-use Rattle.scm_rules.specs.Controls.{controlled_if, controls_in, controls_of, dequeued_if}
+use Rattle.scm_rules.specs.Controls.{controlled_if, controls_in, controls_of, dequeued_if, order_to}
 use Rattle.scm_rules.specs.Launches.{current_of, first_wanted, launched_if, taken_if, without_process}
 use Rattle.scm_rules.specs.Steps.{at_moment, effect_of, finished, left_by, step_of}
 use Rattle.scm_rules.specs.Verdicts.{call_of, done_of, told_refused, verdict}
@@ -46,7 +47,7 @@ found number rows = find (λ (row : Process). row.number == number) rows
 -- ## Rows that change
 
 -- a change of each row that makes these controls of those of one
-controls_mapped : (g : Process → Process) (h : List ℕ → List ℕ) (number : ℕ) (rows : List Process)
+controls_mapped : (g : Process → Process) (h : List Order → List Order) (number : ℕ) (rows : List Process)
     → ((row : Process) → (g row).number ≡ row.number)
     → ((row : Process) → (row.number == number) ≡ true → (g row).controls ≡ h row.controls) → h [] ≡ []
     → controls_in (found number (map g rows)) ≡ h (controls_in (found number rows))
@@ -61,7 +62,7 @@ controls_mapped g h number (row ∷ rows) same makes none =
 
 taken_same : (of number : ℕ) (rows : List Process) → controls_in (found number (map (taken_if of) rows)) ≡ controls_in (found number rows)
 taken_same of number rows =
-    controls_mapped (taken_if of) (λ codes. codes) number rows
+    controls_mapped (taken_if of) (λ orders. orders) number rows
     (λ row. elim (row.number == of) as (λ b. (cond b (record row { phase = phases.Taken }) row).number ≡ row.number) [
       | true ↦ refl
       | false ↦ refl
@@ -74,7 +75,7 @@ taken_same of number rows =
 launched_same : (of pid number : ℕ) (rows : List Process) → controls_in (found number (map (launched_if of pid) rows)) ≡ controls_in
     (found number rows)
 launched_same of pid number rows =
-    controls_mapped (launched_if of pid) (λ codes. codes) number rows
+    controls_mapped (launched_if of pid) (λ orders. orders) number rows
     (λ row. elim (row.number == of) as (λ b. (cond b (record row { phase = phases.Launched; pid = pid }) row).number ≡ row.number)
     [ true ↦ refl | false ↦ refl ])
     (λ row e. elim (row.number == of) as (λ b. (cond b (record row { phase = phases.Launched; pid = pid }) row).controls ≡ row.controls)
@@ -86,7 +87,7 @@ relieved_number of row = elim (row.number == of) as (λ b. (cond b (record row {
 
 pub relieved : (process : ℕ) (rows : List Process) → controls_in (found process (map (dequeued_if process) rows)) ≡ drop 1
     (controls_in (found process rows))
-relieved process rows = controls_mapped (dequeued_if process) (λ codes. drop 1 codes) process rows (relieved_number process)
+relieved process rows = controls_mapped (dequeued_if process) (λ orders. drop 1 orders) process rows (relieved_number process)
     (λ row e. rw e refl) refl
 
 -- who has one number hasn't another
@@ -101,59 +102,59 @@ other_number of number n other e = subst (λ m. (m == of) ≡ false) (sym (eqb-t
 relieved_others : (process number : ℕ) (rows : List Process) → (process == number) ≡ false
     → controls_in (found number (map (dequeued_if process) rows)) ≡ controls_in (found number rows)
 relieved_others process number rows other =
-    controls_mapped (dequeued_if process) (λ codes. codes) number rows (relieved_number process)
+    controls_mapped (dequeued_if process) (λ orders. orders) number rows (relieved_number process)
     (λ row e. rw (other_number process number row.number other e) refl) refl
 
-pub controlled_number : (limit process code : ℕ) (row : Process) → (controlled_if limit process code row).number ≡ row.number
-controlled_number limit process code row =
+pub controlled_number : (limit process : ℕ) (order : Order) (row : Process) → (controlled_if limit process order row).number ≡ row.number
+controlled_number limit process order row =
     elim (row.number == process && nat_lt (length row.controls) limit) as (λ b.
-    (cond b (record row { controls = row.controls ++ code ∷ [] }) row).number ≡ row.number) [ true ↦ refl | false ↦ refl ]
+    (cond b (record row { controls = row.controls ++ order ∷ [] }) row).number ≡ row.number) [ true ↦ refl | false ↦ refl ]
 
-pub controlled_others : (limit process code number : ℕ) (rows : List Process) → (process == number) ≡ false
-    → controls_in (found number (map (controlled_if limit process code) rows)) ≡ controls_in (found number rows)
-controlled_others limit process code number rows other =
-    controls_mapped (controlled_if limit process code) (λ codes. codes) number rows (controlled_number limit process code)
+pub controlled_others : (limit process : ℕ) (order : Order) (number : ℕ) (rows : List Process) → (process == number) ≡ false
+    → controls_in (found number (map (controlled_if limit process order) rows)) ≡ controls_in (found number rows)
+controlled_others limit process order number rows other =
+    controls_mapped (controlled_if limit process order) (λ orders. orders) number rows (controlled_number limit process order)
     (λ row e. rw (other_number process number row.number other e) refl) refl
 
 -- a process for which fewer controls wait than may gets one more
-pub controlled : (limit process code : ℕ) (rows : List Process) → is_some (found process rows) ≡ true
+pub controlled : (limit process : ℕ) (order : Order) (rows : List Process) → is_some (found process rows) ≡ true
     → nat_lt (length (controls_in (found process rows))) limit ≡ true
-    → controls_in (found process (map (controlled_if limit process code) rows)) ≡ controls_in (found process rows) ++ code ∷ []
-controlled limit process code [] there few = absurd cc
-controlled limit process code (row ∷ rows) there few =
-    ap (λ n. controls_in (cond (n == process) (Some (controlled_if limit process code row))
-    (found process (map (controlled_if limit process code) rows)))) (controlled_number limit process code row)
+    → controls_in (found process (map (controlled_if limit process order) rows)) ≡ controls_in (found process rows) ++ order ∷ []
+controlled limit process order [] there few = absurd cc
+controlled limit process order (row ∷ rows) there few =
+    ap (λ n. controls_in (cond (n == process) (Some (controlled_if limit process order row))
+    (found process (map (controlled_if limit process order) rows)))) (controlled_number limit process order row)
     ∙ elim (row.number == process) as (λ b. is_some (cond b (Some row) (found process rows)) ≡ true
     → nat_lt (length (controls_in (cond b (Some row) (found process rows)))) limit ≡ true
-    → controls_in (cond b (Some (cond (b && nat_lt (length row.controls) limit) (record row { controls = row.controls ++ code ∷ [] }) row))
-    (found process (map (controlled_if limit process code) rows)))
-    ≡ controls_in (cond b (Some row) (found process rows)) ++ code ∷ []) [
+    → controls_in (cond b (Some (cond (b && nat_lt (length row.controls) limit) (record row { controls = row.controls ++ order ∷ [] }) row))
+    (found process (map (controlled_if limit process order) rows)))
+    ≡ controls_in (cond b (Some row) (found process rows)) ++ order ∷ []) [
       | true ↦ λ t h. rw h refl
-      | false ↦ λ t h. controlled limit process code rows t h
+      | false ↦ λ t h. controlled limit process order rows t h
     ] there few
 
 -- one control more, or none
-pub one_behind : (limit process code number : ℕ) (rows : List Process)
-    → (controls_in (found number (map (controlled_if limit process code) rows)) ≡ controls_in (found number rows))
-    ⊎ (controls_in (found number (map (controlled_if limit process code) rows)) ≡ controls_in (found number rows) ++ code ∷ [])
-one_behind limit process code number [] = inl refl
-one_behind limit process code number (row ∷ rows) =
-    subst (λ n. (controls_in (cond (n == number) (Some (controlled_if limit process code row))
-    (found number (map (controlled_if limit process code) rows))) ≡ controls_in (found number (row ∷ rows)))
-    ⊎ (controls_in (cond (n == number) (Some (controlled_if limit process code row))
-    (found number (map (controlled_if limit process code) rows))) ≡ controls_in (found number (row ∷ rows)) ++ code ∷ []))
-    (sym (controlled_number limit process code row))
-    (elim (row.number == number) as (λ b. (controls_in (cond b (Some (controlled_if limit process code row))
-    (found number (map (controlled_if limit process code) rows))) ≡ controls_in (cond b (Some row) (found number rows)))
-    ⊎ (controls_in (cond b (Some (controlled_if limit process code row)) (found number (map (controlled_if limit process code) rows))) ≡
-    controls_in (cond b (Some row) (found number rows)) ++ code ∷ [])) [
+pub one_behind : (limit process : ℕ) (order : Order) (number : ℕ) (rows : List Process)
+    → (controls_in (found number (map (controlled_if limit process order) rows)) ≡ controls_in (found number rows))
+    ⊎ (controls_in (found number (map (controlled_if limit process order) rows)) ≡ controls_in (found number rows) ++ order ∷ [])
+one_behind limit process order number [] = inl refl
+one_behind limit process order number (row ∷ rows) =
+    subst (λ n. (controls_in (cond (n == number) (Some (controlled_if limit process order row))
+    (found number (map (controlled_if limit process order) rows))) ≡ controls_in (found number (row ∷ rows)))
+    ⊎ (controls_in (cond (n == number) (Some (controlled_if limit process order row))
+    (found number (map (controlled_if limit process order) rows))) ≡ controls_in (found number (row ∷ rows)) ++ order ∷ []))
+    (sym (controlled_number limit process order row))
+    (elim (row.number == number) as (λ b. (controls_in (cond b (Some (controlled_if limit process order row))
+    (found number (map (controlled_if limit process order) rows))) ≡ controls_in (cond b (Some row) (found number rows)))
+    ⊎ (controls_in (cond b (Some (controlled_if limit process order row)) (found number (map (controlled_if limit process order) rows))) ≡
+    controls_in (cond b (Some row) (found number rows)) ++ order ∷ [])) [
       | true ↦ elim (row.number == process && nat_lt (length row.controls) limit) as (λ b.
-          ((cond b (record row { controls = row.controls ++ code ∷ [] }) row).controls ≡ row.controls)
-          ⊎ ((cond b (record row { controls = row.controls ++ code ∷ [] }) row).controls ≡ row.controls ++ code ∷ [])) [
+          ((cond b (record row { controls = row.controls ++ order ∷ [] }) row).controls ≡ row.controls)
+          ⊎ ((cond b (record row { controls = row.controls ++ order ∷ [] }) row).controls ≡ row.controls ++ order ∷ [])) [
             | true ↦ inr refl
             | false ↦ inl refl
           ]
-      | false ↦ one_behind limit process code number rows
+      | false ↦ one_behind limit process order number rows
     ])
 
 -- ## Processes that leave
@@ -188,9 +189,9 @@ waiting_done : (l : Limits) (f : Flat) (caller : ℕ) (asked : Request) (append 
     → changes_controls f (Call caller asked append) number ≡ false → controls_of
     (done_of l f caller asked).flat number ≡ controls_of f number
 waiting_done l f caller (request.Control handle control) append number other =
-    found_keeps (WaitsSo number f.processes) (λ (row : Service). map (controlled_if l.controls row.process control))
+    found_keeps (WaitsSo number f.processes) (λ (row : Service). map (controlled_if l.controls row.process (order_to row.number control)))
     (held_service f caller handle) f.processes refl
-    (λ row is. controlled_others l.controls row.process control number f.processes
+    (λ row is. controlled_others l.controls row.process (order_to row.number control) number f.processes
     (other_process row.process number (ap (λ one. is_process_of one number) (sym is) ∙ other)))
 waiting_done l f caller (request.OpenService handle name access) append number other =
     opened_keeps (λ (g : Flat). controls_of g number ≡ controls_of f number) f caller name access refl (λ row is. refl)
@@ -268,7 +269,7 @@ waiting_raised l f caller subtype number other =
             let other : (row.process == number) ≡ false = All-contains (λ (r : Service). is_stopped_at subtype r ≡ true
             → (r.process == number) ≡ false) f.services row spared
             (subst (λ (rows : List Service). Contains rows row) w.services there) stopped in
-            controlled_others l.controls row.process 1 number g.processes other ∙ w.same);
+            controlled_others l.controls row.process (order_to row.number 1) number g.processes other ∙ w.same);
       };
     }) f caller (record { services = refl; same = refl })).same
 
@@ -281,7 +282,7 @@ waiting_effect l f moment LaunchTaken number other =
 waiting_effect l f moment (Launched process pid) number other = launched_same process pid number f.processes
 waiting_effect l f moment (LaunchFailed process code) number other = left_others process number f.processes
     (some_not (process == number) code other)
-waiting_effect l f moment (Report process status) number other =
+waiting_effect l f moment (Report process service status) number other =
     failing_apart (λ (g : Flat). controls_of g number ≡ controls_of f number)
     (failed_by status (current_of (with_moment f moment) process)) _ refl
 waiting_effect l f moment (Ended process) number other =

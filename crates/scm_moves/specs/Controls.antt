@@ -4,6 +4,7 @@ use Rattle.std.specs.Prelude.{is_some, if◌then◌else◌}
 use Rattle.std.specs.List.{list_any}
 use Rattle.scm_model.specs.declared.flat.Flat.{Flat}
 use Rattle.scm_model.specs.declared.flat.Limits.{Limits}
+use Rattle.scm_model.specs.declared.flat.Order.{Order}
 use Rattle.scm_model.specs.declared.flat.Service.{Service}
 use Rattle.scm_model.specs.declared.flat.Status.{Status}
 use Rattle.scm_model.specs.declared.calls.Reply.TheVariants as reply
@@ -15,9 +16,9 @@ use Rattle.scm_model.specs.declared.steps.Step.TheVariants.{Call, ControlTaken, 
 use Rattle.scm_model.specs.Refused.{zero_status}
 use Rattle.scm_model.specs.Rows.{held_service, opened}
 use Rattle.control_dispatch.specs.Judging.{judge}
-use Rattle.dependency_index.specs.Naming.{is_named}
+use Rattle.dependency_index.specs.Naming.{is_for}
 use Rattle.start_triggers.specs.Triggers.{matching}
-use Rattle.scm_rules.specs.Controls.{control_verdict, controls_of, granted_in}
+use Rattle.scm_rules.specs.Controls.{control_verdict, controls_of, granted_in, order_to}
 use Rattle.scm_rules.specs.Query.{status_in}
 use Rattle.scm_runs.specs.Leaving.{is_process_of}
 use Rattle.scm_model.specs.Entries.{Entry}
@@ -26,9 +27,9 @@ use Rattle.scm_model.specs.declared.codes.TheConstants.{ERROR_SERVICE_CANNOT_ACC
 use Rattle.scm_model.specs.declared.codes.TheConstants.{SERVICE_STOPPED, SERVICE_TRIGGER_ACTION_SERVICE_START}
 use Rattle.scm_moves.specs.Moves.{code_of_end}
 
--- ## What a Control is told
+-- ## What a Control returns
 
--- the status is told where the service gets the control, doesn't accept it (1052), can't get it now (1061) or is STOPPED (1062), and else
+-- the status is returned if the service gets the control, doesn't accept it (1052), can't get it now (1061) or is STOPPED (1062), and else
 -- zeros
 abbrev pub shows : ℕ → Bool
 shows code = code == 0 || code == ERROR_INVALID_SERVICE_CONTROL || code == ERROR_SERVICE_CANNOT_ACCEPT_CTRL
@@ -41,7 +42,7 @@ status_shown code service = if shows code then status_in service else zero_statu
 
 -- whether a service names one of this name as a need, and isn't STOPPED
 abbrev pub is_active_with : List ℕ → Service → Bool
-is_active_with name row = list_any (is_named name) row.config.needs && not (row.status.state == SERVICE_STOPPED)
+is_active_with name row = list_any (is_for name) row.config.needs && not (row.status.state == SERVICE_STOPPED)
 
 -- whether a service that isn't STOPPED names this one as a need
 abbrev pub is_needed_by_active : Flat → Option Service → Bool
@@ -60,21 +61,21 @@ pub record IsNeededStill (f : Flat) (caller handle control : ℕ) : Type 0 where
 abbrev pub AllWaitAsBefore : Flat → Flat → Type 0
 AllWaitAsBefore before after = (number : ℕ) → controls_of after number ≡ controls_of before number
 
--- one control more waits for a process, behind those that waited, and for every other process what waited before
-pub record OneMoreWaits (before after : Flat) (process control : ℕ) : Type 0 where
+-- one order more waits for a process, after those that waited, and for every other process what waited before
+pub record OneMoreWaits (before after : Flat) (process : ℕ) (order : Order) : Type 0 where
   pub there : 1 ≤ process
-  pub waits : controls_of after process ≡ controls_of before process ++ control ∷ []
+  pub waits : controls_of after process ≡ controls_of before process ++ order ∷ []
   pub others : (number : ℕ) → (process == number) ≡ false → controls_of after number ≡ controls_of before number
 
--- the same of the process of a service that was found
+-- a control more for a service that was found waits for its process
 abbrev pub OneMoreWaitsFor : Flat → Flat → Option Service → ℕ → Type 0
 OneMoreWaitsFor before after None control = ⊥
-OneMoreWaitsFor before after (Some row) control = OneMoreWaits before after row.process control
+OneMoreWaitsFor before after (Some row) control = OneMoreWaits before after row.process (order_to row.number control)
 
--- ## A Control, a raise, and a control that is taken in hand
+-- ## A Control, a raise, and a control that is taken
 
--- a Control is told its verdict in the state before, whatever the moment, and moves no service; where the verdict is 0 the control comes to
--- wait for the service's process, and else nothing does; a STOP is refused with 1051 where the service is needed still, and only there
+-- a Control returns its verdict in the state before, whatever the moment, and moves no service; if the verdict is 0 the control then waits
+-- for the service's process, and else nothing more does; a STOP is refused with 1051 exactly if the service is still needed
 pub record IsControlled (l : Limits) (before : Flat) (caller handle control : ℕ) (told : Answer) (after : Flat) : Type 0 where
   pub code : ℕ
   pub verdict : code ≡ control_verdict l before caller handle control
@@ -84,17 +85,17 @@ pub record IsControlled (l : Limits) (before : Flat) (caller handle control : �
   pub services : after.services ≡ before.services
   pub needed : (code ≡ ERROR_DEPENDENT_SERVICES_RUNNING) ↔ IsNeededStill before caller handle control
 
--- the control that waited first is told, and waits no more
+-- the answer is the order that waited first, which no longer waits
 pub record FirstIsTaken (before : Flat) (process : ℕ) (told : Answer) (after : Flat) : Type 0 where
-  pub code : ℕ
-  pub answers : told ≡ answer.Control code
-  pub first : controls_of before process ≡ code ∷ controls_of after process
+  pub order : Order
+  pub answers : told ≡ answer.Control order
+  pub first : controls_of before process ≡ order ∷ controls_of after process
 
--- STOPs alone come to wait for this process, behind what waited
+-- only STOPs are added for this process, after what waited
 pub record IsStopped (before after : Flat) (number : ℕ) : Type 0 where
-  pub codes : List ℕ
-  pub only : All (λ code. code ≡ SERVICE_CONTROL_STOP) codes
-  pub behind : controls_of after number ≡ controls_of before number ++ codes
+  pub orders : List Order
+  pub only : All (λ (order : Order). order.code ≡ SERVICE_CONTROL_STOP) orders
+  pub behind : controls_of after number ≡ controls_of before number ++ orders
 
 abbrev pub OfControls : Limits → Flat → Step → Answer → Flat → Type 0
 OfControls l before (Call caller (request.Control handle control) append) told after =
@@ -126,9 +127,8 @@ changes_controls f (Raised caller subtype) number = list_any (λ (row : Service)
     && is_stopped_at subtype row) f.services
 changes_controls f step number = ends_process step number
 
--- a Control puts a control behind those that wait, a raise STOPs, and they are taken from the front; a process that ends has none, nor has
--- one that is new,
--- and no other step changes what waits
+-- a Control puts a control after those that wait, a raise STOPs, and they are taken from the front; a process that ends has none, nor has
+-- one that is new, and no other step changes what waits
 pub record LawOfControls (l : Limits) (before : Flat) (e : Entry) (told : Answer) (after : Flat) : Type 0 where
   pub controls : OfControls l before e.1 told after
   pub ended : (number : ℕ) → ends_process e.1 number ≡ true → controls_of after number ≡ []

@@ -14,13 +14,13 @@ use Rattle.start_plan.specs.Entered.{starting}
 use Rattle.status_machine.specs.Moves.{take_end, takes}
 use Rattle.scm_model.specs.Entries.{Entry}
 use Rattle.scm_model.specs.declared.codes.TheConstants.{ERROR_INVALID_DATA, ERROR_PROCESS_ABORTED, SERVICE_STOPPED}
-use Rattle.scm_runs.specs.Leaving.{reports}
+use Rattle.scm_runs.specs.Leaving.{is_report}
 
 -- the status that a step reports
-abbrev pub report_in : Step → Option Status
-report_in (Report process status) = Some status
-report_in (Call caller (request.SetStatus handle status) append) = Some status
-report_in step = None
+abbrev pub reported_status : Step → Option Status
+reported_status (Report process service status) = Some status
+reported_status (Call caller (request.SetStatus handle status) append) = Some status
+reported_status step = None
 
 -- the code that is left of a service whose current process this is, where a step ends it: 1067 where it ended without a word, and that of
 -- a launch that failed
@@ -38,8 +38,8 @@ IsAsBefore old between = between ≡ record old { kind = between.kind }
 -- the service's current process reports it so, and may
 pub record IsReported (before : Flat) (step : Step) (old : Service) (between : Status) : Type 0 where
   pub process : 1 ≤ old.process
-  pub by : reports before step old ≡ true
-  pub report : report_in step ≡ Some between
+  pub by : is_report before step old ≡ true
+  pub report : reported_status step ≡ Some between
   pub taken : takes old.status between ≡ true
 
 -- the service's current process ends, and it is STOPPED
@@ -49,7 +49,7 @@ pub record IsFallen (step : Step) (old : Service) (between : Status) : Type 0 wh
   pub by : code_of_end step old.process ≡ Some code
   pub fallen : between ≡ take_end old.status code
 
--- how a service comes to stand by what its process does
+-- the status that a service has by what its process does
 abbrev pub MovesItself : Flat → Step → Service → Status → Type 0
 MovesItself before step old between = IsAsBefore old.status between ⊎ (IsReported before step old between ⊎ IsFallen step old between)
 

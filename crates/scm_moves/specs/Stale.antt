@@ -10,11 +10,11 @@ use Rattle.scm_rules.specs.Reports.{current_of}
 
 -- whether a step is a report or an end of a process that is no service's current one
 abbrev pub is_stale : Flat → Step → Bool
-is_stale f (Report process status) = is_none (current_of f process)
+is_stale f (Report process service status) = is_none (current_of f process)
 is_stale f (Ended process) = is_none (current_of f process)
 is_stale f step = false
 
--- such a step is told that it is stale, and no other is; it changes no service
+-- the answer to such a step, and to no other, is that it is stale; it changes no service
 pub record LawOfStale (before : Flat) (e : Entry) (told : Answer) (after : Flat) : Type 0 where
   pub stale : (told ≡ answer.Stale) ↔ (is_stale before e.1 ≡ true)
   pub services : is_stale before e.1 ≡ true → after.services ≡ before.services

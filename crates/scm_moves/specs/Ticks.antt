@@ -8,11 +8,11 @@ use Rattle.scm_model.specs.declared.steps.Step.TheVariants.{Tick}
 use Rattle.scm_model.specs.Entries.{Entry}
 use Rattle.scm_rules.specs.Due.{is_due}
 
--- behind a tick nothing is due at this moment
+-- after a tick nothing is due at this moment
 abbrev pub IsTicked : ℕ → Step → Flat → Type 0
 IsTicked moment Tick after = list_any (is_due moment) after.dues ≡ false
 IsTicked moment step after = Unit {0}
 
--- behind a tick nothing is due up to its moment, or up to that which the state before had come to
+-- after a tick nothing is due up to its moment, or up to that which the state before had reached
 abbrev pub LawOfTicks : Flat → Entry → Answer → Flat → Type 0
 LawOfTicks before e told after = IsTicked (max before.moment e.0) e.1 after

@@ -13,10 +13,10 @@ use scm_text::Items;
 
 /// The law of moves: in each step a service's status stays as it is but for its type, or its
 /// current process reports another one that the table allows from there, or that process ends and
-/// the service is STOPPED; then it may be entered where it is STOPPED, by a process that none had
-/// before. A report or an end is told that it is stale exactly where its process is no service's
-/// current one, and then it changes no service; a report that is refused changes none: a process's
-/// own with 13, one by a call with any code.
+/// the service is STOPPED; then it may be entered if it is STOPPED, by a process that none had
+/// before. The answer to a report or an end is that it is stale exactly if its process is no
+/// service's current one, and then it changes no service; a report that is refused changes none: a
+/// process's own with 13, one by a call with any code.
 pub fn law_of_moves(limits: &Limits, steps: &Items<(u64, Step)>, opening: &Flat)
     requires begins { IsOpening limits.now opening.now }
     requires legal { IsLegal limits.now opening.now steps.now }
@@ -24,21 +24,21 @@ pub fn law_of_moves(limits: &Limits, steps: &Items<(u64, Step)>, opening: &Flat)
     ensures stale { EachStep LawOfStale limits.now opening.now steps.now }
 {}
 
-/// The law of controls: a Control is told its verdict on the state before, whatever the moment, and
-/// changes no service. At code 0 the control waits behind those that waited for the service's
-/// process, and at any other nothing more waits. A STOP gets 1051 exactly where no earlier code
-/// applies and a service that isn't STOPPED names this one as a need. A raise puts STOPs alone
-/// behind what waits, for the services that have such a trigger. What waits is taken from the
-/// front; a process that ends has none, nor has one that is new, and no other step changes what
-/// waits for a process.
+/// The law of controls: a Control returns its verdict on the state before, whatever the moment, and
+/// changes no service. At code 0 the control waits after those that waited for the service's
+/// process, and at any other nothing more waits. A STOP gets 1051 exactly if no earlier code
+/// applies and a service that isn't STOPPED names this one as a need. A raise puts only STOPs after
+/// what waits, for the services that have such a trigger. What waits is taken from the front; a
+/// process that ends has none, nor has one that is new, and no other step changes what waits for a
+/// process.
 pub fn law_of_controls(limits: &Limits, steps: &Items<(u64, Step)>, opening: &Flat)
     requires begins { IsOpening limits.now opening.now }
     requires legal { IsLegal limits.now opening.now steps.now }
     ensures { EachStep (LawOfControls limits.now) limits.now opening.now steps.now }
 {}
 
-/// The law of ticks: behind a tick nothing is due up to its moment, or up to the moment that the
-/// state had come to before. It takes neither an opening nor a legal history.
+/// The law of ticks: after a tick nothing is due up to its moment, or up to the moment that the
+/// state had reached before. It takes neither an opening nor a legal history.
 pub fn law_of_ticks(limits: &Limits, steps: &Items<(u64, Step)>, opening: &Flat)
     ensures { EachStep LawOfTicks limits.now opening.now steps.now }
 {}

@@ -10,7 +10,7 @@ use Rattle.scm_model.specs.declared.flat.Flat.{Flat}
 use Rattle.scm_model.specs.declared.flat.Process.{Process}
 use Rattle.scm_model.specs.declared.flat.Registration.{Registration}
 use Rattle.scm_model.specs.declared.flat.Service.{Service}
-use Rattle.scm_history.specs.Once.{has_number, has_service}
+use Rattle.scm_history.specs.Once.{is_in_rows, has_service}
 use Rattle.scm_notices.specs.Events.{Notifies, events_between, events_of_change, events_of_manager, events_of_service, has_moved}
 use Rattle.scm_notices.specs.Events.{notified_between, notified_first, was_marked}
 use Rattle.scm_notices.proofs.Firsts.{maps_nothing, maps_same, other_service, takes_none}
@@ -30,10 +30,10 @@ find_changed change same n (row ∷ rows) =
     [ true ↦ refl | false ↦ find_changed change same n rows ]
 
 pub has_changed : (change : Service → Service) → ((row : Service) → (change row).number ≡ row.number) → (n : ℕ) (rows : List Service)
-    → has_number number_of n (map change rows) ≡ has_number number_of n rows
+    → is_in_rows number_of n (map change rows) ≡ is_in_rows number_of n rows
 has_changed change same n [] = refl
 has_changed change same n (row ∷ rows) =
-    ap (λ m. m == n || has_number number_of n (map change rows)) (same row)
+    ap (λ m. m == n || is_in_rows number_of n (map change rows)) (same row)
     ∙ ap (λ b. row.number == n || b) (has_changed change same n rows)
 
 -- ## Nobody comes, and nobody leaves
@@ -44,14 +44,14 @@ filter_none test (row ∷ rows) none =
     rw (All-head (λ (r : Service). test r ≡ false) row rows none)
     (filter_none test rows (All-tail (λ (r : Service). test r ≡ false) row rows none))
 
-pub any_own : (rows : List Service) → All (λ (row : Service). has_number number_of row.number rows ≡ true) rows
-any_own [] = All-nil (λ (row : Service). has_number number_of row.number [] ≡ true)
+pub any_own : (rows : List Service) → All (λ (row : Service). is_in_rows number_of row.number rows ≡ true) rows
+any_own [] = All-nil (λ (row : Service). is_in_rows number_of row.number [] ≡ true)
 any_own (first ∷ rows) =
-    All-cons (λ (row : Service). has_number number_of row.number (first ∷ rows) ≡ true) first rows
-    (ap (λ b. b || has_number number_of first.number rows) (eq-eqb first.number first.number refl))
-    (All-weaker (λ (row : Service). has_number number_of row.number rows ≡ true)
-    (λ (row : Service). has_number number_of row.number (first ∷ rows) ≡ true)
-    (λ row there. or_right (first.number == row.number) (has_number number_of row.number rows) there) rows (any_own rows))
+    All-cons (λ (row : Service). is_in_rows number_of row.number (first ∷ rows) ≡ true) first rows
+    (ap (λ b. b || is_in_rows number_of first.number rows) (eq-eqb first.number first.number refl))
+    (All-weaker (λ (row : Service). is_in_rows number_of row.number rows ≡ true)
+    (λ (row : Service). is_in_rows number_of row.number (first ∷ rows) ≡ true)
+    (λ row there. or_right (first.number == row.number) (is_in_rows number_of row.number rows) there) rows (any_own rows))
 
 pub all_there : (f : Flat) (rows : List Service) → All (λ (row : Service). has_service row.number f ≡ true) rows
     → filter (λ (row : Service). not (has_service row.number f)) rows ≡ []
@@ -74,7 +74,7 @@ changed_same f g change same is = record {
       (All-map (λ (row : Service). has_service row.number f ≡ true) change f.services
       (λ k d lt. ap (λ n. has_service n f) (same (get_or f.services k d)) ∙ any_own f.services k d lt));
   left = All-weaker (λ (row : Service). has_service row.number f ≡ true) (λ (row : Service). has_service row.number g ≡ true)
-      (λ row there. ap (has_number number_of row.number) is ∙ has_changed change same row.number f.services ∙ there) f.services
+      (λ row there. ap (is_in_rows number_of row.number) is ∙ has_changed change same row.number f.services ∙ there) f.services
       (any_own f.services);
 }
 

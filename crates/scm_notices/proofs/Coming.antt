@@ -12,7 +12,7 @@ use Rattle.scm_model.specs.Rows.{service_of}
 use Rattle.scm_model.specs.declared.flat.Flat.{Flat}
 use Rattle.scm_model.specs.declared.flat.Registration.{Registration}
 use Rattle.scm_model.specs.declared.flat.Service.{Service}
-use Rattle.scm_history.specs.Once.{has_number, has_service}
+use Rattle.scm_history.specs.Once.{is_in_rows, has_service}
 use Rattle.scm_notices.specs.Events.{Notifies, event_of_arrival, events_between, events_of_manager, events_of_service, notified_between}
 use Rattle.scm_notices.specs.Events.{notified_first}
 use Rattle.scm_notices.proofs.Firsts.{each_notified, maps_same, one_by_one}
@@ -45,7 +45,7 @@ notified_of_arrival f g new services fresh rows =
   where
     still : All (λ (row : Service). has_service row.number g ≡ true) f.services
     still = All-weaker (λ (row : Service). has_service row.number f ≡ true) (λ (row : Service). has_service row.number g ≡ true)
-        (λ row there. ap (has_number number_of row.number) services
+        (λ row there. ap (is_in_rows number_of row.number) services
         ∙ list_any-append (λ (r : Service). r.number == row.number) f.services (new ∷ [])
         ∙ ap (λ b. b || list_any (λ (r : Service). r.number == row.number) (new ∷ [])) there) f.services (any_own f.services)
 
@@ -83,15 +83,15 @@ filter_alike p q (row ∷ rows) each =
     ∙ ap (λ rest. cond (q row) (row ∷ rest) rest) (filter_alike p q rows (All-tail (λ (r : Service). p r ≡ q r) row rows each))
 
 has_kept : (p : Service → Bool) (rows : List Service)
-    → All (λ (row : Service). p row ≡ true → has_number number_of row.number (filter p rows) ≡ true) rows
-has_kept p [] = All-nil (λ (row : Service). p row ≡ true → has_number number_of row.number [] ≡ true)
+    → All (λ (row : Service). p row ≡ true → is_in_rows number_of row.number (filter p rows) ≡ true) rows
+has_kept p [] = All-nil (λ (row : Service). p row ≡ true → is_in_rows number_of row.number [] ≡ true)
 has_kept p (first ∷ rows) =
-    All-cons (λ (row : Service). p row ≡ true → has_number number_of row.number (filter p (first ∷ rows)) ≡ true) first rows
+    All-cons (λ (row : Service). p row ≡ true → is_in_rows number_of row.number (filter p (first ∷ rows)) ≡ true) first rows
     (λ e. rw e (rw (eq-eqb first.number first.number refl) refl))
-    (All-weaker (λ (row : Service). p row ≡ true → has_number number_of row.number (filter p rows) ≡ true)
-    (λ (row : Service). p row ≡ true → has_number number_of row.number (filter p (first ∷ rows)) ≡ true)
-    (λ row there passes. elim (p first) as (λ b. has_number number_of row.number (cond b (first ∷ filter p rows) (filter p rows)) ≡ true) [
-      | true ↦ or_right (first.number == row.number) (has_number number_of row.number (filter p rows)) (there passes)
+    (All-weaker (λ (row : Service). p row ≡ true → is_in_rows number_of row.number (filter p rows) ≡ true)
+    (λ (row : Service). p row ≡ true → is_in_rows number_of row.number (filter p (first ∷ rows)) ≡ true)
+    (λ row there passes. elim (p first) as (λ b. is_in_rows number_of row.number (cond b (first ∷ filter p rows) (filter p rows)) ≡ true) [
+      | true ↦ or_right (first.number == row.number) (is_in_rows number_of row.number (filter p rows)) (there passes)
       | false ↦ there passes
     ]) rows (has_kept p rows))
 
@@ -100,12 +100,12 @@ AreRising rows = AllPairs (λ (a b : Service). a.number < b.number) rows
 
 -- where numbers rise, who fails a test has gone with its number
 gone_or_kept : (test : Service → Bool) (rows : List Service) → AreRising rows
-    → All (λ (row : Service). has_number number_of row.number (filter (λ (r : Service). not (test r)) rows) ≡ not (test row)) rows
+    → All (λ (row : Service). is_in_rows number_of row.number (filter (λ (r : Service). not (test r)) rows) ≡ not (test row)) rows
 gone_or_kept test rows rising k d lt =
     let row = get_or rows k d in
     let stays = λ (r : Service). not (test r) in
     let only = alone number_of rows rising k d lt in
-    elim (test row) as (λ b. test row ≡ b → has_number number_of row.number (filter stays rows) ≡ not b) [
+    elim (test row) as (λ b. test row ≡ b → is_in_rows number_of row.number (filter stays rows) ≡ not b) [
       | true ↦ λ e. list_any_none (λ (r : Service). r.number == row.number) (filter stays rows)
           (λ j c low. let other = get_or (filter stays rows) j c in
           ne_eqb other.number row.number (λ same. absurd (

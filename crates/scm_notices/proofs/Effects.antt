@@ -418,10 +418,11 @@ of_effect l f moment (LaunchFailed process code) s known ok quiet =
     let after = launch_failed (with_moment f moment) process code in
     of_fall f process code false (current_of f process) after after.processes after.wanted s known
     (taken_first f process (process_of f process) s refl (and_parts _ _ (and_parts _ _ ok).0).0) refl refl refl
-of_effect l f moment (Report process report) s known ok quiet =
+of_effect l f moment (Report process service report) s known ok quiet =
     of_report (with_moment f moment) process report (current_of f process) (moved f moment s)
     (record { apart = known.apart; opened = known.opened })
-    (running_first f.next.process process f.processes (process_of f process) s.processes.numbered refl (and_parts _ _ ok).0) refl
+    (running_first f.next.process process f.processes (process_of f process) s.processes.numbered refl
+    (and_parts _ _ (and_parts _ _ ok).0).1) refl
 of_effect l f moment (Ended process) s known ok quiet =
     let after = (process_ended (with_moment f moment) process).flat in
     of_fall f process 1067 true (current_of f process)

@@ -2,7 +2,7 @@
 use Rattle.std.proofs.Common.{ℕ, ◌≡◌, ◌∙◌, ◌==◌, not, false, get_or, ap, sym, refl, subst, eq-eqb}
 use Rattle.std.specs.Prelude.{All}
 use Rattle.std.proofs.lemmas.List.Elements.{All-filter, All-map, All-nil}
-use Rattle.scm_model.specs.Notices.{Event, notified, taken_if}
+use Rattle.scm_model.specs.Notices.{Event, notified, taken_once}
 use Rattle.scm_model.specs.declared.flat.Flat.{Flat}
 use Rattle.scm_model.specs.declared.flat.Limits.{Limits}
 use Rattle.scm_model.specs.declared.flat.Registration.{Registration}
@@ -31,7 +31,7 @@ told_in_order event row proper o =
       spent = λ spent. absurd (let unspent = is.unspent in cc);
     })) o
 
-taken_in_order : (number : ℕ) (row : Registration) → IsInOrder row → IsInOrder (taken_if number row)
+taken_in_order : (number : ℕ) (row : Registration) → IsInOrder row → IsInOrder (taken_once number row)
 taken_in_order number row o = taken_or IsInOrder number row
     (λ e. record { told = λ some. absurd cc; untold = λ none. (refl, refl); spent = λ spent. refl }) o
 
@@ -45,7 +45,7 @@ stand f step s was = record {
   comes = λ caller handle mask append of e is. all_put IsInOrder (watching_row f caller handle mask of) f.registrations was
       (made_keeps IsInOrder f caller handle mask of s
       (record { told = λ some. absurd cc; untold = λ none. (refl, refl); spent = λ spent. absurd cc }) told_in_order);
-  taken = λ caller handle number append e is. All-map IsInOrder (taken_if number) f.registrations
+  taken = λ caller handle number append e is. All-map IsInOrder (taken_once number) f.registrations
       (λ k d lt. taken_in_order number (get_or f.registrations k d) (was k d lt));
   closed = λ caller handle number append e is. All-filter
       (λ (row : Registration). not (row.number == number)) IsInOrder f.registrations was;

@@ -9,7 +9,7 @@ use Rattle.std.proofs.lemmas.List.Elements.{All-contains_itself, All-filter, All
 use Rattle.std.proofs.lemmas.List.Folds.{list_any-append}
 use Rattle.scm_model.specs.Changes.{with_handle, with_moment}
 use Rattle.scm_model.specs.Entries.{Entry}
-use Rattle.scm_model.specs.Notices.{Event, event_of_state, new_registration, noted, notified, pid_of, put_in, taken_if, takes_event}
+use Rattle.scm_model.specs.Notices.{Event, event_of_state, new_registration, noted, notified, pid_of, put_in, taken_once, takes_event}
 use Rattle.scm_model.specs.Rows.{handle_of, held_service, opened_at, opened_by, service_of}
 use Rattle.scm_model.specs.declared.calls.Request.{Request}
 use Rattle.scm_model.specs.declared.calls.Request.TheVariants as request
@@ -40,11 +40,11 @@ use Rattle.scm_runs.proofs.Registered.{all_put, taken_or}
 use Rattle.scm_runs.proofs.Sound.{Sound}
 use Rattle.scm_runs.proofs.Told.{notified_or}
 use Rattle.scm_moves.proofs.Whole.{Whole}
-use Rattle.scm_history.specs.Once.{has_number, has_registration}
+use Rattle.scm_history.specs.Once.{is_in_rows, has_registration}
 use Rattle.scm_history.proofs.Registrations.{Stands, made_number, of_step, watching_row}
 use Rattle.scm_notices.specs.Events.{Notifies, NotifiesEach, changes_registrations, events_between, events_of_step, is_about_registrations}
 use Rattle.scm_notices.specs.Events.{notified_between, notified_first}
-use Rattle.scm_notices.specs.Notices.{HasComeFrom, IsFrom, IsMade, LawOfNotices, asked_by, closes, event_at_once, events_at_once}
+use Rattle.scm_notices.specs.Notices.{HasComeFrom, IsFrom, IsMade, LawOfNotices, asked_row, unregisters, event_at_once, events_at_once}
 use Rattle.scm_notices.specs.Notices.{taken_from, takes_result}
 use Rattle.scm_notices.proofs.Between.{no_events, unmoved}
 use Rattle.scm_notices.proofs.Events.{takes}
@@ -113,7 +113,7 @@ all_more_told f step answer events later rows all =
 -- ## What the effect leaves
 
 -- a step that neither takes what it was told nor closes it
-as_it_was : (events : ℕ → List Event) (f : Flat) (step : Step) (old new : Registration) → closes f step old ≡ false
+as_it_was : (events : ℕ → List Event) (f : Flat) (step : Step) (old new : Registration) → unregisters f step old ≡ false
     → takes_result f step old ≡ false → new ≡ notified_first (events old.service) old
     → IsFrom events f step old new
 as_it_was events f step old new stays quiet told = record
@@ -125,13 +125,13 @@ stayed events f step answer old new there is = inl (record { old = old; stood = 
 
 -- no call asks anything of registrations
 quiet_call : (f : Flat) (caller : ℕ) (asked : Request) (append : Kept) (row : Registration) → is_about_registrations asked ≡ false
-    → (closes f (Call caller asked append) row ≡ false) × (takes_result f (Call caller asked append) row ≡ false)
+    → (unregisters f (Call caller asked append) row ≡ false) × (takes_result f (Call caller asked append) row ≡ false)
 quiet_call f caller (request.GetNotify handle) append row quiet = absurd cc
 quiet_call f caller (request.CloseNotify handle) append row quiet = absurd cc
 quiet_call f caller asked append row quiet = (refl, refl)
 
 quiet_step : (f : Flat) (step : Step) (row : Registration) → changes_registrations step ≡ false
-    → (closes f step row ≡ false) × (takes_result f step row ≡ false)
+    → (unregisters f step row ≡ false) × (takes_result f step row ≡ false)
 quiet_step f (Call caller asked append) row quiet = quiet_call f caller asked append row quiet
 quiet_step f (Gone caller) row quiet = absurd cc
 quiet_step f step row quiet = (refl, refl)
@@ -153,7 +153,7 @@ none n = []
 
 -- rows as they were
 all_were : (f : Flat) (step : Step) (answer : Answer)
-    → ((row : Registration) → (closes f step row ≡ false) × (takes_result f step row ≡ false))
+    → ((row : Registration) → (unregisters f step row ≡ false) × (takes_result f step row ≡ false))
     → All (HasComeFrom none f step answer) f.registrations
 all_were f step answer tests k d lt =
     let row = get_or f.registrations k d in
@@ -162,7 +162,7 @@ all_were f step answer tests k d lt =
 
 -- those that pass a test
 some_were : (f : Flat) (step : Step) (answer : Answer) (p : Registration → Bool)
-    → ((row : Registration) → p row ≡ true → (closes f step row ≡ false) × (takes_result f step row ≡ false))
+    → ((row : Registration) → p row ≡ true → (unregisters f step row ≡ false) × (takes_result f step row ≡ false))
     → All (HasComeFrom none f step answer) (filter p f.registrations)
 some_were f step answer p tests k d lt =
     let row = get_or (filter p f.registrations) k d in
@@ -225,7 +225,7 @@ made f caller handle mask append of s is =
 
 -- a GetNotify takes what its registration was told
 got : (f : Flat) (caller handle number : ℕ) (append : Kept) (row : Registration) → notify_of f caller handle ≡ Some number
-    → IsFrom none f (Call caller (request.GetNotify handle) append) row (taken_if number row)
+    → IsFrom none f (Call caller (request.GetNotify handle) append) row (taken_once number row)
 got f caller handle number append row is =
     let its : (is_it row.number (notify_of f caller handle) && not (row.fired == 0)) ≡
     (row.number == number && not (row.fired == 0)) = ap (λ (o : Option ℕ). is_it row.number o && not (row.fired == 0)) is in
@@ -272,10 +272,10 @@ call_stood l f moment caller (request.GetNotify handle) append s about =
     by_verdict (λ d. All (HasComeFrom none f step (answers.Reply d.reply)) d.flat.registrations) code
     (told_refused g caller (request.GetNotify handle) code) g
     (done_of l g caller (request.GetNotify handle))
-    (λ e. by_number (λ n. All (HasComeFrom none f step given) (map (taken_if n) f.registrations)) (notify_of f caller handle) e
-    (λ number is. All-map (HasComeFrom none f step given) (taken_if number) f.registrations
+    (λ e. by_number (λ n. All (HasComeFrom none f step given) (map (taken_once n) f.registrations)) (notify_of f caller handle) e
+    (λ number is. All-map (HasComeFrom none f step given) (taken_once number) f.registrations
     (λ k d lt. (let row = get_or f.registrations k d in
-    stayed none f step given row (taken_if number row) (All-contains_itself f.registrations k d lt)
+    stayed none f step given row (taken_once number row) (All-contains_itself f.registrations k d lt)
     (got f caller handle number append row is)))))
     (λ e. all_were f step refusal (λ row. (
       refl,
@@ -369,23 +369,23 @@ abbrev number_of : Registration → ℕ
 number_of row = row.number
 
 has_mapped : (change : Registration → Registration) → ((row : Registration) → (change row).number ≡ row.number)
-    → (number : ℕ) (rows : List Registration) → has_number number_of number (map change rows) ≡ has_number number_of number rows
+    → (number : ℕ) (rows : List Registration) → is_in_rows number_of number (map change rows) ≡ is_in_rows number_of number rows
 has_mapped change same number [] = refl
 has_mapped change same number (row ∷ rows) =
-    ap (λ n. (n == number) || has_number number_of number (map change rows)) (same row)
+    ap (λ n. (n == number) || is_in_rows number_of number (map change rows)) (same row)
     ∙ ap (λ b. (row.number == number) || b) (has_mapped change same number rows)
 
 -- who passes is among those that pass
 has_filtered : (p : Registration → Bool) (rows : List Registration)
-    → All (λ (row : Registration). p row ≡ true → has_number number_of row.number (filter p rows) ≡ true) rows
-has_filtered p [] = All-nil (λ (row : Registration). p row ≡ true → has_number number_of row.number [] ≡ true)
+    → All (λ (row : Registration). p row ≡ true → is_in_rows number_of row.number (filter p rows) ≡ true) rows
+has_filtered p [] = All-nil (λ (row : Registration). p row ≡ true → is_in_rows number_of row.number [] ≡ true)
 has_filtered p (first ∷ rows) =
-    All-cons (λ (row : Registration). p row ≡ true → has_number number_of row.number (filter p (first ∷ rows)) ≡ true) first rows
+    All-cons (λ (row : Registration). p row ≡ true → is_in_rows number_of row.number (filter p (first ∷ rows)) ≡ true) first rows
     (λ e. rw e (rw (eq-eqb first.number first.number refl) refl))
-    (All-weaker (λ (row : Registration). p row ≡ true → has_number number_of row.number (filter p rows) ≡ true)
-    (λ (row : Registration). p row ≡ true → has_number number_of row.number (filter p (first ∷ rows)) ≡ true)
+    (All-weaker (λ (row : Registration). p row ≡ true → is_in_rows number_of row.number (filter p rows) ≡ true)
+    (λ (row : Registration). p row ≡ true → is_in_rows number_of row.number (filter p (first ∷ rows)) ≡ true)
     (λ row there e. elim (p first) as
-    (λ b. has_number number_of row.number (cond b (first ∷ filter p rows) (filter p rows)) ≡ true)
+    (λ b. is_in_rows number_of row.number (cond b (first ∷ filter p rows) (filter p rows)) ≡ true)
     [ true ↦ or_right (first.number == row.number) _ (there e) | false ↦ there e ]) rows (has_filtered p rows))
 
 by_test : (t rest both : Bool) → (t || rest) ≡ true → (rest ≡ true → both ≡ true) → (t ≡ true) ⊎ (both ≡ true)
@@ -435,8 +435,8 @@ between true new b e = refl
 between false new true e = or_right new true refl
 between false new false e = absurd cc
 
-pub put_has : (number : ℕ) (new : Registration) (rows : List Registration) → has_number number_of number rows ≡ true
-    → has_number number_of number (put_in new rows) ≡ true
+pub put_has : (number : ℕ) (new : Registration) (rows : List Registration) → is_in_rows number_of number rows ≡ true
+    → is_in_rows number_of number (put_in new rows) ≡ true
 put_has number new rows e =
     let test = λ (row : Registration). row.number == number in
     let before = λ (row : Registration). nat_le row.service new.service in
@@ -446,30 +446,30 @@ put_has number new rows e =
     (has_parts test before behind (λ row. one_or_other row.service new.service) rows e)
 
 abbrev StaysThere : Flat → Step → List Registration → Type 0
-StaysThere f step rows = All (λ (row : Registration). closes f step row ≡ false → has_number number_of row.number rows ≡ true)
+StaysThere f step rows = All (λ (row : Registration). unregisters f step row ≡ false → is_in_rows number_of row.number rows ≡ true)
     f.registrations
 
 -- whoever was there
 there_still : (f : Flat) (step : Step) (rows : List Registration)
-    → ((number : ℕ) → has_number number_of number f.registrations ≡ true → has_number number_of number rows ≡ true) → StaysThere f step rows
+    → ((number : ℕ) → is_in_rows number_of number f.registrations ≡ true → is_in_rows number_of number rows ≡ true) → StaysThere f step rows
 there_still f step rows keeps =
-    All-weaker (λ (row : Registration). has_number number_of row.number f.registrations ≡ true)
-    (λ (row : Registration). closes f step row ≡ false → has_number number_of row.number rows ≡ true)
+    All-weaker (λ (row : Registration). is_in_rows number_of row.number f.registrations ≡ true)
+    (λ (row : Registration). unregisters f step row ≡ false → is_in_rows number_of row.number rows ≡ true)
     (λ row there stays. keeps row.number there) f.registrations (has_own number_of f.registrations)
 
 -- whoever passes
-passing_still : (f : Flat) (step : Step) (p : Registration → Bool) → ((row : Registration) → closes f step row ≡ false → p row ≡ true)
+passing_still : (f : Flat) (step : Step) (p : Registration → Bool) → ((row : Registration) → unregisters f step row ≡ false → p row ≡ true)
     → StaysThere f step (filter p f.registrations)
 passing_still f step p passes =
-    All-weaker (λ (row : Registration). p row ≡ true → has_number number_of row.number (filter p f.registrations) ≡ true)
-    (λ (row : Registration). closes f step row ≡ false → has_number number_of row.number (filter p f.registrations) ≡ true)
+    All-weaker (λ (row : Registration). p row ≡ true → is_in_rows number_of row.number (filter p f.registrations) ≡ true)
+    (λ (row : Registration). unregisters f step row ≡ false → is_in_rows number_of row.number (filter p f.registrations) ≡ true)
     (λ row there stays. there (passes row stays)) f.registrations (has_filtered p f.registrations)
 
 they_stay : (f : Flat) (step : Step) → Stands (StaysThere f step) f step
 they_stay f step = record {
   tells = λ event rows proper all.
-      All-weaker (λ (row : Registration). closes f step row ≡ false → has_number number_of row.number rows ≡ true)
-      (λ (row : Registration). closes f step row ≡ false → has_number number_of row.number (noted event rows) ≡ true)
+      All-weaker (λ (row : Registration). unregisters f step row ≡ false → is_in_rows number_of row.number rows ≡ true)
+      (λ (row : Registration). unregisters f step row ≡ false → is_in_rows number_of row.number (noted event rows) ≡ true)
       (λ row there stays. has_mapped (notified event)
       (λ one. notified_or (λ new. new.number ≡ one.number) event one (λ e. refl) refl) row.number rows ∙ there stays) f.registrations
       all;
@@ -477,17 +477,17 @@ they_stay f step = record {
   comes = λ caller handle mask append of e is. there_still f step _
       (λ number there. put_has number (watching_row f caller handle mask of) f.registrations there);
   taken = λ caller handle number append e is. there_still f step _
-      (λ n there. has_mapped (taken_if number)
+      (λ n there. has_mapped (taken_once number)
       (λ one. taken_or (λ new. new.number ≡ one.number) number one (λ e. refl) refl) n f.registrations ∙ there);
   closed = λ caller handle number append e is. passing_still f step (λ (row : Registration). not (row.number == number))
-      (λ row stays. ap not (sym (ap (is_it row.number) is) ∙ subst (λ (st : Step). closes f st row ≡ false) e stays));
+      (λ row stays. ap not (sym (ap (is_it row.number) is) ∙ subst (λ (st : Step). unregisters f st row ≡ false) e stays));
   gone = λ caller e. passing_still f step (λ (row : Registration). not (row.caller == caller))
-      (λ row stays. ap not (subst (λ (st : Step). closes f st row ≡ false) e stays));
+      (λ row stays. ap not (subst (λ (st : Step). unregisters f st row ≡ false) e stays));
 }
 
 -- ## Who comes
 
-has_new : (new : Registration) (rows : List Registration) → has_number number_of new.number (put_in new rows) ≡ true
+has_new : (new : Registration) (rows : List Registration) → is_in_rows number_of new.number (put_in new rows) ≡ true
 has_new new rows =
     let test = λ (row : Registration). row.number == new.number in
     let before = filter (λ (row : Registration). nat_le row.service new.service) rows in
@@ -497,21 +497,21 @@ has_new new rows =
     (ap (λ b. b || list_any test behind) (eq-eqb new.number new.number refl))
 
 asked_there : (l : Limits) (f : Flat) (caller handle mask : ℕ) (append : Kept) (asked : Registration)
-    → asked_by f (Call caller (request.Notify handle mask) append) ≡ Some asked
+    → asked_row f (Call caller (request.Notify handle mask) append) ≡ Some asked
     → has_zero (call_of l f caller (request.Notify handle mask) append).reply ≡ true
-    → has_number number_of asked.number (call_of l f caller (request.Notify handle mask) append).flat.registrations ≡ true
+    → is_in_rows number_of asked.number (call_of l f caller (request.Notify handle mask) append).flat.registrations ≡ true
 asked_there l f caller handle mask append asked by =
     let code = verdict l f caller (request.Notify handle mask) append in
-    by_verdict (λ d. has_zero d.reply ≡ true → has_number number_of asked.number d.flat.registrations ≡ true) code
+    by_verdict (λ d. has_zero d.reply ≡ true → is_in_rows number_of asked.number d.flat.registrations ≡ true) code
     (told_refused f caller (request.Notify handle mask) code) f
     (done_of l f caller (request.Notify handle mask))
     (λ e zero. at (watched f caller handle) refl)
     (λ e zero. absurd (unmet (code == 0) zero e))
   where
     at : (found : Option Opened) → watched f caller handle ≡ found
-        → has_number number_of asked.number (notify_done f caller handle mask).flat.registrations ≡ true
+        → is_in_rows number_of asked.number (notify_done f caller handle mask).flat.registrations ≡ true
     at None is = absurd (
-        let nothing : asked_by f (Call caller (request.Notify handle mask) append) ≡ None = ap
+        let nothing : asked_row f (Call caller (request.Notify handle mask) append) ≡ None = ap
         (option_map (λ (one : Opened). new_registration f.next.registration caller one.service mask)) is in
         cc)
     at (Some of) is =
@@ -520,24 +520,24 @@ asked_there l f caller handle mask append asked by =
         (sym (ap (option_map (λ (one : Opened). new_registration f.next.registration caller one.service mask)) is) ∙ by) in
         let number : (watching_row f caller handle mask of).number ≡ asked.number = made_number f caller handle mask of
         ∙ ap (λ (r : Registration). r.number) same in
-        ap (λ (found : Option Opened). has_number number_of asked.number
+        ap (λ (found : Option Opened). is_in_rows number_of asked.number
         (with_handle (registered f caller handle mask found) caller (kinds.Notify f.next.registration) 0).registrations) is
-        ∙ subst (λ n. has_number number_of n (put_in (watching_row f caller handle mask of) f.registrations) ≡ true) number
+        ∙ subst (λ n. is_in_rows number_of n (put_in (watching_row f caller handle mask of) f.registrations) ≡ true) number
         (has_new (watching_row f caller handle mask of) f.registrations)
 
 -- notifying changes no number
 still_numbered : (later : ℕ → List Event) (number : ℕ) (rows : List Registration)
-    → has_number number_of number (map (stage later) rows) ≡ has_number number_of number rows
+    → is_in_rows number_of number (map (stage later) rows) ≡ is_in_rows number_of number rows
 still_numbered later number rows = has_mapped (stage later) (λ row. same_number (later row.service) row) number rows
 
 comes : (l : Limits) (f : Flat) (moment : ℕ) (step : Step) → NotifiesEach f step (stages_of l f moment step) → (asked : Registration)
-    → asked_by f step ≡ Some asked
+    → asked_row f step ≡ Some asked
     → succeeds (step_of l f moment step).answer ≡ true → has_registration asked.number (step_of l f moment step).flat ≡ true
 comes l f moment (Call caller (request.Notify handle mask) append) each asked by told =
     let st = stages_of l f moment (Call caller (request.Notify handle mask) append) in
-    ap (has_number number_of asked.number) each.purged
+    ap (is_in_rows number_of asked.number) each.purged
     ∙ still_numbered (events_between st.settled st.purged) asked.number st.settled.registrations
-    ∙ ap (has_number number_of asked.number) each.settled
+    ∙ ap (is_in_rows number_of asked.number) each.settled
     ∙ still_numbered (events_between st.effect st.settled) asked.number st.effect.registrations
     ∙ asked_there l (with_moment f moment) caller handle mask append asked by told
 comes l f moment (Call caller other append) each asked by told = absurd cc

@@ -1,4 +1,4 @@
--- What registrations are told, and what becomes of them.
+-- What registrations are notified of, and what becomes of them.
 use Rattle.std.specs.Prelude.{◌≡◌, ◌⊎◌, ◌==◌, ◌&&◌, ◌||◌, ◌++◌, not, ℕ, Bool, true, false, List, [], ◌∷◌, Option, None, Some, All, Contains}
 use Rattle.std.specs.Prelude.{bit_and, option_map}
 use Rattle.scm_history.specs.Once.{has_registration}
@@ -33,7 +33,7 @@ pub record IsToldRightly (row : Registration) : Type 0 where
   pub asked : (bit_and row.mask row.fired == 0) ≡ false
   pub whose : is_managers row.fired ≡ (row.service == 0)
 
--- what it was told it was told rightly; without that it has neither a status nor a name; and once that was taken it is told nothing
+-- what it was notified of is right; without that it has neither a status nor a name; and once that was taken it is notified of nothing
 pub record IsInOrder (row : Registration) : Type 0 where
   pub told : (row.fired == 0) ≡ false → IsToldRightly row
   pub untold : row.fired ≡ 0 → (row.status ≡ zero_process_status) × (row.name ≡ [])
@@ -51,15 +51,15 @@ takes_result f (Call caller (request.GetNotify handle) append) row = is_it row.n
 takes_result f step row = false
 
 -- whether a registration leaves: it is closed, or its caller is gone
-abbrev pub closes : Flat → Step → Registration → Bool
-closes f (Call caller (request.CloseNotify handle) append) row = is_it row.number (notify_of f caller handle)
-closes f (Gone caller) row = row.caller == caller
-closes f step row = false
+abbrev pub unregisters : Flat → Step → Registration → Bool
+unregisters f (Call caller (request.CloseNotify handle) append) row = is_it row.number (notify_of f caller handle)
+unregisters f (Gone caller) row = row.caller == caller
+unregisters f step row = false
 
 -- what a registration that stays is after a step with these events of each service: what it was told is taken, or it is notified of the
 -- first of its service's events that it waits for
 pub record IsFrom (events : ℕ → List Event) (before : Flat) (step : Step) (old new : Registration) : Type 0 where
-  pub stays : closes before step old ≡ false
+  pub stays : unregisters before step old ≡ false
   pub taken : takes_result before step old ≡ true → new ≡ taken_from old
   pub told : takes_result before step old ≡ false → new ≡ notified_first (events old.service) old
 
@@ -70,10 +70,10 @@ pub record HasStayed (events : ℕ → List Event) (before : Flat) (step : Step)
   pub from : IsFrom events before step old new
 
 -- the registration that a call asks for, which was told nothing yet
-abbrev pub asked_by : Flat → Step → Option Registration
-asked_by f (Call caller (request.Notify handle mask) append) =
+abbrev pub asked_row : Flat → Step → Option Registration
+asked_row f (Call caller (request.Notify handle mask) append) =
     option_map (λ (of : Opened). new_registration f.next.registration caller of.service mask) (watched f caller handle)
-asked_by f step = None
+asked_row f step = None
 
 -- the state that a service is in already counts as an event of it
 abbrev pub event_at_once : List Process → Option Service → List Event
@@ -86,7 +86,7 @@ events_at_once f service = event_at_once f.processes (service_of f service)
 -- one that a step made which was not refused; it is notified of its service's state at once
 pub record IsMade (events : ℕ → List Event) (before : Flat) (step : Step) (answer : Answer) (new : Registration) : Type 0 where
   pub asked : Registration
-  pub by : asked_by before step ≡ Some asked
+  pub by : asked_row before step ≡ Some asked
   pub granted : succeeds answer ≡ true
   pub told : new ≡ notified_first (events_at_once before asked.service ++ events asked.service) asked
 
@@ -97,5 +97,5 @@ HasComeFrom events before step answer row = HasStayed events before step row ⊎
 -- that a call asked for that was not refused is there
 pub record LawOfNotices (l : Limits) (before : Flat) (e : Entry) (told : Answer) (after : Flat) : Type 0 where
   pub rows : All (HasComeFrom (events_of_step l before e) before e.1 told) after.registrations
-  pub stay : All (λ row. closes before e.1 row ≡ false → has_registration row.number after ≡ true) before.registrations
-  pub made : (asked : Registration) → asked_by before e.1 ≡ Some asked → succeeds told ≡ true → has_registration asked.number after ≡ true
+  pub stay : All (λ row. unregisters before e.1 row ≡ false → has_registration row.number after ≡ true) before.registrations
+  pub made : (asked : Registration) → asked_row before e.1 ≡ Some asked → succeeds told ≡ true → has_registration asked.number after ≡ true

@@ -11,9 +11,10 @@ ghost use Rattle.scm_rules.specs.Runs.{EachStep, IsLegal};
 use scm_model::{Flat, Limits, Step};
 use scm_text::Items;
 
-/// In every state that a run ends in, what a registration was told is an event that its mask has:
-/// one of the manager where it watches the manager, and else one of a service. Before that and once
-/// it was taken it has neither a status nor a name, and once it was taken it is told nothing.
+/// In every state that a run ends in, what a registration was notified of is an event that its mask
+/// has: one of the manager if it watches the manager, and else one of a service. Before that and
+/// once it was taken it has neither a status nor a name, and once it was taken the registration is
+/// notified of nothing.
 pub fn registrations_are_in_order(limits: &Limits, steps: &Items<(u64, Step)>, opening: &Flat)
     requires begins { IsOpening limits.now opening.now }
     requires legal { IsLegal limits.now opening.now steps.now }
@@ -34,8 +35,8 @@ pub fn law_of_notices(limits: &Limits, steps: &Items<(u64, Step)>, opening: &Fla
 
 /// The law of events: the events of a step are those of its effect, then those of settling, then
 /// those of the purge, and each of the three notifies all registrations that it finds. A service
-/// that comes to another state or is marked is an event of that service; one that comes or leaves
-/// is an event of the manager. So a service that stops and is started again in one step notifies a
+/// that enters another state or is marked is an event of that service; one that comes or leaves is
+/// an event of the manager. So a service that stops and is started again in one step notifies a
 /// registration for STOPPED.
 pub fn law_of_events(limits: &Limits, steps: &Items<(u64, Step)>, opening: &Flat)
     requires begins { IsOpening limits.now opening.now }

@@ -16,7 +16,7 @@ use Rattle.scm_model.specs.declared.steps.Step.TheVariants.{ControlTaken, Tick, 
 use Rattle.scm_model.specs.Refused.{answered}
 use Rattle.scm_model.specs.Outcomes.{CallResult}
 use Rattle.scm_model.specs.Ready.{state_of}
-use Rattle.scm_rules.specs.Controls.{controlled_if, dequeued_if}
+use Rattle.scm_rules.specs.Controls.{controlled_if, dequeued_if, order_to}
 use Rattle.scm_rules.specs.Needs.{need_row, need_rows, start_order}
 use Rattle.scm_rules.specs.Start.{new_plan, start_done, start_verdict, with_start}
 use Rattle.scm_rules.specs.Steps.{effect_of}
@@ -83,9 +83,9 @@ of_call l f caller (request.Start handle words) append =
 of_call l f caller (request.Control handle control) append =
     let code = verdict l f caller (request.Control handle control) append in
     let same = found_keeps (λ (rows : List Process). total owed_by_process rows ≡ total owed_by_process f.processes)
-    (λ (row : Service). map (controlled_if l.controls row.process control)) (held_service f caller handle)
-    f.processes refl (λ row is. controls_owe (controlled_if l.controls row.process control)
-    (controls_more l.controls row.process control) f.processes) in
+    (λ (row : Service). map (controlled_if l.controls row.process (order_to row.number control))) (held_service f caller handle)
+    f.processes refl (λ row is. controls_owe (controlled_if l.controls row.process (order_to row.number control))
+    (controls_more l.controls row.process (order_to row.number control)) f.processes) in
     of_answered code (told_refused f caller (request.Control handle control) code) f (done_of l f caller (request.Control handle control)) 1
     (omega arith) (λ e. omega (arith, same))
 of_call l f caller (request.SetStatus handle status) append =
@@ -101,8 +101,9 @@ of_call l f caller (request.OpenService handle name access) append =
     let same = opened_keeps (λ (g : Flat). owed g ≡ owed f) f caller name access refl (λ row is. refl) in
     of_answered (verdict l f caller (request.OpenService handle name access) append) _ f
     (done_of l f caller (request.OpenService handle name access)) 1 (omega arith) (λ e. omega (arith, same))
-of_call l f caller asked append = of_answered (verdict l f caller asked append) _ f (done_of l f caller asked) 1 (omega arith)
-    (λ e. omega arith)
+of_call l f caller asked append =
+    let code = verdict l f caller asked append in
+    of_answered code (told_refused f caller asked code) f (done_of l f caller asked) 1 (omega arith) (λ e. omega arith)
 
 -- ## Effects
 
@@ -130,7 +131,7 @@ debt_most f (EndStart caller plan) once = omega arith
 debt_most f LaunchTaken once = omega arith
 debt_most f (Launched process pid) once = omega arith
 debt_most f (LaunchFailed process code) once = omega arith
-debt_most f (Report process status) once = omega arith
+debt_most f (Report process service status) once = omega arith
 debt_most f (Ended process) once = omega arith
 debt_most f (ControlTaken process) once = omega arith
 debt_most f Tick once = tick_most f once
@@ -152,8 +153,8 @@ pub effects_owe : (l : Limits) (f : Flat) (step : Step) → is_owed step ≡ fal
 effects_owe l f (Joined principal) e = let more = length-append f.callers (record { number = f.next.caller; principal = principal } ∷ []) in
     omega (arith, more)
 effects_owe l f (Call caller asked append) e = of_call l f caller asked append
-effects_owe l f (Report process status) e =
-    let same : owed (effect_of l f (Report process status)).flat ≡ owed f =
+effects_owe l f (Report process service status) e =
+    let same : owed (effect_of l f (Report process service status)).flat ≡ owed f =
     failing_apart (λ (g : Flat). owed g ≡ owed f) (failed_by status (current_of f process)) _ refl in
     omega (arith, same)
 effects_owe l f (ControlTaken process) e = let same = controls_owe (dequeued_if process) (controls_fewer process) f.processes in

@@ -4,11 +4,12 @@ use Rattle.std.proofs.Common.{refl, subst, arith}
 use Rattle.std.specs.Prelude.{option_and_then, unwrap_or}
 use Rattle.std.specs.List.{IsDistinct}
 use Rattle.scm_model.specs.declared.flat.NeedRow.{NeedRow}
-use Rattle.scm_model.specs.Needs.{has, needs_of, numbers_of}
+use Rattle.scm_model.specs.Needs.{needs_of, numbers_of}
 use Rattle.dependency_index.specs.Order.{IsWithin}
-use Rattle.scm_model.specs.Order.{explore, runs_in, noted, order_in, try_all}
+use Rattle.scm_model.specs.Order.{explore, runs_in, visited, order_in, try_all}
 use Rattle.dependency_index.proofs.Lists.{needed_listed, or_right}
 use Rattle.dependency_index.proofs.Rooms.{few, more_within}
+use Rattle.scm_text.specs.Numbers.{has}
 
 -- going on keeps that each number is a service's and stands once
 abbrev KeepsWithin : List NeedRow → (List ℕ → ℕ → Option (List ℕ)) → Type 0
@@ -38,7 +39,7 @@ all_within rows go keeps d (n ∷ ns) e listed within is =
     ] refl is
 
 noted_within : (rows : List NeedRow) (before : List ℕ) (n : ℕ) → has (numbers_of rows) n ≡ true → IsWithin rows before
-    → IsWithin rows (noted before n)
+    → IsWithin rows (visited before n)
 noted_within rows before n listed within =
     elim (has before n) as (λ b. has before n ≡ b → IsWithin rows (cond b before (before ++ n ∷ []))) [
       | true ↦ λ e. within
@@ -56,13 +57,13 @@ explore_within rows skipped zero d n e listed within is =
     some_is a b h = cc
 explore_within rows skipped (suc depth) d n e listed within is =
     let go = explore (needs_of rows) skipped depth in
-    elim (skipped n || has d n) as (λ b. cond b (Some d) (option_and_then (λ before. Some (noted before n))
+    elim (skipped n || has d n) as (λ b. cond b (Some d) (option_and_then (λ before. Some (visited before n))
     (try_all go d (needs_of rows n))) ≡ Some e → IsWithin rows e) [
       | true ↦ λ h. subst (IsWithin rows) (some_is d e h) within
       | false ↦ elim (try_all go d (needs_of rows n)) as (λ o. try_all go d (needs_of rows n) ≡ o
-          → option_and_then (λ before. Some (noted before n)) o ≡ Some e → IsWithin rows e) [
+          → option_and_then (λ before. Some (visited before n)) o ≡ Some e → IsWithin rows e) [
             | None ↦ λ g h. absurd cc
-            | Some before ↦ λ g h. subst (IsWithin rows) (some_is (noted before n) e h)
+            | Some before ↦ λ g h. subst (IsWithin rows) (some_is (visited before n) e h)
                 (noted_within rows before n listed
                 (all_within rows go (explore_within rows skipped depth) d (needs_of rows n) before
                 (λ y there. needed_listed rows n y there) within g))

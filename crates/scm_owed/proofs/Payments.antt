@@ -257,7 +257,7 @@ owed_steps_pay l f moment (Gone caller) s ok e =
     omega (arith, pays, plans)
 owed_steps_pay l f moment (Joined principal) s ok e = absurd cc
 owed_steps_pay l f moment (Call caller asked append) s ok e = absurd cc
-owed_steps_pay l f moment (Report process status) s ok e = absurd cc
+owed_steps_pay l f moment (Report process service status) s ok e = absurd cc
 owed_steps_pay l f moment (ControlTaken process) s ok e = absurd cc
 owed_steps_pay l f moment Tick s ok e = absurd cc
 owed_steps_pay l f moment (Raised caller subtype) s ok e = absurd cc

@@ -8,10 +8,10 @@ use Rattle.scm_model.specs.declared.flat.Flat.{Flat}
 use Rattle.scm_model.specs.declared.flat.Limits.{Limits}
 use Rattle.scm_model.specs.declared.flat.Service.{Service}
 use Rattle.scm_model.specs.Found.{if_found}
-use Rattle.scm_model.specs.Needs.{has, numbers_of}
+use Rattle.scm_model.specs.Needs.{numbers_of}
 use Rattle.start_plan.specs.Owed.{total}
 use Rattle.start_triggers.specs.Triggers.{matching}
-use Rattle.scm_rules.specs.Controls.{controlled_if}
+use Rattle.scm_rules.specs.Controls.{controlled_if, order_to}
 use Rattle.scm_rules.specs.Needs.{need_rows}
 use Rattle.scm_rules.specs.Owed.{owed}
 use Rattle.scm_rules.specs.Raise.{all_triggered, gets_stop, raise_verdict, raised, triggered, with_stop}
@@ -21,6 +21,7 @@ use Rattle.scm_rules.specs.Start.{with_start}
 use Rattle.scm_runs.proofs.Sound.{controls_more}
 use Rattle.scm_owed.proofs.Starts.{controls_owe, has_own_number, restart_owes}
 use Rattle.scm_owed.proofs.Sums.{each_passing, passing_total}
+use Rattle.scm_text.specs.Numbers.{has}
 
 -- with the services of a state no more is owed than a bound
 record OwesWithin (services : List Service) (bound : ℕ) (g : Flat) : Type 0 where
@@ -38,11 +39,11 @@ stop_within : (l : Limits) (services : List Service) (bound : ℕ) (row : Servic
 stop_within l services bound row g p =
     let owes = p.owes in
     elim (gets_stop l g row) as (λ b. OwesWithin services bound (cond b
-    (record g { processes = map (controlled_if l.controls row.process SERVICE_CONTROL_STOP) g.processes }) g)) [
+    (record g { processes = map (controlled_if l.controls row.process (order_to row.number SERVICE_CONTROL_STOP)) g.processes }) g)) [
       | true ↦ record {
         same = p.same;
-        owes = (let same = controls_owe (controlled_if l.controls row.process SERVICE_CONTROL_STOP)
-            (controls_more l.controls row.process SERVICE_CONTROL_STOP) g.processes in omega (arith, same, owes));
+        owes = (let same = controls_owe (controlled_if l.controls row.process (order_to row.number SERVICE_CONTROL_STOP))
+            (controls_more l.controls row.process (order_to row.number SERVICE_CONTROL_STOP)) g.processes in omega (arith, same, owes));
       }
       | false ↦ p
     ]

@@ -7,7 +7,7 @@ use Rattle.scm_model.specs.declared.flat.Flat.{Flat}
 use Rattle.scm_model.specs.declared.flat.Limits.{Limits}
 use Rattle.scm_model.specs.declared.flat.Plan.{Plan}
 use Rattle.start_plan.specs.Entered.{wanted_process, with_entered}
-use Rattle.start_plan.specs.Moves.{has, move_of}
+use Rattle.start_plan.specs.Moves.{move_of}
 use Rattle.start_plan.specs.Settle.{move_code, dropped, moved, settle_all, settle_entries, settle_plan, settled, stays, with_tried}
 use Rattle.start_plan.specs.Settle.{words_for}
 use Rattle.start_plan.specs.declared.settling.Move.TheVariants as moves
@@ -15,6 +15,7 @@ use Rattle.start_plan.proofs.Keeps.{is_entry, keeps_all}
 use Rattle.start_plan.proofs.Enterings.{all_units}
 use Rattle.scm_rules.specs.Owed.{owed, owed_by_process}
 use Rattle.start_plan.specs.Owed.{owed_by_plan, owed_to, total, untried}
+use Rattle.scm_text.specs.Numbers.{has}
 
 -- what the processes and a plan owe
 abbrev both : Flat × Plan → ℕ

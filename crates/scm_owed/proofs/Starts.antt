@@ -9,7 +9,7 @@ use Rattle.scm_model.specs.declared.flat.Flat.{Flat}
 use Rattle.scm_model.specs.declared.flat.Plan.{Plan}
 use Rattle.scm_model.specs.declared.flat.Process.{Process}
 use Rattle.scm_model.specs.declared.flat.Service.{Service}
-use Rattle.scm_model.specs.Needs.{has, numbers_of}
+use Rattle.scm_model.specs.Needs.{numbers_of}
 use Rattle.start_plan.specs.Decided.{decided_if, decided_in, aims_at}
 use Rattle.scm_model.specs.Ready.{state_of}
 use Rattle.start_plan.specs.Settle.{stays}
@@ -24,6 +24,7 @@ use Rattle.scm_model.proofs.Found.{found_keeps}
 use Rattle.scm_model.specs.Found.{if_found}
 use Rattle.scm_rules.specs.Ticks.{can_start, with_restart}
 use Rattle.scm_runs.proofs.Lists.{has_own, is_some-find}
+use Rattle.scm_text.specs.Numbers.{has}
 
 -- ## A start
 

@@ -11,7 +11,7 @@ use Rattle.scm_model.specs.declared.flat.Flat.{Flat}
 use Rattle.scm_model.specs.declared.flat.Limits.{Limits}
 use Rattle.scm_model.specs.declared.flat.Service.{Service}
 use Rattle.scm_model.specs.Rows.{service_of}
-use Rattle.scm_model.specs.Needs.{has, numbers_of}
+use Rattle.scm_model.specs.Needs.{numbers_of}
 use Rattle.scm_model.proofs.Found.{found_either}
 use Rattle.start_plan.specs.Decided.{is_numbered}
 use Rattle.start_plan.specs.Entered.{wanted_process}
@@ -28,6 +28,7 @@ use Rattle.scm_runs.proofs.Lists.{found_passes}
 use Rattle.scm_owed.proofs.Settling.{total_more}
 use Rattle.scm_owed.proofs.Starts.{begun_owes, decision_owes, listed}
 use Rattle.scm_owed.proofs.Sums.{Leaves, all_leave, each_passing, once_total, total_least, total_plus, total_zero}
+use Rattle.scm_text.specs.Numbers.{has}
 
 -- ## Row by row
 

@@ -9,7 +9,7 @@ use Rattle.scm_rules.specs.Room.{has_room, is_owed}
 use Rattle.scm_rules.specs.Runs.{IsLegal}
 use Rattle.scm_rules.specs.Steps.{may}
 
--- an entry may be made behind a history, and the limit has room for it
+-- an entry may be made after a history, and the limit has room for it
 pub record MayFollow (l : Limits) (f : Flat) (es : List Entry) (e : Entry) : Type 0 where
   pub may : IsTrue (may l (state l f es) e.0 e.1)
   pub fits : FitsOwed l f (es ++ e ∷ [])

@@ -30,7 +30,7 @@ pub record LawOfOwed (before : Flat) (e : Entry) (told : Answer) (after : Flat) 
   pub pays : owed after + 1 ≤ owed before + debt before e.1
   pub fits : is_owed e.1 ≡ false → debt before e.1 ≤ need before e.1
 
--- each entry is owed, or found room in the state before it, behind so many steps with so much text
+-- each entry is owed, or found room in the state before it, after so many steps with so much text
 abbrev pub FoundRoom : Limits → Flat → (steps text : ℕ) → List Entry → Type 0
 FoundRoom l f steps text [] = Unit {0}
 FoundRoom l f steps text (e ∷ es) =

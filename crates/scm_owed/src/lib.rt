@@ -66,9 +66,9 @@ pub fn law_of_found_room(limits: &Limits, steps: &Items<(u64, Step)>, opening: &
     ensures { Legal limits.now opening.now steps.now }
 {}
 
-/// The law of owed entries: each entry of a legal history, with the states before and behind it,
-/// lowers what is owed by at least 1 where it is owed, and another raises it by less than its need,
-/// a tick and a raise by no more than what they begin.
+/// The law of owed entries: each entry of a legal history, with the states before and after it,
+/// lowers what is owed by at least 1 if it is owed, and another raises it by less than its need, a
+/// tick and a raise by no more than what they begin.
 pub fn law_of_owed_entries(limits: &Limits, steps: &Items<(u64, Step)>, opening: &Flat)
     requires begins { IsOpening limits.now opening.now }
     requires legal { Legal limits.now opening.now steps.now }

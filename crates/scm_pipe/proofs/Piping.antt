@@ -37,6 +37,7 @@ use Rattle.conn_worker.specs.Connecting.{Connects, HasNoRoomFor}
 use Rattle.conn_worker.specs.Serving.{IsServed, step_for}
 use Rattle.conn_worker.proofs.Complete.{ends_as, lacks, rest_of, where_full}
 use Rattle.conn_worker.proofs.Fronts.{front_of_all}
+use Rattle.conn_worker.proofs.Reaching.{reached_as}
 use Rattle.scm_pipe.specs.declared.alone.Piped.{Piped}
 use Rattle.scm_pipe.specs.Histories.{AreServed, replies, the_caller}
 use Rattle.scm_pipe.specs.Piping.{HasNoRoomAfter, HasRoomForAll, IsEnd, IsEndAt, IsJoined, IsKept, IsPiped, IsRoot, IsUnjoined, begun_with}
@@ -80,17 +81,9 @@ reached_so : (o : Opening) (how : Served) (stood : Known) (read : List ℕ) (lef
     (heard : List (Option Reply)) (written : List ℕ)
     → stood.caller ≡ the_caller → Reached (HasNoRoomFor o) stood how read left_now done heard written
     → Reached (HasNoRoomAfter o.limits o.first) stood.seen how read left_now done heard written
-reached_so o served.Full stood read left_now done heard written mine reached = (
-  reached.0,
-  record {
-    next = reached.1.next;
-    follows = reached.1.follows;
-    request = reached.1.request;
-    asks = reached.1.asks;
-    met = no_room o stood reached.1.request mine reached.1.met;
-  },
-)
-reached_so o how stood read left_now done heard written mine reached = reached
+reached_so o how stood read left_now done heard written mine reached =
+    reached_as (HasNoRoomFor o) (HasNoRoomAfter o.limits o.first) stood stood.seen (λ request none. no_room o stood request mine none) how
+    read left_now done heard written reached
 
 -- ## The whole connection
 
@@ -246,8 +239,8 @@ module _ (principal : Principal) (l : Limits) (f : Flat) (bytes : List ℕ) (lef
   room_ends told faulted tells keeper end (inl (inr none)) = room_unjoined end.how none.0
   room_ends told faulted tells keeper end (inr none) = room_unjoined end.how none.0
 
-finds_room : {K : Type 0} (told : K → Option (List ℕ)) (faulted : K → ℕ) (tells : ℕ → Type 0) (principal : Principal) (l : Limits) (f : Flat)
-    (left left_now held held_now : Option (List ℕ)) (keeper : K) (end : Piped K)
+finds_room : {K : Type 0} (told : K → Option (List ℕ)) (faulted : K → ℕ) (tells : ℕ → Type 0) (principal : Principal) (l : Limits)
+    (f : Flat) (left left_now held held_now : Option (List ℕ)) (keeper : K) (end : Piped K)
     → IsEnd told faulted tells principal l f left left_now held held_now keeper end → FindsRoom (HasRoomForAll principal l f) left end.how
 finds_room told faulted tells principal l f None left_now held held_now keeper end is = tt
 finds_room told faulted tells principal l f (Some bytes) left_now held held_now keeper end is =

@@ -28,7 +28,7 @@ use Rattle.conn_desk.specs.Desks.{Chain}
 use Rattle.conn_worker.specs.Serving.{IsServed as IsServedBy, IsRaised, IsRefused, IsTold, IsWaitedFor, step_for}
 use Rattle.conn_worker.specs.Waiting.{Ends, FailsLaunch, Turns, Waits as WaitsBehind, WaitsOnce}
 use Rattle.conn_worker.proofs.Owning.{Lacked, want_made}
-use Rattle.scm_pipe.specs.Histories.{AreServed, Follows, IsAskedAs, IsServed, Waits, has_room_after, replies}
+use Rattle.scm_pipe.specs.Histories.{AreServed, Follows, IsAskedAs, IsPipeServed, PipeWaits, has_room_after, replies}
 use Rattle.scm_pipe.proofs.Histories.{begun_tells, call_tells, end_tells, failure_tells, first_told, raise_tells, replies_append}
 use Rattle.scm_pipe.proofs.Histories.{want_tells}
 
@@ -72,7 +72,7 @@ module _ (tells : ℕ → Type 0) (o : Opening) where
   record WaitsTo (c plan : ℕ) (k k' : Known) (g : Flat) (reply : Reply) : Type 0 where
     entries : List Entry
     seen : k'.seen ≡ k.seen ++ entries
-    waits : Waits l g c plan entries
+    waits : PipeWaits l g c plan entries
     heard : replies l g c entries ≡ Some reply ∷ []
     moments : All (λ (e : Entry). tells e.0) entries
     alone : k'.alone ≡ true
@@ -182,7 +182,7 @@ module _ (tells : ℕ → Type 0) (o : Opening) where
     entries : List Entry
     seen : k'.seen ≡ k.seen ++ entries
     room : has_room_after l o.first k.seen c asked ≡ true
-    served : IsServed l g c asked entries
+    served : IsPipeServed l g c asked entries
     heard : replies l g c entries ≡ told_so ∷ []
     moments : All (λ (e : Entry). tells e.0) entries
     alone : k'.alone ≡ true
@@ -316,7 +316,7 @@ module _ (tells : ℕ → Type 0) (o : Opening) where
           rest.entries,
           refl,
           first.room,
-          subst (λ (x : Flat). IsServed l x c asked first.entries) (sym is) first.served,
+          subst (λ (x : Flat). IsPipeServed l x c asked first.entries) (sym is) first.served,
           subst (λ (es : List Entry). AreServed l o.first es c requests rest.entries) first.seen rest.served,
         );
         heard = replies_append l g c first.entries rest.entries

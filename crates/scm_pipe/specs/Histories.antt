@@ -55,24 +55,23 @@ IsAskedAs caller request step = ⊥
 abbrev pub FailsFirst : Flat → Step → Type 0
 FailsFirst f step = (process : ℕ) × (first_wanted f.wanted ≡ Some process) × (step ≡ LaunchFailed process ERROR_SERVICE_NO_THREAD)
 
--- A start waits: while its plan is undecided the launch that is wanted first is taken in hand and fails at the same moment. Then the
--- start ends.
-abbrev pub Waits : Limits → Flat → ℕ → ℕ → List Entry → Type 0
-Waits l f caller plan [] = ⊥
-Waits l f caller plan (e ∷ []) = e.1 ≡ EndStart caller plan
-Waits l f caller plan (e ∷ d ∷ es) =
+-- A start waits: while its plan is undecided the launch that is wanted first is taken and fails at the same moment. Then the start ends.
+abbrev pub PipeWaits : Limits → Flat → ℕ → ℕ → List Entry → Type 0
+PipeWaits l f caller plan [] = ⊥
+PipeWaits l f caller plan (e ∷ []) = e.1 ≡ EndStart caller plan
+PipeWaits l f caller plan (e ∷ d ∷ es) =
     (code_of f.plans plan ≡ None) × (e.1 ≡ LaunchTaken) × FailsFirst f d.1 × (d.0 ≡ e.0)
-    × Waits l (run_state l f (e ∷ d ∷ [])) caller plan es
+    × PipeWaits l (run_state l f (e ∷ d ∷ [])) caller plan es
 
--- what comes behind a call, by its answer: where a start was begun it waits, else nothing comes
+-- what follows a call, by its answer: if a start was begun it waits, else nothing follows
 abbrev pub Follows : Limits → Flat → ℕ → Answer → List Entry → Type 0
-Follows l f caller (answers.Begun plan) es = Waits l f caller plan es
+Follows l f caller (answers.Begun plan) es = PipeWaits l f caller plan es
 Follows l f caller answer es = es ≡ []
 
 -- the entries are what became of a caller's request
-abbrev pub IsServed : Limits → Flat → ℕ → DecodedRequest → List Entry → Type 0
-IsServed l f caller request [] = ⊥
-IsServed l f caller request (e ∷ es) =
+abbrev pub IsPipeServed : Limits → Flat → ℕ → DecodedRequest → List Entry → Type 0
+IsPipeServed l f caller request [] = ⊥
+IsPipeServed l f caller request (e ∷ es) =
     IsAskedAs caller request e.1 × Follows l (step_of l f e.0 e.1).flat caller (step_of l f e.0 e.1).answer es
 
 -- whether the limits have room for a caller's request after a history
@@ -84,7 +83,7 @@ abbrev pub AreServed : Limits → Flat → (before : List Entry) → ℕ → Lis
 AreServed l f before caller [] es = es ≡ []
 AreServed l f before caller (request ∷ requests) es =
     (served : List Entry) × (rest : List Entry) × (es ≡ served ++ rest) × (has_room_after l f before caller request ≡ true)
-    × IsServed l (state l f before) caller request served × AreServed l f (before ++ served) caller requests rest
+    × IsPipeServed l (state l f before) caller request served × AreServed l f (before ++ served) caller requests rest
 
 -- ## The whole history
 

@@ -110,7 +110,8 @@ pub fn serve_alone<R: Wait, K: Keeper, I: Source, O: Sink, C: Clock>(
     requires room { 2 ≤ manager.limits.steps }
     requires journal { Bears (K.held keeper) journal (K.held keeper) }
     ensures ended { IsEnd K.held K.faults (C.tells clock.now) principal manager.limits manager.flat
-        (I.left input.old) (I.left input.new) (O.held output.old) (O.held output.new) keeper result }
+        (I.left input.old) (I.left input.new) (O.held output.old) (O.held output.new) keeper
+        result }
     ensures input { I.faults input.old ≤ I.faults input.new }
     ensures output { O.faults output.old ≤ O.faults output.new }
     ensures cause { IsServedFor result.how (I.faults input.old) (I.faults input.new)

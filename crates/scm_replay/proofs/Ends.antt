@@ -14,7 +14,7 @@ use Rattle.scm_replay.specs.declared.stop.Stop.TheVariants as stop
 use Rattle.scm_replay.specs.Answers.{answer_line}
 use Rattle.scm_replay.specs.Outcomes.{Standing, goes_on, outcome_at}
 use Rattle.scm_replay.specs.Replay.{AtRest, BadLine, EndsBad, IsAnswered, IsCut, IsLeft, IsOpenText, IsReplayed, ReachedLine, StopsIn, Told}
-use Rattle.scm_replay.specs.Replay.{Unfinished, text_behind, text_end, ends_text, replayed, replayed_from, with_line}
+use Rattle.scm_replay.specs.Replay.{Unfinished, text_behind, text_end, ends_text, replay_told, replayed_from, with_line}
 use Rattle.scm_replay.specs.Along.{Point, GoesOn, HaltsIn, replayed_as}
 use Rattle.scm_replay.proofs.Bad.{bad_at}
 use Rattle.scm_replay.proofs.Lines.{clean_none, rest_alone, told_behind, whole_line}
@@ -62,29 +62,29 @@ one_of x a b c d (inr e) p q = inr (e ∙ q)
 module _ (l : Limits) (s : Standing) (held : Option (List ℕ)) where
   -- all that was read is answered
   so_far : (read : List ℕ) (m : Point) (on : GoesOn l read (beginning s held) m)
-      → replayed l s read ≡ record { text = on.text; ending = text_end m.pending; at = m.at }
+      → replay_told l s read ≡ record { text = on.text; ending = text_end m.pending; at = m.at }
   so_far read m on =
-      ap (replayed l s) on.parts ∙ on.told m.pending
+      ap (replay_told l s) on.parts ∙ on.told m.pending
       ∙ ap (text_behind on.text) (rest_alone l m.at m.number m.pending on.clean)
       ∙ ap (λ t. record { text = t; ending = text_end m.pending; at = m.at }) (append-nil on.text)
 
   -- its whole lines alone
   lines_alone : (read : List ℕ) (m : Point) (on : GoesOn l read (beginning s held) m)
-      → replayed l s on.lines ≡ record { text = on.text; ending = AtRest; at = m.at }
+      → replay_told l s on.lines ≡ record { text = on.text; ending = AtRest; at = m.at }
   lines_alone read m on =
-      ap (replayed l s) (sym (append-nil on.lines)) ∙ on.told []
+      ap (replay_told l s) (sym (append-nil on.lines)) ∙ on.told []
       ∙ ap (text_behind on.text) (rest_alone l m.at m.number [] clean_none)
       ∙ ap (λ t. record { text = t; ending = AtRest; at = m.at }) (append-nil on.text)
 
   -- these, and the next line
   line_more : (read : List ℕ) (m : Point) (on : GoesOn l read (beginning s held) m) (more : List ℕ)
-      → replayed l s (on.lines ++ (m.pending ++ 10 ∷ more))
+      → replay_told l s (on.lines ++ (m.pending ++ 10 ∷ more))
       ≡ text_behind on.text (told_behind l m.at m.number m.pending (replayed_from l (outcome_at l m.at m.pending).1 (m.number + 1) more))
   line_more read m on more = on.told (m.pending ++ 10 ∷ more) ∙ ap (text_behind on.text)
       (whole_line l m.at m.number m.pending more on.clean)
 
   line_at : (read : List ℕ) (m : Point) (on : GoesOn l read (beginning s held) m)
-      → (replayed l s (with_line on.lines m.pending)).at ≡ (outcome_at l m.at m.pending).1
+      → (replay_told l s (with_line on.lines m.pending)).at ≡ (outcome_at l m.at m.pending).1
   line_at read m on =
       let x = (outcome_at l m.at m.pending).1 in
       ap (λ (t : Told). t.at) (line_more read m on [])
@@ -180,7 +180,7 @@ module _ (l : Limits) (s : Standing) (held : Option (List ℕ)) where
         begun = (front, ap (λ t. t ++ front) (sym (ap (λ (t : Told). t.text) (lines_alone read m on))));
         cut = begins_cut on.text front text _ _ begins (ap (λ (t : Told). t.text) (line_more read m on []));
         front = begins_cut on.text front text _ _ begins
-            (ap (λ (t : Told). t.text) (ap (replayed l s) stop.parts ∙ line_more read m on rest));
+            (ap (λ (t : Told). t.text) (ap (replay_told l s) stop.parts ∙ line_more read m on rest));
         at = at ∙ sym (line_at read m on);
       }
 
@@ -196,7 +196,7 @@ module _ (l : Limits) (s : Standing) (held : Option (List ℕ)) where
         beyond = beyond;
         stop = stop;
         text = sym (ap (λ (t : Told). t.text) (lines_alone read m on));
-        front = (_, ap (λ (t : Told). t.text) (ap (replayed l s) stop.parts ∙ on.told (m.pending ++ beyond)));
+        front = (_, ap (λ (t : Told). t.text) (ap (replay_told l s) stop.parts ∙ on.told (m.pending ++ beyond)));
         at = one_of b.at _ _ _ _ at (sym (ap (λ (t : Told). t.at) (lines_alone read m on))) (sym (line_at read m on));
       }
 

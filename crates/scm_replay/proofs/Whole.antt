@@ -3,7 +3,7 @@ use Rattle.std.proofs.Common.{ℕ, ◌≡◌, ◌≤◌, ◌==◌, ◌^◌, Bool
 use Rattle.std.proofs.Common.{subst, append_assoc, append-nil, arith}
 use Rattle.feed_loop.specs.declared.fed.ReadEnd.{ReadEnd}
 use Rattle.feed_loop.specs.declared.fed.ReadEnd.TheVariants as fed
-use Rattle.feed_loop.specs.Feeding.{AllEaten, At, Chain, Feeds, IsFedFor, bytes_of}
+use Rattle.feed_loop.specs.Feeding.{AllEaten, At, FeedChain, Feeds, IsFedFor, bytes_of}
 use Rattle.scm_model.specs.declared.flat.Limits.{Limits}
 use Rattle.scm_core.specs.Managed.{Managed}
 use Rattle.scm_replay.specs.declared.replayer.Replayer.{Replayer}
@@ -35,7 +35,7 @@ module _ {O : Type 0} (held : O → Option (List ℕ)) (faults : O → ℕ) wher
 
   -- the pieces that were eaten
   walks : (l : Limits) (first : Point) (m e : At Replayer Managed O) (read : List ℕ) (pieces : List (List ℕ)) → m.place.limits ≡ l
-      → GoesOn l read first (there m) → Chain eats m e pieces
+      → GoesOn l read first (there m) → FeedChain eats m e pieces
       → GoesOn l (read ++ bytes_of pieces) first (there e)
   walks l first m e read [] is on chain =
       subst (λ (x : At Replayer Managed O). GoesOn l (read ++ []) first (there x)) (sym chain)
@@ -47,11 +47,11 @@ module _ {O : Type 0} (held : O → Option (List ℕ)) (faults : O → ℕ) wher
       (walks l first mid e (read ++ piece) pieces (chain.1.limits ∙ is)
       (goes_further l read piece first (there m) (there mid) on goes) chain.2)
 
-  same_limits : (m e : At Replayer Managed O) (pieces : List (List ℕ)) → Chain eats m e pieces → e.place.limits ≡ m.place.limits
+  same_limits : (m e : At Replayer Managed O) (pieces : List (List ℕ)) → FeedChain eats m e pieces → e.place.limits ≡ m.place.limits
   same_limits m e [] chain = ap (λ (x : At Replayer Managed O). x.place.limits) chain
   same_limits m e (piece ∷ pieces) chain = same_limits chain.0 e pieces chain.2 ∙ chain.1.limits
 
-  same_faults : (m e : At Replayer Managed O) (pieces : List (List ℕ)) → Chain eats m e pieces → faults e.output ≡ faults m.output
+  same_faults : (m e : At Replayer Managed O) (pieces : List (List ℕ)) → FeedChain eats m e pieces → faults e.output ≡ faults m.output
   same_faults m e [] chain = ap (λ (x : At Replayer Managed O). faults x.output) chain
   same_faults m e (piece ∷ pieces) chain = same_faults chain.0 e pieces chain.2 ∙ chain.1.unfailed
 

@@ -26,7 +26,7 @@ pub record Point : Type 0 where
 abbrev pub point : Managed → Reading → Option (List ℕ) → Point
 point m reading held = record { at = standing m; number = reading.number; pending = reading.pending.items; held = held }
 
--- these bytes, behind what was read of the line, are lines that are answered, whatever follows, and what was read of the next one
+-- these bytes, after what was read of the line, are lines that are answered, whatever follows, and what was read of the next one
 pub record GoesOn (l : Limits) (piece : List ℕ) (a b : Point) : Type 0 where
   pub lines : List ℕ
   pub text : List ℕ
@@ -79,14 +79,14 @@ FrontFed l bytes a b (Ok count) = (0 < count) × (count ≤ length bytes) × Goe
 FrontFed l bytes a b (Err why) = HaltsIn l bytes a b why
 
 -- the sink's count of faults rose where it is said to have failed, and is the same elsewhere
-abbrev pub IsStopCaused : {T : Type 0} → Result T Stop → (before now : ℕ) → Type 0
-IsStopCaused (Err stop.WriteFault) before now = Rose before now
-IsStopCaused _ before now = now ≡ before
+abbrev pub IsReplayStopCaused : {T : Type 0} → Result T Stop → (before now : ℕ) → Type 0
+IsReplayStopCaused (Err stop.WriteFault) before now = Rose before now
+IsReplayStopCaused _ before now = now ≡ before
 
 -- and it never falls
 pub record HasStopCause {T : Type 0} (before now : ℕ) (result : Result T Stop) : Type 0 where
   pub grows : before ≤ now
-  pub caused : IsStopCaused result before now
+  pub caused : IsReplayStopCaused result before now
 
 -- what a manager keeps over some steps, of which there are at most so many
 pub record Keeps (old new : Managed) (most : ℕ) : Type 0 where
@@ -112,7 +112,7 @@ pub record LinesHalted (old new : Managed) (piece : List ℕ) (a b : Point) (fau
   pub limits : new.limits ≡ old.limits
   pub cause : HasStopCause {T = Unit {0}} faults faults_now (Err why)
 
--- how a run ends whose feeding ended so, where nothing stands behind the last line or something does
+-- how a run ends, by how its feeding ended and whether nothing stands after the last line
 abbrev pub replayed_as : ReadEnd Stop → Bool → Replayed
 replayed_as fed.Ended true = ended.Ended
 replayed_as fed.Ended false = ended.Truncated

@@ -8,7 +8,7 @@ use Rattle.scm_model.specs.declared.steps.Kept.TheVariants as appended
 use Rattle.scm_model.specs.declared.steps.Step.{Step}
 use Rattle.scm_model.specs.declared.steps.Step.TheVariants.{Joined, Call, EndStart, LaunchTaken, Launched, LaunchFailed, Report, Ended}
 use Rattle.scm_model.specs.declared.steps.Step.TheVariants.{ControlTaken, Tick, Raised, Gone, NoMemory}
-use Rattle.decimal_words.specs.Numbers.{number_at, number_below}
+use Rattle.decimal_words.specs.Numbers.{decimal_number, number_below}
 use Rattle.scm_bodies.specs.Calls.{call_at as served_at}
 use Rattle.scm_bodies.specs.Requests.{request_at}
 use Rattle.scm_calls.specs.Raises.{raise_at}
@@ -21,11 +21,11 @@ use Rattle.scm_replay.specs.Words.{◌>>=◌, line_words, hex_at}
 -- ## What is read into its place
 
 -- what was looked for stands there now, if it was found
-abbrev pub Leaves : {A : Type 0} → (found : Bool) → (now : A) → Option A → Type 0
-Leaves true now told = told ≡ Some now
-Leaves false now told = told ≡ None
+abbrev pub LeavesFound : {A : Type 0} → (found : Bool) → (now : A) → Option A → Type 0
+LeavesFound true now told = told ≡ Some now
+LeavesFound false now told = told ≡ None
 
--- ## What stands behind a verb
+-- ## What stands after a verb
 
 -- who joins
 unfoldable pub joined_at : List ℕ → Option Step
@@ -42,7 +42,7 @@ request_in opnum body = do
 -- a caller, an opnum of 16 bits and a body; it isn't said what becomes of the call's change
 unfoldable pub call_in_words : List ℕ → List ℕ → List ℕ → Option Step
 call_in_words who opnum body = do
-  caller ← number_at who
+  caller ← decimal_number who
   number ← number_below (2 ^ 16) opnum
   bytes ← hex_at body
   asked ← request_in number bytes
@@ -51,21 +51,21 @@ call_in_words who opnum body = do
 -- a caller and its plan
 unfoldable pub end_at : List ℕ → List ℕ → Option Step
 end_at who plan = do
-  caller ← number_at who
-  number ← number_at plan
+  caller ← decimal_number who
+  number ← decimal_number plan
   Some (EndStart caller number)
 
 -- a process, and the system's number of it in 32 bits
 unfoldable pub launched_at : List ℕ → List ℕ → Option Step
 launched_at process pid = do
-  number ← number_at process
+  number ← decimal_number process
   given ← number_below (2 ^ 32) pid
   Some (Launched number given)
 
 -- a process, and a code of 32 bits
 unfoldable pub unlaunched_at : List ℕ → List ℕ → Option Step
 unlaunched_at process code = do
-  number ← number_at process
+  number ← decimal_number process
   told ← number_below (2 ^ 32) code
   Some (LaunchFailed number told)
 
@@ -84,19 +84,19 @@ status_in_words kind state accepted win32 specific checkpoint hint = do
 -- a process, and the status that it reports
 unfoldable pub report_at : List ℕ → Option Status → Option Step
 report_at process status = do
-  number ← number_at process
+  number ← decimal_number process
   told ← status
-  Some (Report number told)
+  Some (Report number 0 told)
 
 -- a caller, and the subtype of triggers that it raises
 unfoldable pub raise_in_words : List ℕ → List ℕ → Option Step
 raise_in_words who subtype = do
-  caller ← number_at who
+  caller ← decimal_number who
   bytes ← hex_at subtype
   raised ← result_ok (raise_at bytes)
   Some (Raised caller raised)
 
--- the step of a verb and the words behind it, but for those with bytes in hexadecimal among them
+-- the step of a verb and the words after it, except for steps that have bytes in hexadecimal
 abbrev pub plain_at : Verb → List (List ℕ) → Option Step
 plain_at verb.Join (name ∷ []) = joined_at name
 plain_at verb.End (who ∷ plan ∷ []) = end_at who plan
@@ -105,14 +105,14 @@ plain_at verb.Launched (process ∷ pid ∷ []) = launched_at process pid
 plain_at verb.Unlaunched (process ∷ code ∷ []) = unlaunched_at process code
 plain_at verb.Report (process ∷ kind ∷ state ∷ accepted ∷ win32 ∷ specific ∷ checkpoint ∷ hint ∷ []) =
     report_at process (status_in_words kind state accepted win32 specific checkpoint hint)
-plain_at verb.Ended (process ∷ []) = option_map Ended (number_at process)
-plain_at verb.Control (process ∷ []) = option_map ControlTaken (number_at process)
+plain_at verb.Ended (process ∷ []) = option_map Ended (decimal_number process)
+plain_at verb.Control (process ∷ []) = option_map ControlTaken (decimal_number process)
 plain_at verb.Tick [] = Some Tick
-plain_at verb.Gone (who ∷ []) = option_map Gone (number_at who)
-plain_at verb.NoMemory (who ∷ []) = option_map NoMemory (number_at who)
+plain_at verb.Gone (who ∷ []) = option_map Gone (decimal_number who)
+plain_at verb.NoMemory (who ∷ []) = option_map NoMemory (decimal_number who)
 plain_at other words = None
 
--- the step of a verb and the words behind it: each verb has so many and no others
+-- the step of a verb and the words after it: each verb has so many and no others
 abbrev pub step_at : Verb → List (List ℕ) → Option Step
 step_at verb.Call (who ∷ opnum ∷ body ∷ []) = call_in_words who opnum body
 step_at verb.FailCall (who ∷ opnum ∷ body ∷ []) = call_in_words who opnum body
@@ -121,10 +121,10 @@ step_at other words = plain_at other words
 
 -- ## Whole lines
 
--- a moment, a verb and the words behind it
+-- a moment, a verb and the words after it
 unfoldable pub line_in_words : List ℕ → List ℕ → List (List ℕ) → Option Line
 line_in_words moment name words = do
-  at ← number_at moment
+  at ← decimal_number moment
   verb ← verb_at name
   step ← step_at verb words
   Some (record { moment = at; step = step; fails = fails_by verb })

@@ -1,4 +1,4 @@
--- What a line comes to where a manager stands.
+-- What a line results in at the point where a manager stands.
 use Rattle.std.specs.Prelude.{ℕ, Bool, true, false, not, ◌&&◌, ◌||◌, ◌==◌, ◌+◌, is_none, is_some, max, List, Option, None, Some}
 use Rattle.std.specs.Prelude.{if◌then◌else◌}
 use Rattle.std.specs.List.{list_any}
@@ -36,7 +36,7 @@ standing m = record { flat = m.flat; steps = m.steps; text = m.text }
 
 -- ## Looks
 
--- a plan is there and undecided, whoever looks
+-- a plan is there and undecided, whichever caller looks
 abbrev pub is_awaited : Flat → ℕ → Bool
 is_awaited f plan = is_some (plan_caller f.plans plan) && is_none (code_of f.plans plan)
 
@@ -81,7 +81,7 @@ finds_room l s step = is_owed step || has_room l s.flat s.steps s.text step
 abbrev pub step_made : Standing → Step → StepResult → Outcome × Standing
 step_made s step done = (Answered done.answer, record { flat = done.flat; steps = s.steps + 1; text = s.text + text_of step })
 
--- what the step of a line comes to that isn't a look in vain, and where the manager stands behind it
+-- what the step of a line results in that isn't a look in vain, and where the manager stands after it
 unfoldable pub outcome_made : Limits → Standing → Line → Outcome × Standing
 outcome_made l s line =
     if not (may_come l s.flat line.moment line.step) then (unmet line.step, s)
@@ -95,11 +95,11 @@ unless_missed s (Some missed) made = (InVain missed, s)
 
 -- ## Lines
 
--- what a line that was read comes to, and where the manager stands behind it
+-- what a line that was read results in, and where the manager stands after it
 abbrev pub outcome_in : Limits → Standing → Line → Outcome × Standing
 outcome_in l s line = unless_missed s (missed_by s.flat line.moment line.step) (outcome_made l s line)
 
--- what a line comes to, or a text that is none
+-- what a line results in, or a text that is none
 abbrev pub outcome_of : Limits → Standing → Option Line → Outcome × Standing
 outcome_of l s None = (Bad, s)
 outcome_of l s (Some line) = outcome_in l s line

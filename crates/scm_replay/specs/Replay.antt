@@ -13,7 +13,7 @@ use Rattle.scm_replay.specs.Answers.{answer_line}
 
 -- ## The text
 
--- how an input ends: behind a line feed, within a line, or with a bad line, whatever follows
+-- how an input ends: after a line feed, within a line, or with a bad line, whatever follows
 pub data TextEnd : Type 0 where
   AtRest : TextEnd
   Unfinished : TextEnd
@@ -28,16 +28,16 @@ pub record Told : Type 0 where
 abbrev pub ends_text : TextEnd → Standing → Told
 ends_text ending at = record { text = []; ending = ending; at = at }
 
--- a text, and then what is told
+-- a text, and then what is answered
 abbrev pub text_behind : List ℕ → Told → Told
 text_behind text told = record { text = text ++ told.text; ending = told.ending; at = told.at }
 
--- what stands behind the last line feed is no line
+-- what stands after the last line feed is no line
 abbrev pub text_end : List ℕ → TextEnd
 text_end rest = if length rest == 0 then AtRest else Unfinished
 
 -- What the lines are answered from there on where a manager stands, of which the first has this number: each step is made where
--- the step before it left it, and the first bad line is the last one. Behind the last line stands a rest.
+-- the step before it left it, and the first bad line is the last one. After the last line stands a rest.
 unfoldable pub told_from : Limits → Standing → ℕ → List (List ℕ) → Told
 told_from l s number [] = ends_text AtRest s
 told_from l s number (rest ∷ []) = ends_text (text_end rest) s
@@ -46,7 +46,7 @@ told_from l s number (line ∷ next ∷ more) =
     (if goes_on (outcome_at l s line).0 then told_from l (outcome_at l s line).1 (number + 1) (next ∷ more)
     else ends_text BadLine (outcome_at l s line).1)
 
--- the lines of an input, and the rest behind its last line feed
+-- the lines of an input, and the rest after its last line feed
 abbrev pub lines_of : List ℕ → List (List ℕ)
 lines_of input = slice_split (λ b. b == 10) input
 
@@ -55,8 +55,8 @@ unfoldable pub replayed_from : Limits → Standing → ℕ → List ℕ → Told
 replayed_from l s number input = told_from l s number (lines_of input)
 
 -- what a whole input is answered
-abbrev pub replayed : Limits → Standing → List ℕ → Told
-replayed l s input = replayed_from l s 1 input
+abbrev pub replay_told : Limits → Standing → List ℕ → Told
+replay_told l s input = replayed_from l s 1 input
 
 -- ## How far a run came
 
@@ -68,9 +68,9 @@ IsOpenText BadLine = ⊥
 
 -- all that was read is answered, and no line of it is bad
 pub record IsAnswered (l : Limits) (s now : Standing) (read written : List ℕ) : Type 0 where
-  pub text : written ≡ (replayed l s read).text
-  pub goes_on : IsOpenText (replayed l s read).ending
-  pub at : now ≡ (replayed l s read).at
+  pub text : written ≡ (replay_told l s read).text
+  pub goes_on : IsOpenText (replay_told l s read).ending
+  pub at : now ≡ (replay_told l s read).at
 
 -- no line feed stands in it
 abbrev pub IsOneLine : List ℕ → Type 0
@@ -82,7 +82,7 @@ pub record StopsIn (l : Limits) (s : Standing) (read answered line beyond : List
   pub parts : read ≡ answered ++ (line ++ beyond)
   pub one_line : IsOneLine line
   pub little : length beyond ≤ 4096
-  pub whole : (replayed l s answered).ending ≡ AtRest
+  pub whole : (replay_told l s answered).ending ≡ AtRest
 
 -- some lines, and one more with its line feed
 abbrev pub with_line : List ℕ → List ℕ → List ℕ
@@ -94,8 +94,8 @@ pub record EndsBad (l : Limits) (s now : Standing) (read written : List ℕ) : T
   pub line : List ℕ
   pub rest : List ℕ
   pub stop : StopsIn l s read answered line (10 ∷ rest)
-  pub told : (more : List ℕ) → replayed l s (answered ++ (line ++ 10 ∷ more)) ≡ record { text = written; ending = BadLine; at = now }
-  pub as_before : now ≡ (replayed l s answered).at
+  pub told : (more : List ℕ) → replay_told l s (answered ++ (line ++ 10 ∷ more)) ≡ record { text = written; ending = BadLine; at = now }
+  pub as_before : now ≡ (replay_told l s answered).at
 
 -- the line's step was made, if it has one that may be made, and a front of its answer is written
 pub record IsCut (l : Limits) (s now : Standing) (read written : List ℕ) : Type 0 where
@@ -103,10 +103,10 @@ pub record IsCut (l : Limits) (s now : Standing) (read written : List ℕ) : Typ
   pub line : List ℕ
   pub rest : List ℕ
   pub stop : StopsIn l s read answered line (10 ∷ rest)
-  pub begun : Begins (replayed l s answered).text written
-  pub cut : Begins written (replayed l s (with_line answered line)).text
-  pub front : Begins written (replayed l s read).text
-  pub at : now ≡ (replayed l s (with_line answered line)).at
+  pub begun : Begins (replay_told l s answered).text written
+  pub cut : Begins written (replay_told l s (with_line answered line)).text
+  pub front : Begins written (replay_told l s read).text
+  pub at : now ≡ (replay_told l s (with_line answered line)).at
 
 -- nothing of the line's answer is written, and its step was made or not
 pub record IsLeft (l : Limits) (s now : Standing) (read written : List ℕ) : Type 0 where
@@ -114,22 +114,22 @@ pub record IsLeft (l : Limits) (s now : Standing) (read written : List ℕ) : Ty
   pub line : List ℕ
   pub beyond : List ℕ
   pub stop : StopsIn l s read answered line beyond
-  pub text : written ≡ (replayed l s answered).text
-  pub front : Begins written (replayed l s read).text
-  pub at : (now ≡ (replayed l s answered).at) ⊎ (now ≡ (replayed l s (with_line answered line)).at)
+  pub text : written ≡ (replay_told l s answered).text
+  pub front : Begins written (replay_told l s read).text
+  pub at : (now ≡ (replay_told l s answered).at) ⊎ (now ≡ (replay_told l s (with_line answered line)).at)
 
 abbrev pub ReachedLine : Limits → (s now : Standing) → Replayed → (read : List ℕ) → (left : Option (List ℕ)) → (written : List ℕ) → Type 0
 ReachedLine l s now ended.Ended read left written =
-    IsAtEnd left × (length read < 2 ^ 40) × (replayed l s read ≡ record { text = written; ending = AtRest; at = now })
+    IsAtEnd left × (length read < 2 ^ 40) × (replay_told l s read ≡ record { text = written; ending = AtRest; at = now })
 ReachedLine l s now ended.Truncated read left written =
-    IsAtEnd left × (length read < 2 ^ 40) × (replayed l s read ≡ record { text = written; ending = Unfinished; at = now })
+    IsAtEnd left × (length read < 2 ^ 40) × (replay_told l s read ≡ record { text = written; ending = Unfinished; at = now })
 ReachedLine l s now ended.BadLine read left written = EndsBad l s now read written
 ReachedLine l s now ended.ReadFault read left written = (length read < 2 ^ 40) × IsAnswered l s now read written
 ReachedLine l s now ended.Worn read left written = (length read ≡ 2 ^ 40) × IsAnswered l s now read written
 ReachedLine l s now ended.WriteFault read left written = IsCut l s now read written
 ReachedLine l s now ended.OutOfMemory read left written = IsLeft l s now read written
 
--- What was read and written, how far the run came by what it answered, and where the manager stands behind it.
+-- What was read and written, how far the run came by what it answered, and where the manager stands after it.
 pub record IsReplayed (l : Limits) (s now : Standing) (left left_now held held_now : Option (List ℕ)) (how : Replayed) : Type 0 where
   pub read : List ℕ
   pub written : List ℕ
@@ -138,7 +138,7 @@ pub record IsReplayed (l : Limits) (s now : Standing) (left left_now held held_n
   pub appended : Appends held held_now written
   pub reached : ReachedLine l s now how read left_now written
 
--- the count of the source or the sink rose where it is said to have failed; at each other end, as at want of memory, both are
+-- the count of the source or the sink rose if it is said to have failed; at each other end, also when out of memory, both are
 -- the same
 abbrev pub IsReplayCaused : Replayed → (source source_now sink sink_now : ℕ) → Type 0
 IsReplayCaused ended.ReadFault source source_now sink sink_now = ReadFailed source source_now sink sink_now

@@ -4,7 +4,7 @@ use Rattle.std.specs.List.{slice_split, list_any}
 use Rattle.std.specs.Result.{result_ok}
 use Rattle.hex.specs.Hex.{decode_of}
 -- the number of which a text is the decimal form
-pub use Rattle.decimal_words.specs.Numbers.{number_at as decimal_at}
+pub use Rattle.decimal_words.specs.Numbers.{decimal_number as decimal_at}
 
 -- the ? of the logic: the second step, if the first gave a value
 infixl 10 ◌>>=◌

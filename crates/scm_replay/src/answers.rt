@@ -77,7 +77,7 @@ fn put_told(alloc: Global, line: &mut Vec<u8>, answer: &Answer) -> Result<(), Ou
         Answer::Reply(reply) => put_reply(alloc, line, reply),
         Answer::Begun(plan) => put_number(line, "plan ", *plan),
         Answer::Launch(process) => put_number(line, "launch ", *process),
-        Answer::Control(code) => put_number(line, "control ", u64::from(*code)),
+        Answer::Control(order) => put_number(line, "control ", u64::from(order.code)),
         Answer::Refused(code) => put_number(line, "refused ", u64::from(*code)),
         Answer::Stale => put_line(line, "stale", b""),
         Answer::Done => put_line(line, "done", b""),

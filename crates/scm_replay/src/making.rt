@@ -2,7 +2,6 @@ ghost use Rattle.std.specs.Prelude.{◌≡◌, ◌+◌, ◌<◌, ◌^◌, IsTrue
 ghost use Rattle.scm_model.specs.Entries.{unkept, with_kept};
 ghost use Rattle.scm_model.specs.Texts.{text_of};
 ghost use Rattle.scm_replay.specs.Along.{IsFit, Keeps};
-ghost use Rattle.scm_rules.specs.Room.{is_owed};
 ghost use Rattle.scm_replay.specs.Outcomes.{finds_room, kept_as, outcome_made, outcome_at};
 ghost use Rattle.scm_replay.specs.Outcomes.{outcome_in, standing, unmet};
 
@@ -10,7 +9,7 @@ use super::line::Line;
 use super::looking::missed_by;
 use super::outcome::Outcome;
 use super::reading::read_line;
-use scm_core::Manager;
+use scm_core::{Manager, is_owed};
 use scm_model::{Kept, Step};
 use scm_shapes::Values;
 use scm_text::OutOfMemory;
@@ -27,28 +26,13 @@ fn kept_as(changes: bool, fails: bool) -> Kept
     }
 }
 
-/// What the line of a step comes to that may not come.
+/// What the line of a step results in if the step may not come.
 fn unmet(step: &Step) -> Outcome
     ensures { result ≡ unmet step.now }
 {
     match step {
         Step::Joined { .. } => Outcome::TooMany,
         _ => Outcome::Bad,
-    }
-}
-
-/// Whether a step was counted before, when it came to be owed.
-fn is_owed(step: &Step) -> bool
-    ensures { result ≡ is_owed step.now }
-{
-    match step {
-        Step::EndStart { .. }
-        | Step::LaunchTaken
-        | Step::Launched { .. }
-        | Step::LaunchFailed { .. }
-        | Step::Ended { .. }
-        | Step::Gone { .. } => true,
-        _ => false,
     }
 }
 
@@ -168,8 +152,8 @@ fn outcome_by(
     }
 }
 
-/// Makes the step of a text, if it is a line and its step may come and finds room. What it comes to
-/// is left in `outcome`: an outcome has 160 bytes and a line 200, so none of them is handed about.
+/// Makes the step of a text, if it is a line and its step may come and finds room. The result is
+/// left in `outcome`: an outcome has 160 bytes and a line 200, so none of them is handed about.
 pub fn outcome_at(
     alloc: Global,
     manager: &mut Manager,

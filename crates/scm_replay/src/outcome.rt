@@ -4,7 +4,7 @@ ghost use Rattle.scm_replay.specs.Outcomes.{goes_on};
 use super::missed::Missed;
 use scm_model::Answer;
 
-/// What a line comes to.
+/// What a line results in.
 pub enum Outcome {
     /// Its step was made.
     Answered(Answer),
@@ -30,7 +30,7 @@ impl Drop for Outcome {
 }
 
 impl Outcome {
-    /// Whether lines behind it are read.
+    /// Whether lines after it are read.
     pub fn goes_on(&self) -> bool
         ensures { result ≡ goes_on self.now }
     {

@@ -3,10 +3,11 @@ ghost use Rattle.std.specs.Result.{result_ok};
 ghost use Rattle.scm_model.specs.declared.calls.Request.{Request};
 ghost use Rattle.scm_model.specs.declared.steps.Step.TheVariants.{ControlTaken, Ended, Gone};
 ghost use Rattle.scm_model.specs.declared.steps.Step.TheVariants.{NoMemory};
-ghost use Rattle.decimal_words.specs.Numbers.{number_at, number_below};
+ghost use Rattle.decimal_words.specs.Numbers.{decimal_number, number_below};
 ghost use Rattle.ndr_body.specs.declared.fault.BodyFault.{BodyFault};
 ghost use Rattle.ndr_body.specs.Reading.{Gives};
-ghost use Rattle.scm_replay.specs.Lines.{Leaves, call_in_words, end_at, joined_at, launched_at};
+ghost use Rattle.scm_replay.specs.Lines.{LeavesFound, call_in_words, end_at, joined_at};
+ghost use Rattle.scm_replay.specs.Lines.{launched_at};
 ghost use Rattle.scm_replay.specs.Lines.{line_at, line_in, line_in_words};
 ghost use Rattle.scm_replay.specs.Lines.{plain_at, raise_in_words, report_at, request_in};
 ghost use Rattle.scm_replay.specs.Lines.{status_in_words, step_at, unlaunched_at};
@@ -93,7 +94,7 @@ fn put(step: &mut Step, now: Step)
 /// Puts a step that was found in place of another, and tells whether one was.
 #[inline(always)]
 fn put_found(step: &mut Step, now: Option<Step>) -> bool
-    ensures { Leaves result step.new now }
+    ensures { LeavesFound result step.new now }
 {
     match now {
         Some(now) => {
@@ -104,7 +105,7 @@ fn put_found(step: &mut Step, now: Option<Step>) -> bool
     }
 }
 
-/// Reads a call, by the words behind its verb.
+/// Reads a call, by the words after its verb.
 #[tactic(auto, unfolding(crate::specs::Lines::call_in_words))]
 fn read_call(
     alloc: Global,
@@ -114,7 +115,7 @@ fn read_call(
     values: &mut Values,
     step: &mut Step,
 ) -> Result<bool, OutOfMemory>
-    ensures { IfOk result (λ found. Leaves found step.new
+    ensures { IfOk result (λ found. LeavesFound found step.new
         (call_in_words who.now opnum.now body.now)) }
 {
     let Some(caller) = number_at(who) else {
@@ -138,7 +139,7 @@ fn read_call(
     Ok(true)
 }
 
-/// The end of a start, by the words behind its verb.
+/// The end of a start, by the words after its verb.
 #[tactic(auto, unfolding(crate::specs::Lines::end_at))]
 fn end_at(who: &[u8], plan: &[u8]) -> Option<Step>
     ensures { result ≡ end_at who.now plan.now }
@@ -148,7 +149,7 @@ fn end_at(who: &[u8], plan: &[u8]) -> Option<Step>
     Some(Step::EndStart { caller, plan })
 }
 
-/// A launch, by the words behind its verb.
+/// A launch, by the words after its verb.
 #[tactic(auto, unfolding(crate::specs::Lines::launched_at))]
 fn launched_at(process: &[u8], pid: &[u8]) -> Option<Step>
     ensures { result ≡ launched_at process.now pid.now }
@@ -158,7 +159,7 @@ fn launched_at(process: &[u8], pid: &[u8]) -> Option<Step>
     Some(Step::Launched { process, pid })
 }
 
-/// A launch that failed, by the words behind its verb.
+/// A launch that failed, by the words after its verb.
 #[tactic(auto, unfolding(crate::specs::Lines::unlaunched_at))]
 fn unlaunched_at(process: &[u8], code: &[u8]) -> Option<Step>
     ensures { result ≡ unlaunched_at process.now code.now }
@@ -200,26 +201,30 @@ fn report_at(process: &[u8], status: Option<Status>) -> Option<Step>
 {
     let process = number_at(process)?;
     let status = status?;
-    Some(Step::Report { process, status })
+    Some(Step::Report {
+        process,
+        service: 0,
+        status,
+    })
 }
 
-/// The end of a process, by the word behind its verb.
+/// The end of a process, by the word after its verb.
 fn ended_at(process: &[u8]) -> Option<Step>
-    ensures { result ≡ option_map Ended (number_at process.now) }
+    ensures { result ≡ option_map Ended (decimal_number process.now) }
 {
     let process = number_at(process)?;
     Some(Step::Ended { process })
 }
 
-/// That a control is taken, by the word behind its verb.
+/// That a control is taken, by the word after its verb.
 fn control_at(process: &[u8]) -> Option<Step>
-    ensures { result ≡ option_map ControlTaken (number_at process.now) }
+    ensures { result ≡ option_map ControlTaken (decimal_number process.now) }
 {
     let process = number_at(process)?;
     Some(Step::ControlTaken { process })
 }
 
-/// A raise, by the words behind its verb.
+/// A raise, by the words after its verb.
 #[tactic(auto, unfolding(crate::specs::Lines::raise_in_words))]
 fn raise_at(alloc: Global, who: &[u8], subtype: &[u8]) -> Result<Option<Step>, OutOfMemory>
     ensures { IfOk result (λ step. step ≡ raise_in_words who.now subtype.now) }
@@ -236,23 +241,23 @@ fn raise_at(alloc: Global, who: &[u8], subtype: &[u8]) -> Result<Option<Step>, O
     Ok(Some(Step::Raised { caller, subtype }))
 }
 
-/// That a caller goes, by the word behind its verb.
+/// That a caller goes, by the word after its verb.
 fn gone_at(who: &[u8]) -> Option<Step>
-    ensures { result ≡ option_map Gone (number_at who.now) }
+    ensures { result ≡ option_map Gone (decimal_number who.now) }
 {
     let caller = number_at(who)?;
     Some(Step::Gone { caller })
 }
 
-/// Want of memory for a caller, by the word behind its verb.
+/// Out of memory for a caller, by the word after its verb.
 fn no_memory_at(who: &[u8]) -> Option<Step>
-    ensures { result ≡ option_map NoMemory (number_at who.now) }
+    ensures { result ≡ option_map NoMemory (decimal_number who.now) }
 {
     let caller = number_at(who)?;
     Some(Step::NoMemory { caller })
 }
 
-/// The step of a verb and the words behind it, but for those with bytes in hexadecimal among them.
+/// The step of a verb and the words after it, except for steps that have bytes in hexadecimal.
 fn plain_at(verb: Verb, words: &[&[u8]]) -> Option<Step>
     ensures { result ≡ plain_at verb (map (λ word. word.now) words.now) }
 {
@@ -287,7 +292,7 @@ fn plain_at(verb: Verb, words: &[&[u8]]) -> Option<Step>
     }
 }
 
-/// Reads the step of a verb and the words behind it.
+/// Reads the step of a verb and the words after it.
 fn read_step(
     alloc: Global,
     verb: Verb,
@@ -295,7 +300,7 @@ fn read_step(
     values: &mut Values,
     step: &mut Step,
 ) -> Result<bool, OutOfMemory>
-    ensures { IfOk result (λ found. Leaves found step.new
+    ensures { IfOk result (λ found. LeavesFound found step.new
         (step_at verb (map (λ word. word.now) words.now))) }
 {
     match (verb, words) {
@@ -307,7 +312,7 @@ fn read_step(
     }
 }
 
-/// Reads a line, by its first two words and those behind them.
+/// Reads a line, by its first two words and those after them.
 #[tactic(auto, unfolding(crate::specs::Lines::line_in_words))]
 fn read_words(
     alloc: Global,
@@ -317,7 +322,7 @@ fn read_words(
     values: &mut Values,
     line: &mut Line,
 ) -> Result<bool, OutOfMemory>
-    ensures { IfOk result (λ found. Leaves found line.new
+    ensures { IfOk result (λ found. LeavesFound found line.new
         (line_in_words moment.now name.now (map (λ word. word.now) words.now))) }
 {
     let Some(moment) = number_at(moment) else {
@@ -341,7 +346,7 @@ fn read_in(
     values: &mut Values,
     line: &mut Line,
 ) -> Result<bool, OutOfMemory>
-    ensures { IfOk result (λ found. Leaves found line.new
+    ensures { IfOk result (λ found. LeavesFound found line.new
         (line_in (map (λ word. word.now) words.now))) }
 {
     match words {
@@ -358,7 +363,7 @@ pub fn read_line(
     values: &mut Values,
     line: &mut Line,
 ) -> Result<bool, OutOfMemory>
-    ensures { IfOk result (λ found. Leaves found line.new (line_at text.now)) }
+    ensures { IfOk result (λ found. LeavesFound found line.new (line_at text.now)) }
 {
     let words = words_of(alloc, text)?;
     read_in(alloc, words.as_slice(), values, line)

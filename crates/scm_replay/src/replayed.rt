@@ -1,7 +1,7 @@
 /// How a run over lines ended.
 #[derive(Clone, Copy, PartialEq, Eq)]
 pub enum Replayed {
-    /// The source ended behind a line feed, or at once.
+    /// The source ended after a line feed, or at once.
     Ended,
     /// The source failed.
     ReadFault,

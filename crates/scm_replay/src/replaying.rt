@@ -14,8 +14,7 @@ use scm_core::Manager;
 use scm_shapes::Values;
 use std::alloc::Global;
 
-/// How a run ends whose feeding ended so, where nothing stands behind the last line or something
-/// does.
+/// How a run ends, by how its feeding ended and whether nothing stands after the last line.
 fn replayed_as(fed: ReadEnd<Stop>, at_rest: bool) -> Replayed
     ensures { result ≡ replayed_as fed at_rest }
 {

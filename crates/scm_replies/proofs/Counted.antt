@@ -59,7 +59,7 @@ next_call l f caller asked append =
 
 next_effect : (l : Limits) (f : Flat) (moment : ℕ) (step : Step) → IsNext f (effect_of l (at_moment f moment step) step).flat
 next_effect l f moment (Call caller asked append) = next_call l (with_moment f moment) caller asked append
-next_effect l f moment (Report process status) =
+next_effect l f moment (Report process service status) =
     failing_apart (IsNext f) (failed_by status (current_of (with_moment f moment) process)) _ (omega arith)
 next_effect l f moment (Ended process) = failing_apart (IsNext f) (current_of (with_moment f moment) process) _ (omega arith)
 next_effect l f moment Tick = ticked_apart (IsNext f) l (with_moment f moment) (omega arith)

@@ -6,8 +6,8 @@ use Rattle.std.specs.List.{IsDistinct}
 use Rattle.std.proofs.lemmas.List.{length-map, length-reverse}
 use Rattle.scm_model.specs.declared.flat.Flat.{Flat}
 use Rattle.scm_model.specs.declared.flat.NeedRow.{NeedRow}
-use Rattle.scm_model.specs.Needs.{has, numbers_of}
-use Rattle.scm_model.specs.Order.{explore, is_cyclic, noted, try_all}
+use Rattle.scm_model.specs.Needs.{numbers_of}
+use Rattle.scm_model.specs.Order.{explore, is_cyclic, visited, try_all}
 use Rattle.dependency_index.specs.Dependents.{dependents_in, is_none_of, named_by, names_other, reach, reach_all}
 use Rattle.dependency_index.specs.Naming.{row_of}
 use Rattle.dependency_index.specs.Order.{IsWithin}
@@ -15,6 +15,7 @@ use Rattle.dependency_index.proofs.Lists.{has_kept, or_right}
 use Rattle.dependency_index.proofs.Rooms.{few, more_within}
 use Rattle.scm_rules.specs.EnumDependents.{stop_order}
 use Rattle.scm_rules.specs.Needs.{need_row, need_rows}
+use Rattle.scm_text.specs.Numbers.{has}
 
 -- going on keeps that each number is a service's and stands once
 abbrev KeepsWithin : List NeedRow → (List ℕ → ℕ → Option (List ℕ)) → Type 0
@@ -43,7 +44,7 @@ all_within rows go keeps d (n ∷ ns) e listed within is =
     ] refl is
 
 noted_within : (rows : List NeedRow) (before : List ℕ) (n : ℕ) → has (numbers_of rows) n ≡ true → IsWithin rows before
-    → IsWithin rows (noted before n)
+    → IsWithin rows (visited before n)
 noted_within rows before n listed within =
     elim (has before n) as (λ b. has before n ≡ b → IsWithin rows (cond b before (before ++ n ∷ []))) [
       | true ↦ λ e. within
@@ -59,12 +60,12 @@ explore_within rows needs skipped named zero d n e listed within is =
     ] is
 explore_within rows needs skipped named (suc depth) d n e listed within is =
     let go = explore needs skipped depth in
-    let note = λ (before : List ℕ). Some (noted before n) in
+    let note = λ (before : List ℕ). Some (visited before n) in
     elim (skipped n || has d n) as (λ b. cond b (Some d) (option_and_then note (try_all go d (needs n))) ≡ Some e → IsWithin rows e) [
       | true ↦ λ h. subst (IsWithin rows) (some_is d e h) within
       | false ↦ elim (try_all go d (needs n)) as (λ o. try_all go d (needs n) ≡ o → option_and_then note o ≡ Some e → IsWithin rows e) [
         | None ↦ λ g h. absurd cc
-        | Some before ↦ λ g h. subst (IsWithin rows) (some_is (noted before n) e h)
+        | Some before ↦ λ g h. subst (IsWithin rows) (some_is (visited before n) e h)
             (noted_within rows before n listed
             (all_within rows go (explore_within rows needs skipped named depth) d (needs n) before (named n) within g))
       ] refl

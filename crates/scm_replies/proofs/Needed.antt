@@ -21,7 +21,7 @@ use Rattle.scm_rules.specs.QueryConfig.{shown_by, shown_in, size_in}
 use Rattle.scm_rules.specs.QueryConfig2.{level_in}
 use Rattle.scm_runs.specs.Sizes.{IsToldWhole}
 use Rattle.scm_runs.proofs.Sizes.{all_short, told_whole}
-use Rattle.scm_replies.specs.Sizes.{AreSmall, HasUuids, config_size, greatest_size, left, name_units, needed_size}
+use Rattle.scm_replies.specs.Sizes.{AreSmall, HasUuids, config_size, greatest_size, services_left, name_units, needed_size}
 use Rattle.scm_replies.proofs.Counted.{IsFew}
 use Rattle.scm_replies.proofs.Levels.{HasShortLevels, level_fits, levels_short}
 use Rattle.scm_replies.proofs.Listings.{IsLow, IsShort, dependents_least, found_some, held_some}
@@ -94,7 +94,7 @@ few_dependents_least f caller handle states within =
 pub greatest : (f : Flat) (caller : ℕ) (asked : Request) → IsWithinLimits f → needed_size f caller asked ≤ greatest_size asked
 greatest f caller (request.EnumDependents handle states size) within = few_dependents_least f caller handle states within
 greatest f caller (request.EnumServices handle kinds states size resume) within =
-    enumeration_least (listing_size (left f kinds states size resume))
+    enumeration_least (listing_size (services_left f kinds states size resume))
 greatest f caller (request.QueryConfig handle size) within =
     config_least (held_service f caller handle) (held_some IsShort f caller handle within.short)
 greatest f caller (request.QueryLock handle size) within = lock_least f f.lock

@@ -5,6 +5,7 @@ use Rattle.scm_model.specs.declared.calls.Reply.TheVariants as reply
 use Rattle.scm_model.specs.declared.calls.Request.{Request}
 use Rattle.scm_model.specs.declared.flat.Flat.{Flat}
 use Rattle.scm_model.specs.declared.flat.Limits.{Limits}
+use Rattle.scm_model.specs.declared.flat.Order.{Order}
 use Rattle.scm_model.specs.declared.flat.Service.{Service}
 use Rattle.scm_model.specs.declared.flat.Status.{Status}
 use Rattle.scm_model.specs.declared.steps.Answer.TheVariants as answer
@@ -66,7 +67,7 @@ launch_untold : (g : Flat) (found : Option ℕ) → code_told (finished g (launc
 launch_untold g None = refl
 launch_untold g (Some process) = refl
 
-control_untold : (g : Flat) (found : Option ℕ) → code_told (finished g (control_sent found)).answer ≡ None
+control_untold : (g : Flat) (found : Option Order) → code_told (finished g (control_sent found)).answer ≡ None
 control_untold g None = refl
 control_untold g (Some code) = refl
 
@@ -84,7 +85,8 @@ told_rightly l f (moment, Call caller asked append) valid ok = of_call l f momen
     (and_parts _ _ (and_parts _ _ ok).0).0
 told_rightly l f (moment, EndStart caller plan) valid ok = decided f plan (code_of f.plans plan) refl
     (and_parts _ _ (and_parts _ _ (and_parts _ _ ok).0).1).1
-told_rightly l f (moment, Report process status) valid ok = report_untold (settled l (reported (with_moment f moment) process status).flat)
+told_rightly l f (moment, Report process service status) valid ok = report_untold
+    (settled l (reported (with_moment f moment) process status).flat)
     (current_of f process) status
 told_rightly l f (moment, Ended process) valid ok = end_untold (settled l (process_ended (with_moment f moment) process).flat)
     (current_of f process)

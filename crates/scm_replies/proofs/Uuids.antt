@@ -137,7 +137,7 @@ effect_have : (l : Limits) (f : Flat) (moment : ℕ) (step : Step) → IsWithUui
     → AllHave (effect_of l (at_moment f moment step) step).flat
 effect_have l f moment (Call caller asked append) given all = call_have l (with_moment f moment) caller asked append given all
 effect_have l f moment (LaunchFailed process code) given all = mild_have (fallen_if process code) f.services (falls_mildly process code) all
-effect_have l f moment (Report process status) given all =
+effect_have l f moment (Report process service status) given all =
     failing_rows HasUuids (λ row failures last has. has) (failed_by status (current_of (with_moment f moment) process)) _
     (mild_have (reported_if process status) f.services (reports_mildly process status) all)
 effect_have l f moment (Ended process) given all =

@@ -1,4 +1,4 @@
--- What calls are told, and what a refusal leaves as it is.
+-- What calls return, and what a refusal leaves as it is.
 use Rattle.std.specs.Prelude.{ℕ, ◌≡◌, ◌≢◌, ◌⊎◌, ◌+◌, true, Option, None, Some}
 use Rattle.std.specs.List.{list_any}
 use Rattle.scm_model.specs.declared.flat.Flat.{Flat}
@@ -37,7 +37,7 @@ reply_code (reply.Page size bytes needed returned resume code) = code
 reply_code (reply.Bytes size bytes needed code) = code
 reply_code (reply.Notice mask status name code) = code
 
--- the code that a caller is told: no answer but a reply has one
+-- the code that an answer returns to a caller: only a reply has one
 abbrev pub code_told : Answer → Option ℕ
 code_told (answer.Caller caller) = None
 code_told (answer.Reply told) = Some (reply_code told)
@@ -50,7 +50,7 @@ code_told answer.Done = None
 
 -- ## Calls
 
--- the call is told why it is refused, and nothing changes but the moment
+-- the call returns why it is refused, and nothing changes but the moment
 pub record IsRefused (before : Flat) (moment caller : ℕ) (asked : Request) (code : ℕ) (told : Answer) (after : Flat) : Type 0 where
   pub coded : code_told told ≡ Some code
   pub reply : told ≡ answer.Reply (told_refused (with_moment before moment) caller asked code)
@@ -65,7 +65,7 @@ pub record Waits (before : Flat) (told : Answer) (after : Flat) : Type 0 where
 abbrev pub with_plan_spent : Flat → Flat
 with_plan_spent f = record f { next = record f.next { plan = f.next.plan + 1; due = f.next.due + 1 } }
 
--- a start is told what its plan is decided to be as it is settled, and nothing changes but the moment and the numbers of the plan and
+-- a start returns what its plan is decided to be as it is settled, and nothing changes but the moment and the numbers of the plan and
 -- its deadline
 pub record IsDecided (l : Limits) (before : Flat) (moment : ℕ) (step : Step) (told : Answer) (after : Flat) : Type 0 where
   pub code : ℕ
@@ -73,12 +73,12 @@ pub record IsDecided (l : Limits) (before : Flat) (moment : ℕ) (step : Step) (
   pub reply : told ≡ answer.Reply (reply.Code code)
   pub same : after ≡ with_plan_spent (with_moment before moment)
 
--- a call that isn't refused is told 0, but a start waits or is told what was decided
+-- a call that isn't refused returns 0, but a start waits or returns what was decided
 abbrev pub Passes : Limits → Flat → ℕ → Step → Request → Answer → Flat → Type 0
 Passes l before moment step (request.Start handle words) told after = Waits before told after ⊎ IsDecided l before moment step told after
 Passes l before moment step asked told after = code_told told ≡ Some 0
 
--- a call comes to its verdict in the state before
+-- a call results in its verdict in the state before
 pub record ComesTo (l : Limits) (before : Flat) (moment caller : ℕ) (asked : Request) (append : Kept) (told : Answer)
     (after : Flat) : Type 0 where
   pub refused : verdict l before caller asked append ≢ 0 → IsRefused before moment caller asked
@@ -87,13 +87,13 @@ pub record ComesTo (l : Limits) (before : Flat) (moment caller : ℕ) (asked : R
 
 -- ## Steps
 
--- a start that waited is told what its plan was decided to be
+-- a start that waited returns what its plan was decided to be
 pub record Ends (before : Flat) (plan : ℕ) (told : Answer) : Type 0 where
   pub code : ℕ
   pub decided : code_of before.plans plan ≡ Some code
   pub ended : told ≡ answer.Reply (reply.Code code)
 
--- a raise is told its verdict in the state before; where it is refused nothing changes but the moment
+-- a raise returns its verdict in the state before; if it is refused nothing changes but the moment
 pub record IsRaised (before : Flat) (moment caller : ℕ) (told : Answer) (after : Flat) : Type 0 where
   pub reply : told ≡ answer.Reply (reply.Code (raise_verdict before caller))
   pub refused : raise_verdict before caller ≢ 0 → after ≡ with_moment before moment

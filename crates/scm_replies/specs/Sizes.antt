@@ -65,17 +65,17 @@ abbrev pub name_units : Option (List ℕ) → ℕ
 name_units name = length (name_or_empty name)
 
 -- the services that an enumeration returns, and those that it leaves
-abbrev pub given : Flat → ℕ → ℕ → ℕ → Option ℕ → List Service
-given f kinds states size resume = page_in size (services_asked f kinds states resume)
+abbrev pub services_given : Flat → ℕ → ℕ → ℕ → Option ℕ → List Service
+services_given f kinds states size resume = page_in size (services_asked f kinds states resume)
 
-abbrev pub left : Flat → ℕ → ℕ → ℕ → Option ℕ → List Service
-left f kinds states size resume = left_of size (services_asked f kinds states resume)
+abbrev pub services_left : Flat → ℕ → ℕ → ℕ → Option ℕ → List Service
+services_left f kinds states size resume = left_of size (services_asked f kinds states resume)
 
 -- the size of what a call asks for; of what an enumeration leaves, at most MAX_ENUM_SIZE, the range of its parameter
 abbrev pub needed_size : Flat → ℕ → Request → ℕ
 needed_size f caller (request.EnumDependents handle states size) = listing_size (dependents_by f caller handle states)
 needed_size f caller (request.EnumServices handle kinds states size resume) =
-    min MAX_ENUM_SIZE (listing_size (left f kinds states size resume))
+    min MAX_ENUM_SIZE (listing_size (services_left f kinds states size resume))
 needed_size f caller (request.QueryConfig handle size) = config_size (held_service f caller handle)
 needed_size f caller (request.QueryLock handle size) = lock_size (lock_owner f)
 needed_size f caller (request.DisplayName handle name size) = name_units (display_by_name f name)
@@ -106,7 +106,7 @@ number_of_last none (row ∷ rows) = number_of_last row.number rows
 -- the number after which an enumeration goes on: that of the last service returned if some are left, 0 if none is, else as it was read
 abbrev pub resume_index : Flat → Request → ℕ → Option ℕ
 resume_index f (request.EnumServices handle kinds states size resume) code =
-    if code == ERROR_MORE_DATA then option_map (λ read. number_of_last read (given f kinds states size resume)) resume
+    if code == ERROR_MORE_DATA then option_map (λ read. number_of_last read (services_given f kinds states size resume)) resume
     else if code == 0 then option_map (λ read. 0) resume
     else resume
 resume_index f asked code = None

@@ -1,4 +1,4 @@
-//! What the service manager's calls are told, over every run.
+//! What the service manager's calls return, over every run.
 #![tactic(auto)]
 
 ghost use Rattle.scm_replies.specs.Replies.{LawOfReplies};
@@ -12,7 +12,7 @@ use scm_model::{Flat, Limits, Step};
 use scm_text::Items;
 
 /// The law of replies: in each step the code of a reply is the call's verdict in the state before,
-/// or what the start's plan was decided to be; a start that isn't decided yet is told its plan, and
+/// or what the start's plan was decided to be; a start that isn't decided yet returns its plan, and
 /// no step but a call, a raise and the end of a start has a reply. A call or a raise that is
 /// refused changes nothing but the moment, and a start that its own settling decides nothing but
 /// that and the next numbers of plans and of what becomes due.
@@ -25,9 +25,9 @@ pub fn law_of_replies(limits: &Limits, steps: &Items<(u64, Step)>, opening: &Fla
 /// The law of needed sizes: within the limits, each size that a reply to a call returns is the size
 /// of what the call asks for, in bytes or in units of a name, and the resume index of an
 /// enumeration is the number of the last service returned. 32 bits hold them all, so none is cut
-/// off; how great the size of each call may be is told, too. What an enumeration leaves is returned
-/// up to 262,144 bytes, the range of `pcbBytesNeeded` (MS-SCMR): 512 services may leave 544,768,
-/// 246 never more.
+/// off; the law also bounds the size of each call. What an enumeration leaves is returned up to
+/// 262,144 bytes, the range of `pcbBytesNeeded` (MS-SCMR): 512 services may leave 544,768, 246
+/// never more.
 pub fn law_of_needed_sizes(limits: &Limits, steps: &Items<(u64, Step)>, opening: &Flat)
     requires begins { IsOpening limits.now opening.now }
     requires legal { Legal limits.now opening.now steps.now }

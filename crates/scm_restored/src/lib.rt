@@ -1,10 +1,9 @@
 //! A manager over what a keeper has.
 #![tactic(auto)]
 
-ghost use Rattle.std.specs.Prelude.{◌≡◌, ◌≤◌, IfOk, IsErrOf, OnOk};
+ghost use Rattle.std.specs.Prelude.{◌≡◌, ◌≤◌, IfOk, IsErrOf, OnOk, is_some};
 ghost use Rattle.outside.specs.Causes.{Rose};
 ghost use Rattle.record_journal.specs.Bearing.{Bears};
-ghost use Rattle.record_journal.specs.Keepers.{has_path};
 ghost use Rattle.scm_core.specs.Managed.{AreSmall};
 ghost use Rattle.scm_rules.specs.Opening.{IsOpening};
 ghost use Rattle.scm_restored.specs.Restored.{Comes, IsUnmoved};
@@ -23,9 +22,9 @@ pub struct Opened {
 }
 
 /// Opens a keeper, and makes a manager whose services have the configurations that its journal
-/// comes to: each is stopped, and never ran. Those that start by themselves are due, in the order
-/// of these groups. Where there was no memory for the manager, the keeper
-/// stays as the opening of its journal left it.
+/// results in: each is stopped, and never ran. Those that start by themselves are due, in the order
+/// of these groups. If there was no memory for the manager, the keeper stays as the opening of its
+/// journal left it.
 pub fn open_manager<K: Keeper>(
     alloc: Global,
     limits: Limits,
@@ -36,7 +35,7 @@ pub fn open_manager<K: Keeper>(
 ) -> Result<Opened, JournalFault>
     requires places { 512 ≤ limits.services }
     requires small { AreSmall limits }
-    ensures comes { Comes limits groups moment (has_path path.entry)
+    ensures comes { Comes limits groups moment (is_some path.entry)
         (K.held keeper.old) (K.held keeper.new) result }
     ensures opens { IfOk result (λ opened. IsOpening limits opened.manager.flat) }
     ensures unmoved { IfOk result (λ opened. IsUnmoved limits opened.manager) }

@@ -10,13 +10,14 @@ use Rattle.scm_model.specs.declared.flat.Need.{Need}
 use Rattle.scm_model.specs.declared.flat.Service.{Service}
 use Rattle.scm_model.specs.Changes.{configured_if}
 use Rattle.scm_model.specs.declared.flat.NeedRow.{NeedRow}
-use Rattle.scm_model.specs.Needs.{has, instead, is_met, met_by, met_by_all, row_needs, needs_of, numbers_of, with_row}
+use Rattle.scm_model.specs.Needs.{instead, is_met, met_by, met_by_all, row_needs, needs_of, numbers_of, with_row}
 use Rattle.scm_model.specs.Order.{is_cyclic}
 use Rattle.scm_model.specs.Walks.{IsAcyclic, IsWalk, Needs}
 use Rattle.dependency_index.proofs.Cycles.{ends_acyclic}
 use Rattle.dependency_index.proofs.Lists.{or_right}
 use Rattle.dependency_index.proofs.Once.{map_fresh, push_is}
 use Rattle.scm_rules.specs.Needs.{need_row, need_row_of, need_rows}
+use Rattle.scm_text.specs.Numbers.{has}
 
 -- the needs of services have no cycle
 abbrev pub HasNoCycle : List Service → Type 0
@@ -49,7 +50,7 @@ instead_is number config row =
       | false ↦ λ e. refl
     ] refl
 
-instead_all : (number : ℕ) (config : Config) (rows : List Service) → map (instead (need_row_of number config)) (need_rows rows) ≡ need_rows
+pub instead_all : (number : ℕ) (config : Config) (rows : List Service) → map (instead (need_row_of number config)) (need_rows rows) ≡ need_rows
     (map (configured_if number config) rows)
 instead_all number config [] = refl
 instead_all number config (row ∷ rows) =

@@ -57,12 +57,12 @@ config_with tag old change = record old {
   delayed = old.delayed && number_or old.start change.start == SERVICE_AUTO_START;
 }
 
-abbrev pub config_from : Flat → ChangeService → Config → Config
-config_from f change old = config_with (tag_or f old (unwrap_or change.group old.group) change.tag) old change
+abbrev pub changed_config : Flat → ChangeService → Config → Config
+changed_config f change old = config_with (tag_or f old (unwrap_or change.group old.group) change.tag) old change
 
 -- the new configuration of a service that is there
 abbrev pub new_config : Flat → ChangeService → Service → Config
-new_config f change row = config_from f change row.config
+new_config f change row = changed_config f change row.config
 
 -- ## Refusals
 

@@ -5,6 +5,7 @@ use Rattle.std.specs.List.{list_any}
 use Rattle.scm_model.specs.declared.flat.Flat.{Flat}
 use Rattle.scm_model.specs.declared.flat.Limits.{Limits}
 use Rattle.scm_model.specs.declared.flat.Opened.{Opened}
+use Rattle.scm_model.specs.declared.flat.Order.{Order}
 use Rattle.scm_model.specs.declared.flat.Process.{Process}
 use Rattle.scm_model.specs.declared.flat.Service.{Service}
 use Rattle.scm_model.specs.declared.flat.Status.{Status}
@@ -19,40 +20,44 @@ use Rattle.scm_model.specs.Outcomes.{CallResult, StepResult}
 use Rattle.scm_model.specs.declared.codes.TheConstants.{ERROR_INVALID_SERVICE_CONTROL, ERROR_SERVICE_CANNOT_ACCEPT_CTRL}
 use Rattle.scm_model.specs.declared.codes.TheConstants.{ERROR_SERVICE_NOT_ACTIVE, SERVICE_STOPPED}
 use Rattle.control_dispatch.specs.Judging.{judge}
-use Rattle.dependency_index.specs.Naming.{is_named}
+use Rattle.dependency_index.specs.Naming.{is_for}
 use Rattle.scm_rules.specs.Launches.{process_of}
 use Rattle.scm_rules.specs.Query.{status_in}
 
 -- ## Controls that wait
 
-abbrev pub controls_in : Option Process → List ℕ
+abbrev pub controls_in : Option Process → List Order
 controls_in None = []
 controls_in (Some row) = row.controls
 
--- the controls that wait for a process
-abbrev pub controls_of : Flat → ℕ → List ℕ
+-- the orders that wait for a process
+abbrev pub controls_of : Flat → ℕ → List Order
 controls_of f process = controls_in (process_of f process)
 
 -- how many wait for a process that is listed
 abbrev pub waiting : Flat → ℕ → Option ℕ
 waiting f process = option_map (λ (row : Process). length row.controls) (process_of f process)
 
--- the control that waits first
-abbrev pub first_control : List ℕ → Option ℕ
+-- the order that waits first
+abbrev pub first_control : List Order → Option Order
 first_control [] = None
-first_control (code ∷ codes) = Some code
+first_control (order ∷ orders) = Some order
 
--- whether a control waits
-abbrev pub waits : List ℕ → Bool
-waits codes = nat_lt 0 (length codes)
+-- whether an order waits
+abbrev pub waits : List Order → Bool
+waits orders = nat_lt 0 (length orders)
+
+-- a control for a service, as its process receives it
+abbrev pub order_to : ℕ → ℕ → Order
+order_to service code = record { service = service; code = code }
 
 -- as long as fewer wait than may, one more does
-abbrev pub controlled_if : ℕ → ℕ → ℕ → Process → Process
-controlled_if limit process code row =
-    if row.number == process && nat_lt (length row.controls) limit then record row { controls = row.controls ++ code ∷ [] } else row
+abbrev pub controlled_if : ℕ → ℕ → Order → Process → Process
+controlled_if limit process order row =
+    if row.number == process && nat_lt (length row.controls) limit then record row { controls = row.controls ++ order ∷ [] } else row
 
-abbrev pub with_control : Limits → Flat → ℕ → ℕ → Flat
-with_control l f process code = record f { processes = map (controlled_if l.controls process code) f.processes }
+abbrev pub with_control : Limits → Flat → ℕ → Order → Flat
+with_control l f process order = record f { processes = map (controlled_if l.controls process order) f.processes }
 
 abbrev pub dequeued_if : ℕ → Process → Process
 dequeued_if process row = if row.number == process then record row { controls = drop 1 row.controls } else row
@@ -60,12 +65,12 @@ dequeued_if process row = if row.number == process then record row { controls = 
 abbrev pub with_control_taken : Flat → ℕ → Flat
 with_control_taken f process = record f { processes = map (dequeued_if process) f.processes }
 
--- a control that is taken in hand is told
-abbrev pub control_sent : Option ℕ → Answer
+-- the answer when an order is taken: the order, or Done if none waits
+abbrev pub control_sent : Option Order → Answer
 control_sent None = answer.Done
-control_sent (Some code) = answer.Control code
+control_sent (Some order) = answer.Control order
 
--- the control that waits first is taken in hand
+-- takes the order that waits first
 abbrev pub control_taken : Flat → ℕ → StepResult
 control_taken f process = record { answer = control_sent (first_control (controls_of f process)); flat = with_control_taken f process }
 
@@ -77,7 +82,7 @@ granted_in handle = option_map (λ (of : Opened). of.granted) handle
 
 -- whether a service names the one of this name as a need and isn't STOPPED
 abbrev pub is_active_by : List ℕ → Service → Bool
-is_active_by name row = list_any (is_named name) row.config.needs && not (row.status.state == SERVICE_STOPPED)
+is_active_by name row = list_any (is_for name) row.config.needs && not (row.status.state == SERVICE_STOPPED)
 
 -- how many do so with a service, in 32 bits
 abbrev pub active_among : List Service → Option Service → ℕ
@@ -94,7 +99,7 @@ control_verdict l f caller handle control =
     judge (granted_in (opened f caller handle)) control (status_in (held_service f caller handle))
     (active_among f.services (held_service f caller handle)) (waiting_for f (held_service f caller handle)) l.controls
 
--- whether the service's status is told with a code that refuses
+-- whether a refusal with this code returns the service's status
 abbrev pub tells_status : ℕ → Bool
 tells_status code = code == ERROR_INVALID_SERVICE_CONTROL || code == ERROR_SERVICE_CANNOT_ACCEPT_CTRL || code == ERROR_SERVICE_NOT_ACTIVE
 
@@ -106,7 +111,7 @@ control_told f caller handle code = reply.State (status_told code (held_service 
 
 -- the processes with a control more for that of the service that was found
 abbrev pub controlled_in : Limits → ℕ → Option Service → List Process → List Process
-controlled_in l control = if_found (λ row. map (controlled_if l.controls row.process control))
+controlled_in l control = if_found (λ row. map (controlled_if l.controls row.process (order_to row.number control)))
 
 -- the control waits, and the service's status is as it was
 abbrev pub control_done : Limits → Flat → ℕ → ℕ → ℕ → CallResult

@@ -128,11 +128,11 @@ create_verdict l f caller new append = first_refusal (create_refusals l f caller
 
 -- ## Effect
 
--- the tag is told where one was asked for
+-- the tag is returned if the call asked for one
 abbrev pub told_tag : ℕ → Option ℕ → Option ℕ
 told_tag tag asked = option_map (λ number. tag) asked
 
--- a service more, of which the manager's registrations are told
+-- adds a service, and the manager's registrations are notified of it
 abbrev pub with_creation : Flat → Config → Status → Flat
 with_creation f config status = with_noted (with_service f config status) (event_of_creation config.name status)
 

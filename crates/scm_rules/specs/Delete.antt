@@ -50,7 +50,7 @@ delete_verdict f caller handle append = first_refusal (delete_refusals f caller 
 abbrev pub marked_in : Option Service → List Service → List Service
 marked_in = if_found (λ row. map (marked_if row.number))
 
--- registrations are told of the mark
+-- registrations are notified of the mark
 abbrev pub told_of_mark : List Process → Option Service → List Registration → List Registration
 told_of_mark processes = if_found (λ row. noted (event_of_mark (pid_of processes row) row))
 
@@ -64,12 +64,12 @@ delete_done f caller handle = record {
 }
 
 -- the change that the removal of a service is
-abbrev pub removed : Service → Change
-removed row = Removed row.config.name
+abbrev pub removal_of : Service → Change
+removal_of row = Removed row.config.name
 
 -- the change of a Delete that is not refused
 abbrev pub delete_change : Flat → ℕ → ℕ → Option Change
-delete_change f caller handle = option_map removed (held_service f caller handle)
+delete_change f caller handle = option_map removal_of (held_service f caller handle)
 
 abbrev pub delete_outcome : Flat → ℕ → ℕ → Kept → CallResult
 delete_outcome f caller handle append = outcome (delete_verdict f caller handle append) (request.Delete handle) f

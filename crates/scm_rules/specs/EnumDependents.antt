@@ -67,7 +67,7 @@ enum_dependents_refusals f caller handle states size =
 abbrev pub enum_dependents_verdict : Flat → ℕ → ℕ → ℕ → ℕ → ℕ
 enum_dependents_verdict f caller handle states size = first_refusal (enum_dependents_refusals f caller handle states size)
 
--- where the size is too small, it is told how much is needed for all
+-- if the size is too small, the reply has the size needed for all of them
 abbrev pub enum_dependents_told : Flat → ℕ → ℕ → ℕ → ℕ → ℕ → Reply
 enum_dependents_told f caller handle states size code =
     reply.Listing size [] (if code == ERROR_MORE_DATA then told_size (dependents_by f caller handle states) else 0) 0 code

@@ -17,11 +17,11 @@ use Rattle.scm_rules.specs.Rights.{manager_lacks}
 
 -- ## Which services are listed
 
--- whether a service is behind a number, of one of the types and in the states
+-- whether a service comes after a number, has one of the types and is in one of the states
 abbrev pub is_asked : ℕ → ℕ → ℕ → Service → Bool
 is_asked kinds states behind row = nat_lt behind row.number && not (bit_and kinds row.config.kind == 0) && is_in_states states row
 
--- those behind the number that is read, in order of their numbers
+-- those after the number at which the call resumes, in order of their numbers
 abbrev pub services_asked : Flat → ℕ → ℕ → Option ℕ → List Service
 services_asked f kinds states resume = filter (is_asked kinds states (unwrap_or resume 0)) f.services
 

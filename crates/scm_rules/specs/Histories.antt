@@ -18,7 +18,7 @@ answer l f [] place = None
 answer l f (e ∷ es) zero = Some (step_of l f e.0 e.1).answer
 answer l f (e ∷ es) (suc place) = answer l (step_of l f e.0 e.1).flat es place
 
--- the limit has room for a history with all that is owed behind it
+-- the limit has room for a history and for all that is owed after it
 abbrev pub FitsOwed : Limits → Flat → List Entry → Type 0
 FitsOwed l f es = length es + owed (state l f es) ≤ l.steps
 

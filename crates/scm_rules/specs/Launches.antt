@@ -1,6 +1,6 @@
 -- Processes: what is launched, and what becomes of it.
 use Rattle.std.specs.Prelude.{ℕ, Bool, false, true, not, ◌==◌, List, [], ◌∷◌, Option, None, Some, find, filter, map, option_and_then}
-use Rattle.std.specs.Prelude.{option_map, if◌then◌else◌}
+use Rattle.std.specs.Prelude.{if◌then◌else◌}
 use Rattle.scm_model.specs.declared.flat.Flat.{Flat}
 use Rattle.scm_model.specs.declared.flat.Phase.{Phase}
 use Rattle.scm_model.specs.declared.flat.Phase.TheVariants as phases
@@ -13,18 +13,12 @@ use Rattle.scm_model.specs.declared.steps.Answer.TheVariants as answer
 use Rattle.scm_model.specs.Found.{if_found}
 use Rattle.scm_model.specs.Notices.{notified_of_move}
 use Rattle.scm_model.specs.Outcomes.{StepResult}
+pub use Rattle.scm_model.specs.Processes.{is_launched, is_running_phase, process_of, service_of_process}
 use Rattle.scm_model.specs.Rows.{service_of}
 use Rattle.start_plan.specs.Decided.{aims_at, decided_in}
 use Rattle.status_machine.specs.Moves.{take_end}
 
 -- ## Reads
-
-abbrev pub process_of : Flat → ℕ → Option Process
-process_of f number = find (λ (row : Process). row.number == number) f.processes
-
--- the service that a process is of
-abbrev pub service_of_process : Flat → ℕ → Option ℕ
-service_of_process f number = option_map (λ (row : Process). row.service) (process_of f number)
 
 abbrev pub is_taken_phase : Phase → Bool
 is_taken_phase phases.Wanted = false
@@ -34,16 +28,6 @@ is_taken_phase phases.Launched = false
 abbrev pub is_taken : Option Process → Bool
 is_taken None = false
 is_taken (Some row) = is_taken_phase row.phase
-
-abbrev pub is_running_phase : Phase → Bool
-is_running_phase phases.Wanted = false
-is_running_phase phases.Taken = false
-is_running_phase phases.Launched = true
-
--- whether a process is listed and was launched
-abbrev pub is_launched : Option Process → Bool
-is_launched None = false
-is_launched (Some row) = is_running_phase row.phase
 
 -- the process that is to be launched first
 abbrev pub first_wanted : List Wanted → Option ℕ
@@ -62,7 +46,7 @@ launched_if number pid row = if row.number == number then record row { phase = p
 abbrev pub wanted_of_others : ℕ → List Wanted → List Wanted
 wanted_of_others number rows = filter (λ (row : Wanted). not (row.process == number)) rows
 
--- the launch of a process is taken in hand
+-- the launch of a process is taken: it is no longer wanted
 abbrev pub with_taken : Flat → ℕ → Flat
 with_taken f number = record f { processes = map (taken_if number) f.processes; wanted = wanted_of_others number f.wanted }
 
@@ -84,7 +68,7 @@ fallen_if process code row = if row.process == process then record row { status 
 abbrev pub current_of : Flat → ℕ → Option Service
 current_of f process = find (λ (row : Service). row.process == process) f.services
 
--- registrations are told that a service fell, which has no process any more
+-- registrations are notified that a service fell, which no longer has a process
 abbrev pub notified_of_fall : ℕ → ℕ → Option Service → List Registration → List Registration
 notified_of_fall process code = if_found (λ row. notified_of_move 0 row (fallen_if process code row))
 
@@ -116,12 +100,12 @@ line_of f row =
 
 -- ## Steps
 
--- a launch that is taken in hand is told
+-- the answer when a launch is taken: its process, or Done if none is wanted
 abbrev pub launch_told : Option ℕ → Answer
 launch_told None = answer.Done
 launch_told (Some process) = answer.Launch process
 
--- the launch that is wanted first is taken in hand
+-- takes the launch that is wanted first
 abbrev pub launch_taken : Flat → StepResult
 launch_taken f = record {
   answer = launch_told (first_wanted f.wanted);

@@ -88,9 +88,9 @@ is_held None = 0
 is_held (Some held) = 1
 
 -- for how many whole seconds it is held, as far as numbers go
-abbrev pub seconds_at : ℕ → Option LockRow → ℕ
-seconds_at moment None = 0
-seconds_at moment (Some held) = min (2 ^ 32 - 1) ((moment - held.since) / 1000)
+abbrev pub seconds_held : ℕ → Option LockRow → ℕ
+seconds_held moment None = 0
+seconds_held moment (Some held) = min (2 ^ 32 - 1) ((moment - held.since) / 1000)
 
 -- 12 bytes and the owner, with two bytes a unit and two for its zero
 abbrev pub lock_size : List ℕ → ℕ
@@ -106,13 +106,13 @@ query_lock_refusals f caller handle size =
 abbrev pub query_lock_verdict : Flat → ℕ → ℕ → ℕ → ℕ
 query_lock_verdict f caller handle size = first_refusal (query_lock_refusals f caller handle size)
 
--- where the size is too small, it is told how much is needed
+-- if the size is too small, the reply has the size needed
 abbrev pub query_lock_told : Flat → ℕ → Reply
 query_lock_told f code = reply.LockState 0 None 0 (if code == ERROR_INSUFFICIENT_BUFFER then lock_size (lock_owner f) else 0) code
 
 abbrev pub query_lock_done : Flat → CallResult
 query_lock_done f = record {
-  reply = reply.LockState (is_held f.lock) (Some (lock_owner f)) (seconds_at f.moment f.lock) (lock_size (lock_owner f)) 0;
+  reply = reply.LockState (is_held f.lock) (Some (lock_owner f)) (seconds_held f.moment f.lock) (lock_size (lock_owner f)) 0;
   flat = f;
 }
 

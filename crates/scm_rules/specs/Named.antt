@@ -31,7 +31,7 @@ caller_named step = None
 abbrev pub process_named : Step → Option ℕ
 process_named (Launched process pid) = Some process
 process_named (LaunchFailed process code) = Some process
-process_named (Report process status) = Some process
+process_named (Report process service status) = Some process
 process_named (Ended process) = Some process
 process_named step = None
 
@@ -48,7 +48,7 @@ abbrev pub caller_made : Flat → Step → Option ℕ
 caller_made f (Joined principal) = Some f.next.caller
 caller_made f step = None
 
--- the process that is taken in hand, in the state before
+-- the process whose launch is taken, in the state before
 abbrev pub process_taken : Flat → Step → Option ℕ
 process_taken f LaunchTaken = first_wanted f.wanted
 process_taken f step = None
@@ -78,7 +78,7 @@ abbrev pub has_made : Limits → Flat → ℕ → List Entry → Bool
 has_made l f caller [] = false
 has_made l f caller (e ∷ es) = makes_caller f caller e.1 || has_made l (step_of l f e.0 e.1).flat caller es
 
--- whether an entry of a history took the process in hand
+-- whether an entry of a history took the launch of the process
 abbrev pub has_taken : Limits → Flat → ℕ → List Entry → Bool
 has_taken l f process [] = false
 has_taken l f process (e ∷ es) = takes_process f process e.1 || has_taken l (step_of l f e.0 e.1).flat process es

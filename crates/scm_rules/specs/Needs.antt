@@ -20,7 +20,7 @@ units_in_bytes [] = Some []
 units_in_bytes (low ∷ []) = None
 units_in_bytes (low ∷ high ∷ bytes) = option_map (λ units. (low + 256 * high) ∷ units) (units_in_bytes bytes)
 
--- a name behind + is a group's
+-- a name after + is a group's
 abbrev pub need_named : List ℕ → Need
 need_named [] = needs.Service []
 need_named (u ∷ name) = if u == 43 then needs.Group name else needs.Service (u ∷ name)

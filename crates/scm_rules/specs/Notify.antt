@@ -65,7 +65,7 @@ notify_refusals l f caller handle mask =
 abbrev pub notify_verdict : Limits → Flat → ℕ → ℕ → ℕ → ℕ
 notify_verdict l f caller handle mask = first_refusal (notify_refusals l f caller handle mask)
 
--- one whose mask has the present state of its service is told of it at once
+-- a registration whose mask has the present state of its service is notified of it at once
 abbrev pub initial_notification : Flat → Option Service → Registration → Registration
 initial_notification f = if_found (λ row. notified (event_of_state (pid_of f.processes row) row))
 
@@ -112,12 +112,12 @@ notice_in None = reply.Notice 0 zero_process_status None 0
 notice_in (Some row) = if row.fired == 0 then reply.Notice 0 zero_process_status None 0
     else reply.Notice row.fired row.status (Some row.name) 0
 
-abbrev pub notice_of : Flat → ℕ → ℕ → Reply
-notice_of f caller handle = notice_in (option_and_then (registration_of f) (notify_of f caller handle))
+abbrev pub notice_reply : Flat → ℕ → ℕ → Reply
+notice_reply f caller handle = notice_in (option_and_then (registration_of f) (notify_of f caller handle))
 
 abbrev pub get_notify_done : Flat → ℕ → ℕ → CallResult
 get_notify_done f caller handle = record {
-  reply = notice_of f caller handle;
+  reply = notice_reply f caller handle;
   flat = with_taken_result f (unwrap_or (notify_of f caller handle) 0);
 }
 

@@ -45,7 +45,7 @@ other_name_refusals f caller handle size other =
 abbrev pub other_name_verdict : Flat → ℕ → ℕ → ℕ → Option (List ℕ) → ℕ
 other_name_verdict f caller handle size other = first_refusal (other_name_refusals f caller handle size other)
 
--- where the size is too small, it is told how long the other name is
+-- if the size is too small, the reply has the length of the other name
 abbrev pub other_name_told : Option (List ℕ) → ℕ → Reply
 other_name_told other code = reply.Name [] (if code == ERROR_INSUFFICIENT_BUFFER then units_of other else 0) code
 

@@ -1,5 +1,5 @@
 -- RQueryServiceConfigW: what a service is configured as.
-use Rattle.std.specs.Prelude.{◌^◌, ◌-◌, ℕ, ◌+◌, ◌*◌, ◌++◌, ◌==◌, nat_lt, codes, length, min, List, [], ◌∷◌, Option, None, Some, is_none}
+use Rattle.std.specs.Prelude.{◌^◌, ◌-◌, ℕ, ◌+◌, ◌++◌, ◌==◌, nat_lt, codes, min, List, [], ◌∷◌, Option, None, Some, is_none}
 use Rattle.std.specs.Prelude.{if◌then◌else◌}
 use Rattle.std.specs.List.{flat_map}
 use Rattle.scm_model.specs.declared.flat.Flat.{Flat}
@@ -16,6 +16,7 @@ use Rattle.scm_model.specs.Outcomes.{CallResult}
 use Rattle.scm_model.specs.declared.codes.TheConstants.{ERROR_ACCESS_DENIED, ERROR_INSUFFICIENT_BUFFER, ERROR_INVALID_HANDLE}
 use Rattle.scm_model.specs.declared.codes.TheConstants.{SERVICE_QUERY_CONFIG}
 use Rattle.scm_rules.specs.Rights.{lacks}
+use Rattle.service_listing.specs.Layout.{text_size}
 
 -- ## What is shown
 
@@ -42,10 +43,6 @@ shown_of config = record {
 }
 
 -- ## How much room it takes
-
--- a text takes two bytes a unit, and two for its zero
-abbrev pub text_size : List ℕ → ℕ
-text_size text = 2 * (length text + 1)
 
 -- 36 bytes, and the five texts, as far as numbers go
 abbrev pub shown_size : Shown → ℕ
@@ -76,7 +73,7 @@ query_config_refusals f caller handle size =
 abbrev pub query_config_verdict : Flat → ℕ → ℕ → ℕ → ℕ
 query_config_verdict f caller handle size = first_refusal (query_config_refusals f caller handle size)
 
--- where the size is too small, it is told how much is needed
+-- if the size is too small, the reply has the size needed
 abbrev pub query_config_told : Flat → ℕ → ℕ → ℕ → Reply
 query_config_told f caller handle code = reply.Shown None (if code == ERROR_INSUFFICIENT_BUFFER then size_in (shown_by f caller handle)
     else 0) code

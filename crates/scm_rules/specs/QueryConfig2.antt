@@ -36,7 +36,7 @@ query_config2_refusals f caller handle level size =
 abbrev pub query_config2_verdict : Flat → ℕ → ℕ → ℕ → ℕ → ℕ
 query_config2_verdict f caller handle level size = first_refusal (query_config2_refusals f caller handle level size)
 
--- where the size is too small, it is told how much is needed
+-- if the size is too small, the reply has the size needed
 abbrev pub query_config2_told : Flat → ℕ → ℕ → ℕ → ℕ → ℕ → Reply
 query_config2_told f caller handle level size code =
     reply.Bytes size [] (if code == ERROR_INSUFFICIENT_BUFFER then level_size f caller handle level else 0) code

@@ -34,7 +34,7 @@ query_ex_refusals f caller handle level size =
 abbrev pub query_ex_verdict : Flat → ℕ → ℕ → ℕ → ℕ → ℕ
 query_ex_verdict f caller handle level size = first_refusal (query_ex_refusals f caller handle level size)
 
--- where the size is too small, it is told how much is needed
+-- if the size is too small, the reply has the size needed
 abbrev pub query_ex_told : ℕ → ℕ → Reply
 query_ex_told size code = reply.Bytes size [] (if code == ERROR_INSUFFICIENT_BUFFER then 36 else 0) code
 

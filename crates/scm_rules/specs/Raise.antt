@@ -12,7 +12,7 @@ use Rattle.scm_model.specs.Rows.{principal_of}
 use Rattle.scm_model.specs.Refused.{first_refusal, Refusals}
 use Rattle.control_dispatch.specs.Judging.{judge}
 use Rattle.start_triggers.specs.Triggers.{matching}
-use Rattle.scm_rules.specs.Controls.{active_among, controlled_if, waiting_for}
+use Rattle.scm_rules.specs.Controls.{active_among, order_to, waiting_for, with_control}
 use Rattle.scm_rules.specs.Ticks.{with_restart}
 
 -- ## Refusals
@@ -29,7 +29,7 @@ raise_verdict f caller = first_refusal (raise_refusals f caller)
 
 -- ## Effect
 
--- whether a service gets a STOP from whoever may stop it
+-- whether a service gets a STOP from a caller with the right to stop it
 abbrev pub gets_stop : Limits → Flat → Service → Bool
 gets_stop l f row =
     judge (Some SERVICE_STOP) SERVICE_CONTROL_STOP row.status (active_among f.services (Some row))
@@ -38,7 +38,7 @@ gets_stop l f row =
 -- a STOP waits for the service's process, where it gets one
 abbrev pub with_stop : Limits → Service → Flat → Flat
 with_stop l row f =
-    if gets_stop l f row then record f { processes = map (controlled_if l.controls row.process SERVICE_CONTROL_STOP) f.processes } else f
+    if gets_stop l f row then with_control l f row.process (order_to row.number SERVICE_CONTROL_STOP) else f
 
 -- the action of a service's trigger: it starts as one that is due does, or gets a STOP
 abbrev pub triggered : Limits → Service → ℕ → Flat → Flat
@@ -49,6 +49,6 @@ abbrev pub all_triggered : Limits → List ℕ → List Service → Flat → Fla
 all_triggered l subtype [] f = f
 all_triggered l subtype (row ∷ rows) f = all_triggered l subtype rows (if_found (triggered l row) (matching row.config subtype) f)
 
--- what a raise comes to
+-- the state that a raise results in
 abbrev pub raised : Limits → Flat → ℕ → List ℕ → Flat
 raised l f caller subtype = if raise_verdict f caller == 0 then all_triggered l subtype f.services f else f

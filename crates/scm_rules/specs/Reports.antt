@@ -37,7 +37,7 @@ moved_by row (Err code) = row
 abbrev pub reported_if : ℕ → Status → Service → Service
 reported_if process report row = if row.process == process then moved_by row (take_report row.status report) else row
 
--- registrations are told of the state that a report brings a service to
+-- registrations are notified of the state that a report brings a service to
 abbrev pub notified_of_report : List Process → Status → Option Service → List Registration → List Registration
 notified_of_report processes report =
     if_found (λ row. notified_of_move (pid_of processes (reported_if row.process report row)) row (reported_if row.process report row))

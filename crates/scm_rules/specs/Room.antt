@@ -56,7 +56,7 @@ is_owed step = false
 abbrev pub cost : Flat → Step → ℕ
 cost f step = if is_owed step then 0 else need f step
 
--- after so many steps with so much text there is room for one more, with all that is and comes to be owed
+-- after so many steps with so much text there is room for one more, with all that is owed and all that it makes owed
 abbrev pub has_room : Limits → Flat → (steps text : ℕ) → Step → Bool
 has_room l f steps text step = nat_le (steps + owed f + need f step) l.steps && nat_le (text + text_of step) l.text
 

@@ -66,7 +66,7 @@ effect_of l f (EndStart caller plan) = record {
 effect_of l f LaunchTaken = launch_taken f
 effect_of l f (Launched process pid) = record { answer = answer.Done; flat = launched f process pid }
 effect_of l f (LaunchFailed process code) = record { answer = answer.Done; flat = launch_failed f process code }
-effect_of l f (Report process status) = reported f process status
+effect_of l f (Report process service status) = reported f process status
 effect_of l f (Ended process) = process_ended f process
 effect_of l f (ControlTaken process) = control_taken f process
 effect_of l f Tick = record { answer = answer.Done; flat = ticked l f }
@@ -102,7 +102,7 @@ step_of l f moment step =
     let done = finished_step l f moment step in
     record { answer = done.answer; flat = purged done.flat }
 
--- the states that a step passes: behind its effect, then settled, then without those who leave
+-- the states that a step passes through: after its effect, then settled, then without the services that leave
 pub record Stages : Type 0 where
   pub effect : Flat
   pub settled : Flat
@@ -128,7 +128,8 @@ may_come l f moment (EndStart caller plan) = is_caller f caller && can_end f cal
 may_come l f moment LaunchTaken = wants_launch f.wanted
 may_come l f moment (Launched process pid) = is_taken (process_of f process)
 may_come l f moment (LaunchFailed process code) = is_taken (process_of f process) && not (code == 0)
-may_come l f moment (Report process status) = is_launched (process_of f process)
+-- no line names a service yet
+may_come l f moment (Report process service status) = service == 0 && is_launched (process_of f process)
 may_come l f moment (Ended process) = is_launched (process_of f process)
 may_come l f moment (ControlTaken process) = waits (controls_of f process)
 may_come l f moment Tick = list_any (is_due (max f.moment moment)) f.dues

@@ -1,5 +1,6 @@
--- What each call comes to, and the change of the configurations that it asks to be kept.
+-- What each call results in, and the change of the configurations that it asks to be kept.
 use Rattle.std.specs.Prelude.{ℕ, Bool, not, ◌==◌, Option, None, if◌then◌else◌}
+use Rattle.scm_model.specs.declared.codes.TheConstants.{ERROR_CALL_NOT_IMPLEMENTED}
 use Rattle.scm_model.specs.declared.flat.Flat.{Flat}
 use Rattle.scm_model.specs.declared.flat.Limits.{Limits}
 use Rattle.scm_model.specs.declared.calls.Request.{Request}
@@ -39,6 +40,9 @@ verdict l f caller (request.Close handle) append = close_verdict f caller handle
 verdict l f caller (request.Control handle control) append = control_verdict l f caller handle control
 verdict l f caller (request.Delete handle) append = delete_verdict f caller handle append
 verdict l f caller (request.Lock handle) append = lock_verdict l f caller handle
+-- security descriptors aren't served yet
+verdict l f caller (request.QuerySecurity handle parts size) append = ERROR_CALL_NOT_IMPLEMENTED
+verdict l f caller (request.SetSecurity handle parts bytes) append = ERROR_CALL_NOT_IMPLEMENTED
 verdict l f caller (request.QueryStatus handle) append = query_verdict f caller handle
 verdict l f caller (request.SetStatus handle status) append = set_status_verdict f caller handle status
 verdict l f caller (request.Unlock handle) append = unlock_verdict f caller handle
@@ -61,8 +65,8 @@ verdict l f caller (request.Change2 handle asked) append = change2_verdict f cal
 verdict l f caller (request.QueryConfig2 handle level size) append = query_config2_verdict f caller handle level size
 verdict l f caller (request.QueryStatusEx handle level size) append = query_ex_verdict f caller handle level size
 
--- what a call is told that is refused: where a size is too small, how much is needed, and what of a page there is room for; how a service
--- stands that gets no control now
+-- the reply to a call that is refused: if a size is too small, it has the size needed, and of a page what there is room for; if a service
+-- doesn't get a control now, it has the service's status
 abbrev pub told_refused : Flat → ℕ → Request → ℕ → Reply
 told_refused f caller (request.Control handle control) code = control_told f caller handle code
 told_refused f caller (request.QueryConfig handle size) code = query_config_told f caller handle code
@@ -75,12 +79,18 @@ told_refused f caller (request.QueryConfig2 handle level size) code = query_conf
 told_refused f caller (request.QueryStatusEx handle level size) code = query_ex_told size code
 told_refused f caller asked code = refused asked code
 
+-- a call that isn't served: it has no effect
+abbrev pub unserved : Flat → Request → CallResult
+unserved f asked = record { reply = refused asked 0; flat = f }
+
 -- the reply and the state of a call that is not refused
 abbrev pub done_of : Limits → Flat → ℕ → Request → CallResult
 done_of l f caller (request.Close handle) = close_done f handle
 done_of l f caller (request.Control handle control) = control_done l f caller handle control
 done_of l f caller (request.Delete handle) = delete_done f caller handle
 done_of l f caller (request.Lock handle) = lock_done f caller
+done_of l f caller (request.QuerySecurity handle parts size) = unserved f (request.QuerySecurity handle parts size)
+done_of l f caller (request.SetSecurity handle parts bytes) = unserved f (request.SetSecurity handle parts bytes)
 done_of l f caller (request.QueryStatus handle) = query_done f caller handle
 done_of l f caller (request.SetStatus handle status) = set_status_done f caller handle status
 done_of l f caller (request.Unlock handle) = unlock_done f handle
@@ -127,7 +137,7 @@ abbrev pub change_of : Limits → Flat → Step → Option Change
 change_of l f (Call caller asked append) = change_of_call l f caller asked
 change_of l f step = None
 
--- what became of a change is told exactly where there is one
+-- a step says what became of a change exactly if it has one
 abbrev pub tells_right : Bool → Kept → Bool
 tells_right changes appended.NotAsked = not changes
 tells_right changes appended.Kept = changes

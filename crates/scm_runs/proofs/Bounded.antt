@@ -22,7 +22,7 @@ use Rattle.scm_model.specs.Rows.{held_service}
 use Rattle.start_plan.specs.Settle.{is_due_still, settle_all, settled, stays}
 use Rattle.start_plan.proofs.Enterings.{all_units}
 use Rattle.start_plan.proofs.Keeps.{Keeps as Lasts, keeps_all}
-use Rattle.start_triggers.specs.Order.{auto_rows, automatic_rows, in_order, is_automatic, put_in, starts_before}
+use Rattle.start_triggers.specs.Order.{auto_rows, automatic_rows, in_order, is_automatic, insert, starts_before}
 use Rattle.scm_rules.specs.Due.{is_due_of, of_others, with_due}
 use Rattle.scm_rules.specs.Failures.{failed_by}
 use Rattle.scm_rules.specs.Launches.{current_of, first_wanted, wanted_of_others, with_fallen, without_process}
@@ -127,13 +127,13 @@ count_head p x xs = elim (p x) as (λ b. length (cond b (x ∷ filter p xs) (fil
     [ true ↦ omega arith | false ↦ omega arith ]
 
 put_count : {X : Type 0} (before : X → X → Bool) (p : X → Bool) (x : X) (ys : List X)
-    → length (filter p (put_in before x ys)) ≡ length (filter p (x ∷ ys))
+    → length (filter p (insert before x ys)) ≡ length (filter p (x ∷ ys))
 put_count before p x [] = refl
 put_count before p x (y ∷ ys) =
-    elim (before y x) as (λ b. length (filter p (cond b (y ∷ put_in before x ys) (x ∷ y ∷ ys))) ≡ length (filter p (x ∷ y ∷ ys))) [
+    elim (before y x) as (λ b. length (filter p (cond b (y ∷ insert before x ys) (x ∷ y ∷ ys))) ≡ length (filter p (x ∷ y ∷ ys))) [
       | true ↦ (
           let rest = put_count before p x ys in
-          let first = count_head p y (put_in before x ys) in
+          let first = count_head p y (insert before x ys) in
           let second = count_head p x ys in
           let both = count_head p x (y ∷ ys) in
           let last = count_head p y ys in
@@ -262,7 +262,7 @@ bounded_effect l f moment LaunchTaken s b = record {
 }
 bounded_effect l f moment (Launched process pid) s b = record { commands = fewer_wanted process f.wanted b.commands; once = b.once }
 bounded_effect l f moment (LaunchFailed process code) s b = record { commands = fewer_wanted process f.wanted b.commands; once = b.once }
-bounded_effect l f moment (Report process status) s b =
+bounded_effect l f moment (Report process service status) s b =
     failing_keeps IsBounded (failed_by status (current_of (with_moment f moment) process)) _
     (record { commands = b.commands; once = b.once })
     (λ row is. record { commands = b.commands; once = b.once }) (λ service g at kind is c. due_once g at service kind is c)

@@ -24,7 +24,7 @@ use Rattle.scm_model.specs.declared.steps.Step.TheVariants.{Joined, Call, EndSta
 use Rattle.scm_model.specs.declared.steps.Step.TheVariants.{ControlTaken, Tick, Raised, Gone, NoMemory}
 use Rattle.scm_model.specs.Refused.{answered, first_refusal}
 use Rattle.scm_model.specs.Rows.{handle_of, is_caller, manager_mask, principal_of, held_service, service_of}
-use Rattle.scm_model.specs.Changes.{configured_if, with_moment, with_service, with_config, with_mark}
+use Rattle.scm_model.specs.Changes.{configured_if, with_moment, with_service, reconfigured, with_mark}
 use Rattle.scm_model.specs.Outcomes.{CallResult}
 use Rattle.service_record.specs.Checks.{check_new, has_bad_names, has_bad_numbers, has_bad_texts, has_bad_lists, is_bad_account}
 use Rattle.scm_rules.specs.Change.{change_done, change_refusals, change_verdict, checked, loops, new_config, tags_no_group, takes_name}
@@ -60,7 +60,7 @@ use Rattle.scm_runs.proofs.Sound.{watching, reported_by, told, failing, triggers
 use Rattle.std.proofs.lemmas.Bool.{or_parts, or_right, not-false, and_parts}
 use Rattle.scm_model.proofs.Found.{found_keeps}
 use Rattle.scm_runs.proofs.Founds.{opened_keeps, started_keeps, IsHeld, stopped_there, found_all, notify_keeps}
-use Rattle.scm_rules.specs.Controls.{controlled_if}
+use Rattle.scm_rules.specs.Controls.{controlled_if, order_to}
 use Rattle.scm_model.specs.declared.flat.Process.{Process}
 use Rattle.status_machine.specs.Moves.{takes}
 use Rattle.scm_rules.proofs.Held.{held_is}
@@ -153,7 +153,7 @@ create_passed l f caller new append e =
 changed : (f : Flat) (change : ChangeService) (row : Service) (found : Option Service) → Sound f → found ≡ Some row
     → service_of f row.number ≡ Some row
     → (checked f change found == 123) ≡ false → (checked f change found == 87) ≡ false → takes_name f change found ≡ false
-    → loops f change found ≡ false → Sound (with_config f row.number (new_config f change row))
+    → loops f change found ≡ false → Sound (reconfigured f row.number (new_config f change row))
 changed f change row None s is e x y free loop = absurd cc
 changed f change row (Some one) s is e x y free loop =
     let same : one ≡ row = cc in
@@ -178,7 +178,7 @@ change_done_sound f caller change append s e =
 
 -- a Change2 with verdict 0
 levelled : (f : Flat) (asked : Info) (row : Service) (found : Option Service) → Sound f → found ≡ Some row
-    → service_of f row.number ≡ Some row → is_refused asked found ≡ false → Sound (with_config f row.number (level_config asked row))
+    → service_of f row.number ≡ Some row → is_refused asked found ≡ false → Sound (reconfigured f row.number (level_config asked row))
 levelled f asked row None s is e free = absurd cc
 levelled f asked row (Some one) s is e free =
     let same : one ≡ row = cc in
@@ -262,8 +262,9 @@ of_done l f caller (request.Close handle) append s there e =
     (closes_another (handle_of f caller handle) (not-false _ p.0)) s.handles.lock)
 of_done l f caller (request.Control handle control) append s there e =
     found_keeps (λ (rows : List Process). Sound (record f { processes = rows }))
-    (λ (row : Service). map (controlled_if l.controls row.process control)) (held_service f caller handle) f.processes s
-    (λ row is. control_waits l f row.process control s)
+    (λ (row : Service). map (controlled_if l.controls row.process (order_to row.number control)))
+    (held_service f caller handle) f.processes s
+    (λ row is. control_waits l f row.process (order_to row.number control) s)
 of_done l f caller (request.Delete handle) append s there e =
     found_all (λ found. Sound (record f {
       services = marked_in found f.services;
@@ -336,7 +337,8 @@ of_effect l f moment (EndStart caller plan) s ok = over (with_moment f moment) p
 of_effect l f moment LaunchTaken s ok = in_hand (with_moment f moment) (and_parts _ _ ok).0 (moved f moment s)
 of_effect l f moment (Launched process pid) s ok = running (with_moment f moment) process pid (moved f moment s)
 of_effect l f moment (LaunchFailed process code) s ok = not_running (with_moment f moment) process code (moved f moment s)
-of_effect l f moment (Report process status) s ok = reported (with_moment f moment) process status (and_parts _ _ ok).0 (moved f moment s)
+of_effect l f moment (Report process service status) s ok =
+    reported (with_moment f moment) process status (and_parts _ _ (and_parts _ _ ok).0).1 (moved f moment s)
 of_effect l f moment (Ended process) s ok = no_more (with_moment f moment) process (moved f moment s)
 of_effect l f moment (ControlTaken process) s ok = control_sent (with_moment f moment) process (moved f moment s)
 of_effect l f moment Tick s ok = due l (with_moment f moment) (moved f moment s)

@@ -10,7 +10,7 @@ use Rattle.scm_model.specs.declared.flat.Flat.{Flat}
 use Rattle.scm_model.specs.declared.flat.Process.{Process}
 use Rattle.scm_model.specs.declared.flat.Service.{Service}
 use Rattle.scm_model.specs.Rows.{is_shown_by_another}
-use Rattle.scm_model.specs.Changes.{configured_if, with_config}
+use Rattle.scm_model.specs.Changes.{configured_if, reconfigured}
 use Rattle.service_record.specs.Checks.{check_new}
 use Rattle.scm_rules.specs.Change.{display_or}
 use Rattle.scm_rules.specs.Valid.{HasListed, is_started_by}
@@ -94,7 +94,8 @@ display_apart number config a b p q pair =
     (configured_if number config b)) [
       | true ↦ λ e. (elim (b.number == number) as (λ y. (b.number == number) ≡ y
           → same_text config.display (display (cond y (replaced config b) b)) ≡ false) [
-            | true ↦ λ g. absurd (let i = eqb-true a.number number e in let j = eqb-true b.number number g in let lt = pair.1 in omega arith)
+            | true ↦ λ g. absurd (let i = eqb-true a.number number e in let j = eqb-true b.number number g in
+                let lt = pair.1 in omega arith)
             | false ↦ λ g. same_swap config.display b.config.display ∙ q g
           ] refl)
       | false ↦ λ e. (elim (b.number == number) as (λ y. (b.number == number) ≡ y
@@ -195,7 +196,7 @@ configured_rows f number row config asked s found name_same display_same free ch
 pub configured : (f : Flat) (number : ℕ) (row : Service) (config : Config) (asked : Option (List ℕ)) → Sound f → IsFound f number row
     → config.name ≡ row.config.name → config.display ≡ display_or row.config asked
     → (is_some asked && is_shown_by_another f row.number (display_or row.config asked)) ≡ false → check_new config None ≡ 0
-    → HasNoCycle (with_config f number config).services → Sound (with_config f number config)
+    → HasNoCycle (reconfigured f number config).services → Sound (reconfigured f number config)
 configured f number row config asked s found name_same display_same free checked acyclic = record {
   services = configured_rows f number row config asked s.services found name_same display_same free checked acyclic;
   handles = s.handles;

@@ -194,7 +194,8 @@ spent_plan F number plan other =
       | true ↦ λ e. elim (plan.number == number) as (λ c. (plan.number == number) ≡ c → is_none (cond c (Some 1053) plan.code) ≡ true
           → F plan.number) [
             | true ↦ λ g h. absurd cc
-            | false ↦ λ g h. other plan.number (ne_eqb number plan.number (λ same. absurd (let t = eq-eqb plan.number number (sym same) in cc)))
+            | false ↦ λ g h. other plan.number
+                (ne_eqb number plan.number (λ same. absurd (let t = eq-eqb plan.number number (sym same) in cc)))
           ] refl
       | false ↦ λ e h. absurd cc
     ] refl

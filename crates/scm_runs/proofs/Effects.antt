@@ -51,7 +51,7 @@ process_call l f caller asked append =
 pub process_up : (l : Limits) (f : Flat) (moment : ℕ) (step : Step) → f.next.process ≤
     (effect_of l (at_moment f moment step) step).flat.next.process
 process_up l f moment (Call caller asked append) = (let e = process_call l (with_moment f moment) caller asked append in omega (arith, e))
-process_up l f moment (Report process status) =
+process_up l f moment (Report process service status) =
     failing_apart (λ (g : Flat). f.next.process ≤ g.next.process) (failed_by status (current_of (with_moment f moment) process)) _
     (omega arith)
 process_up l f moment (Ended process) = failing_apart (λ (g : Flat). f.next.process ≤ g.next.process)
@@ -76,8 +76,8 @@ pub processes_low : (l : Limits) (f : Flat) (moment : ℕ) (step : Step) → Sou
     → All (λ (row : Service). row.process < f.next.process) (effect_of l (at_moment f moment step) step).flat.services
 processes_low l f moment (Call caller asked append) s ok = low_rows f _ (of_effect l f moment (Call caller asked append) s ok)
     (process_call l (with_moment f moment) caller asked append)
-processes_low l f moment (Report process status) s ok =
-    low_rows f _ (of_effect l f moment (Report process status) s ok)
+processes_low l f moment (Report process service status) s ok =
+    low_rows f _ (of_effect l f moment (Report process service status) s ok)
     (failing_apart (λ (g : Flat). g.next.process ≡ f.next.process) (failed_by status (current_of (with_moment f moment) process)) _ refl)
 processes_low l f moment (Ended process) s ok =
     low_rows f _ (of_effect l f moment (Ended process) s ok) (failing_apart (λ (g : Flat). g.next.process ≡ f.next.process)
@@ -121,7 +121,7 @@ pub old_plans : (l : Limits) (f : Flat) (moment : ℕ) (step : Step) → Sound f
     → AreOld f.next.service (effect_of l (at_moment f moment step) step).flat
 old_plans l f moment (Call caller asked append) s ok = old_call l (with_moment f moment) caller asked append (moved f moment s)
     (and_parts _ _ (and_parts _ _ ok).0).0
-old_plans l f moment (Report process status) s ok =
+old_plans l f moment (Report process service status) s ok =
     let t = moved f moment s in
     failing_apart (AreOld f.next.service) (failed_by status (current_of (with_moment f moment) process)) _ t.plans
 old_plans l f moment (Ended process) s ok =

@@ -16,7 +16,7 @@ use Rattle.scm_model.specs.declared.steps.Step.{Step}
 use Rattle.scm_model.specs.Purge.{leaves}
 use Rattle.start_plan.specs.Decided.{code_of, is_numbered, plan_of}
 use Rattle.start_plan.specs.Entered.{starting_in, started_if, with_entered}
-use Rattle.start_plan.specs.Moves.{has, move_of}
+use Rattle.start_plan.specs.Moves.{move_of}
 use Rattle.start_plan.specs.Settle.{move_code, dropped, moved, settle_all, settle_entries, settle_plan, settled, stays, words_for}
 use Rattle.start_plan.specs.declared.settling.Move.TheVariants as moves
 use Rattle.start_plan.proofs.Keeps.{is_entry}
@@ -31,6 +31,7 @@ use Rattle.scm_runs.proofs.Lists.{found_only}
 use Rattle.scm_runs.proofs.Plans.{numbered}
 use Rattle.scm_runs.proofs.Settling.{settles}
 use Rattle.scm_runs.proofs.Sound.{Sound}
+use Rattle.scm_text.specs.Numbers.{has}
 
 -- ## Some element
 

@@ -1,6 +1,7 @@
 -- What holds of the effects of calls on services that were found.
 use Rattle.std.proofs.Common.{ℕ, ◌≡◌, List, [], Option, None, Some, eqb-true, sym, ap, refl, true, ◌==◌, ◌+◌}
 use Rattle.std.specs.Prelude.{unwrap_or, IfSome}
+use Rattle.scm_model.specs.declared.flat.Order.{Order}
 use Rattle.scm_model.specs.declared.flat.Flat.{Flat}
 use Rattle.scm_model.specs.declared.flat.Registration.{Registration}
 use Rattle.scm_model.specs.declared.flat.Service.{Service}
@@ -80,9 +81,9 @@ pub launch_begins : (found : Option ℕ) → plan_made (launch_told found) ≡ N
 launch_begins None = refl
 launch_begins (Some process) = refl
 
-pub control_begins : (found : Option ℕ) → plan_made (control_sent found) ≡ None
+pub control_begins : (found : Option Order) → plan_made (control_sent found) ≡ None
 control_begins None = refl
-control_begins (Some code) = refl
+control_begins (Some order) = refl
 
 -- ## A start that is not refused
 

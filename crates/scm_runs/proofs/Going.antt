@@ -160,7 +160,7 @@ of_effect l f moment (Launched process pid) s = starts_decided f.plans (service_
     (all_same f.plans s.plans.rising)
 of_effect l f moment (LaunchFailed process code) s = starts_decided f.plans (service_of_process f process) code f.plans
     (all_same f.plans s.plans.rising)
-of_effect l f moment (Report process status) s =
+of_effect l f moment (Report process service status) s =
     failing_apart (λ (g : Flat). AllWent f.plans g.plans) (failed_by status (current_of (with_moment f moment) process)) _
     (all_same f.plans s.plans.rising)
 of_effect l f moment (Ended process) s =

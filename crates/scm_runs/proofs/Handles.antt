@@ -106,7 +106,7 @@ of_effect l f moment (Call caller asked append) =
     let once = of_call l f moment caller asked append in
     record { rows = once.rows; rising = once.rising }
 of_effect l f moment (Gone caller) = record { rows = All-filter _ (StoodOrIsNew f) f.handles (all_stood f); rising = omega arith }
-of_effect l f moment (Report process status) =
+of_effect l f moment (Report process service status) =
     failing_apart (Once f) (failed_by status (current_of (with_moment f moment) process)) _
     (record { rows = all_stood f; rising = omega arith })
 of_effect l f moment (Ended process) =

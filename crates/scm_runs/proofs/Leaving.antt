@@ -34,7 +34,7 @@ use Rattle.scm_rules.specs.Reports.{process_in_state, reported_if, reported_in, 
 use Rattle.scm_rules.specs.Steps.{at_moment, effect_of, may, step_of}
 use Rattle.scm_rules.specs.Verdicts.{call_of, done_of, told_refused, verdict}
 use Rattle.scm_runs.specs.Leaving.{IsFresh, IsSameService, LawOfLeaving, before_leaving, configures, created, fails, marks, numbers}
-use Rattle.scm_runs.specs.Leaving.{reports, is_handle_of, is_number_of, is_process_of}
+use Rattle.scm_runs.specs.Leaving.{is_report, is_handle_of, is_number_of, is_process_of}
 use Rattle.scm_runs.proofs.Along.{Gives}
 use Rattle.scm_runs.proofs.Calls.{by_verdict}
 use Rattle.scm_runs.proofs.Configured.{HasText, name, name_kept, names_found, number_kept}
@@ -158,7 +158,7 @@ configured_row f step told caller handle config one row does is has =
         | false ↦ ap (λ (marked : Bool). record row { marked = marked }) stays
       ];
       state = elim (row.number == number) as (λ b. (cond b (replaced config row) row).process ≡ row.process
-          → reports f step row ≡ false → (cond b (replaced config row) row).status ≡
+          → is_report f step row ≡ false → (cond b (replaced config row) row).status ≡
           record row.status { kind = (cond b (replaced config row) row).status.kind }) [
             | true ↦ λ same quiet. refl
             | false ↦ λ same quiet. refl
@@ -186,7 +186,7 @@ stood_configured f step told caller handle new does named s =
 -- ## Reports
 
 reported_row : (f : Flat) (step : Step) (told : Answer) (process : ℕ) (report : Status) (row : Service)
-    → ((number : ℕ) → marks f step told number ≡ false) → (reports f step row ≡ false → (row.process == process) ≡ false)
+    → ((number : ℕ) → marks f step told number ≡ false) → (is_report f step row ≡ false → (row.process == process) ≡ false)
     → IsSameService f step told row (reported_if process report row)
 reported_row f step told process report row unmarked other =
     reported_or (IsSameService f step told row) process report row
@@ -204,7 +204,7 @@ number_told process report row = reported_or (λ new. new.number ≡ row.number)
 
 stood_reported : (f : Flat) (step : Step) (told : Answer) (process : ℕ) (report : Status) → created f step told ≡ []
     → ((number : ℕ) → marks f step told number ≡ false)
-    → ((row : Service) → reports f step row ≡ false → (row.process == process) ≡ false)
+    → ((row : Service) → is_report f step row ≡ false → (row.process == process) ≡ false)
     → Stood f step told (map (reported_if process report) f.services)
 stood_reported f step told process report none unmarked other =
     stood_mapped f step told (reported_if process report) (number_told process report) none
@@ -305,7 +305,7 @@ stood_told f moment caller handle status append s =
       services = reported_in status held f.services;
       registrations = notified_of_report f.processes status held f.registrations;
     } in
-    let other = λ (one : Service) (is : held ≡ Some one) (row : Service) (quiet : reports f step row ≡ false). ap
+    let other = λ (one : Service) (is : held ≡ Some one) (row : Service) (quiet : is_report f step row ≡ false). ap
     (λ found. is_process_of found row.process) (sym is) ∙ quiet in
     failing_keeps (λ (h : Flat). Stood f step told h.services) (failed_by status held) g
     (found_keeps (Stood f step told) (λ (one : Service). map (reported_if one.process status)) held f.services
@@ -432,10 +432,10 @@ in_hand_first f process (Some row) s e taken =
 number_fallen : (process code : ℕ) (row : Service) → (fallen_if process code row).number ≡ row.number
 number_fallen process code row = fallen_or (λ new. new.number ≡ row.number) process code row (λ e. refl) refl
 
-stood_own : (f : Flat) (moment process : ℕ) (status : Status) (told : Answer) → Sound f
-    → Stood f (Report process status) told (with_report (with_moment f moment) process status).services
-stood_own f moment process status told s =
-    let step = Report process status in
+stood_own : (f : Flat) (moment process service : ℕ) (status : Status) (told : Answer) → Sound f
+    → Stood f (Report process service status) told (with_report (with_moment f moment) process status).services
+stood_own f moment process service status told s =
+    let step = Report process service status in
     let found = current_of f process in
     let g = record (with_moment f moment) {
       services = map (reported_if process status) f.services;
@@ -448,7 +448,7 @@ stood_own f moment process status told s =
     (found_alone f (λ (row : Service). row.process == process) one s is.0)
     (rw (found_passes (λ (row : Service). row.process == process) one f.services is.0) is.1) (number_told process status)
     (λ k d lt. reported_row f step told process status (get_or f.services k d) (λ number. refl) (λ quiet. quiet))))
-    (λ service h at kind is stood. stood)
+    (λ number h at kind is stood. stood)
 
 stood_ended : (f : Flat) (moment process : ℕ) (told : Answer) → Sound f → 1 ≤ process
     → Stood f (Ended process) told (with_end (with_moment f moment) process).services
@@ -472,8 +472,8 @@ stood_effect l f moment (LaunchFailed process code) s ok =
     stood_mapped f _ _ (fallen_if process code) (number_fallen process code) refl
     (λ k d lt. fallen_row f _ _ process code _ (λ number. refl) (in_hand_first f process (process_of f process) s refl
     (and_parts _ _ (and_parts _ _ ok).0).0))
-stood_effect l f moment (Report process status) s ok = stood_own f moment process status
-    (step_of l f moment (Report process status)).answer s
+stood_effect l f moment (Report process service status) s ok = stood_own f moment process service status
+    (step_of l f moment (Report process service status)).answer s
 stood_effect l f moment (Ended process) s ok =
     stood_ended f moment process (step_of l f moment (Ended process)).answer s
     (running_first f.next.process process f.processes (process_of f process) s.processes.numbered refl (and_parts _ _ ok).0)

@@ -191,7 +191,8 @@ pub filter_full : {X : Type 0} (p : X → Bool) (xs : List X) → length (filter
 filter_full p [] e = refl
 filter_full p (x ∷ xs) e =
     let short = filter_short p xs in
-    elim (p x) as (λ b. length (cond b (x ∷ filter p xs) (filter p xs)) ≡ suc (length xs) → cond b (x ∷ filter p xs) (filter p xs) ≡ x ∷ xs) [
+    elim (p x) as (λ b. length (cond b (x ∷ filter p xs) (filter p xs)) ≡ suc (length xs)
+    → cond b (x ∷ filter p xs) (filter p xs) ≡ x ∷ xs) [
       | true ↦ λ h. ap (λ ys. x ∷ ys) (filter_full p xs (omega arith))
       | false ↦ λ h. absurd (omega arith)
     ] e

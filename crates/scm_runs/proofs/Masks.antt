@@ -7,7 +7,8 @@ use Rattle.std.specs.Int.{bit_at}
 use Rattle.scm_model.specs.declared.flat.Principal.{Principal}
 use Rattle.scm_model.specs.declared.flat.Principal.TheVariants.{Admin, User}
 use Rattle.scm_model.specs.declared.codes.TheConstants.{MAXIMUM_ALLOWED}
-use Rattle.access_mask.specs.Granted.{chosen, connected, granted, granted_of, has_bits, is_allowed, map_generic, mapped, rights_of, without}
+use Rattle.access_mask.specs.Granted.{chosen, connected, granted, granted_of, is_allowed, map_generic, mapped, rights_of}
+use Rattle.scm_text.specs.Numbers.{has_bits, without_bits}
 
 or_within : (r a b : ℕ) → bit_and r a ≡ a → bit_and r b ≡ b → bit_and r (bit_or a b) ≡ bit_or a b
 or_within r a b ha hb = same_from_bits _ _ (λ i.
@@ -20,7 +21,7 @@ or_within r a b ha hb = same_from_bits _ _ (λ i.
     omega arith)
 
 -- a mask without that bit stays as it is
-no_maximum : (mask : ℕ) → mask < 2 ^ 32 → has_bits mask MAXIMUM_ALLOWED ≡ false → without mask MAXIMUM_ALLOWED ≡ mask
+no_maximum : (mask : ℕ) → mask < 2 ^ 32 → has_bits mask MAXIMUM_ALLOWED ≡ false → without_bits mask MAXIMUM_ALLOWED ≡ mask
 no_maximum mask small lacks =
     let parts = and-not 32 0x02000000 mask (omega arith) small in
     let bit = and_pow mask 25 in
@@ -36,7 +37,7 @@ mapped_small desired generic mapping small =
     elim (has_bits desired generic) as (λ b. cond b mapping 0 < 2 ^ 32) [ true ↦ small | false ↦ omega arith ]
 
 parts_small : (read write execute everything desired : ℕ) → read < 2 ^ 32 → write < 2 ^ 32 → execute < 2 ^ 32 → everything < 2 ^ 32
-    → bit_or (without desired 0xF0000000) (bit_or (mapped desired 0x80000000 read) (bit_or (mapped desired 0x40000000 write)
+    → bit_or (without_bits desired 0xF0000000) (bit_or (mapped desired 0x80000000 read) (bit_or (mapped desired 0x40000000 write)
     (bit_or (mapped desired 0x20000000 execute) (mapped desired 0x10000000 everything)))) < 2 ^ 32
 parts_small read write execute everything desired r w x e =
     let low : bit_and desired 0x0FFFFFFF < 2 ^ 32 = (let t = and_le_r desired 0x0FFFFFFF in omega arith) in
@@ -54,7 +55,7 @@ chosen_within mask rights small own allowed =
     → bit_and rights (cond b rights mask) ≡ cond b rights mask) [
       | true ↦ λ e. own
       | false ↦ λ e. subst (λ m. bit_and rights m ≡ m) (no_maximum mask small e)
-          (eqb-true (bit_and rights (without mask MAXIMUM_ALLOWED)) (without mask MAXIMUM_ALLOWED) allowed)
+          (eqb-true (bit_and rights (without_bits mask MAXIMUM_ALLOWED)) (without_bits mask MAXIMUM_ALLOWED) allowed)
     ] refl
 
 connected_within : (manager : Bool) (mask rights : ℕ) → bit_and rights mask ≡ mask → (manager ≡ true → bit_and rights 1 ≡ 1)

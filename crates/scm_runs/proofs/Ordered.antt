@@ -7,11 +7,12 @@ use Rattle.scm_model.specs.declared.flat.Flat.{Flat}
 use Rattle.scm_model.specs.declared.flat.Need.{Need}
 use Rattle.scm_model.specs.declared.flat.Service.{Service}
 use Rattle.scm_model.specs.declared.flat.NeedRow.{NeedRow}
-use Rattle.scm_model.specs.Needs.{has, is_met, met_by, met_by_all, needs_of, numbers_of}
-use Rattle.scm_model.specs.Order.{explore, runs_in, noted, try_all}
+use Rattle.scm_model.specs.Needs.{is_met, met_by, met_by_all, needs_of, numbers_of}
+use Rattle.scm_model.specs.Order.{explore, runs_in, visited, try_all}
 use Rattle.scm_model.specs.Ready.{state_of}
 use Rattle.scm_rules.specs.Needs.{need_rows, start_order}
 use Rattle.scm_runs.proofs.Plans.{AreBelow}
+use Rattle.scm_text.specs.Numbers.{has}
 
 below_append : (bound : ℕ) (xs ys : List ℕ) → AreBelow bound xs → AreBelow bound ys → AreBelow bound (xs ++ ys)
 below_append bound [] ys first rest = rest
@@ -30,7 +31,7 @@ below_met bound rows [] all = tt
 below_met bound rows (need ∷ needs) all = below_append bound (met_by rows need) (met_by_all rows needs)
     (below_filter bound (is_met need) rows all) (below_met bound rows needs all)
 
-below_noted : (bound : ℕ) (done : List ℕ) (number : ℕ) → AreBelow bound done → number < bound → AreBelow bound (noted done number)
+below_noted : (bound : ℕ) (done : List ℕ) (number : ℕ) → AreBelow bound done → number < bound → AreBelow bound (visited done number)
 below_noted bound done number all lt =
     elim (has done number) as (λ b. AreBelow bound (cond b done (done ++ number ∷ []))) [
       | true ↦ all
@@ -46,7 +47,8 @@ below_all : (bound : ℕ) (go : List ℕ → ℕ → Option (List ℕ)) → Goes
     → try_all go done numbers ≡ Some end → AreBelow bound done → AreBelow bound end
 below_all bound go one done [] end small e all = (let same : done ≡ end = cc in subst (AreBelow bound) same all)
 below_all bound go one done (number ∷ numbers) end small e all =
-    elim (go done number) as (λ o. go done number ≡ o → option_and_then (λ more. try_all go more numbers) o ≡ Some end → AreBelow bound end) [
+    elim (go done number) as (λ o. go done number ≡ o → option_and_then (λ more. try_all go more numbers) o ≡ Some end
+    → AreBelow bound end) [
       | None ↦ λ g h. absurd cc
       | Some more ↦ λ g h. below_all bound go one more numbers end small.1 h (one done number more small.0 g all)
     ] refl e
@@ -61,14 +63,14 @@ goes_below needs skipped bound zero small done number end lt e all =
     [ true ↦ λ h. below_same bound done end h all | false ↦ λ h. absurd cc ] e
 goes_below needs skipped bound (suc depth) small done number end lt e all =
     elim (skipped number || has done number) as (λ b. cond b (Some done)
-    (option_and_then (λ before. Some (noted before number)) (try_all (explore needs skipped depth) done (needs number))) ≡ Some end
+    (option_and_then (λ before. Some (visited before number)) (try_all (explore needs skipped depth) done (needs number))) ≡ Some end
     → AreBelow bound end) [
       | true ↦ λ h. below_same bound done end h all
       | false ↦ elim (try_all (explore needs skipped depth) done (needs number)) as (λ o. try_all (explore needs skipped depth) done
-          (needs number) ≡ o → option_and_then (λ before. Some (noted before number)) o ≡ Some end → AreBelow bound end) [
+          (needs number) ≡ o → option_and_then (λ before. Some (visited before number)) o ≡ Some end → AreBelow bound end) [
             | None ↦ λ g h. absurd cc
             | Some before ↦ λ g h.
-                below_same bound (noted before number) end h
+                below_same bound (visited before number) end h
                 (below_noted bound before number (below_all bound (explore needs skipped depth)
                 (goes_below needs skipped bound depth small) done (needs number) before (small number) g all) lt)
           ] refl

@@ -6,7 +6,7 @@ use Rattle.scm_model.specs.Refused.{zero_process_status}
 use Rattle.std.specs.Prelude.{All, AllPairs, nat_le, nat_lt}
 use Rattle.std.proofs.lemmas.List.Elements.{All-append, All-cons, All-filter, All-head, All-map, All-nil, All-tail, filter_passes}
 use Rattle.std.proofs.lemmas.List.Kept.{AllPairs-cons, AllPairs-filter}
-use Rattle.scm_model.specs.Notices.{Event, notified, put_in, taken_if}
+use Rattle.scm_model.specs.Notices.{Event, notified, put_in, taken_once}
 use Rattle.scm_model.specs.declared.flat.Caller.{Caller}
 use Rattle.scm_model.specs.declared.flat.Registration.{Registration}
 use Rattle.scm_rules.specs.Valid.{AreApart, HasShortName}
@@ -119,12 +119,12 @@ abbrev emptied : Registration → Registration
 emptied row = record row { fired = 0; status = zero_process_status; name = []; spent = true }
 
 pub taken_or : (P : Registration → Type 0) (number : ℕ) (row : Registration)
-    → ((row.number == number && not (row.fired == 0)) ≡ true → P (emptied row)) → P row → P (taken_if number row)
+    → ((row.number == number && not (row.fired == 0)) ≡ true → P (emptied row)) → P row → P (taken_once number row)
 taken_or P number row takes stays =
     elim (row.number == number && not (row.fired == 0)) as (λ b. (row.number == number && not (row.fired == 0)) ≡ b
     → P (cond b (emptied row) row)) [ true ↦ takes | false ↦ λ e. stays ] refl
 
-takes_slightly : (number : ℕ) → IsSlight (taken_if number)
+takes_slightly : (number : ℕ) → IsSlight (taken_once number)
 takes_slightly number = record {
   number = λ row. taken_or (λ new. new.number ≡ row.number) number row (λ e. refl) refl;
   caller = λ row. taken_or (λ new. new.caller ≡ row.caller) number row (λ e. refl) refl;
@@ -132,8 +132,8 @@ takes_slightly number = record {
 }
 
 pub result_taken : (next number : ℕ) (callers : List Caller) (rows : List Registration) → AreRegistered next callers rows
-    → AreRegistered next callers (map (taken_if number) rows)
-result_taken next number callers rows s = slightly next callers (taken_if number) rows (takes_slightly number) s
+    → AreRegistered next callers (map (taken_once number) rows)
+result_taken next number callers rows s = slightly next callers (taken_once number) rows (takes_slightly number) s
 
 -- ## Fewer, and one more
 

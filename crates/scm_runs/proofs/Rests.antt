@@ -15,7 +15,7 @@ use Rattle.scm_model.specs.Purge.{leaves, purged}
 use Rattle.scm_model.specs.Rows.{service_of}
 use Rattle.start_plan.specs.Decided.{code_of, is_numbered}
 use Rattle.start_plan.specs.Entered.{wanted_process}
-use Rattle.start_plan.specs.Moves.{entering_at, has, is_full, is_pending, move_by, move_of}
+use Rattle.start_plan.specs.Moves.{entering_at, is_full, is_pending, move_by, move_of}
 use Rattle.scm_model.specs.Ready.{is_ready}
 use Rattle.start_plan.specs.Settle.{move_code, dropped, is_due_still, moved, settle_all, settle_entries, settle_plan, settled, stays}
 use Rattle.start_plan.specs.Settle.{tidied}
@@ -24,36 +24,16 @@ use Rattle.start_plan.specs.declared.settling.Move.TheVariants as moves
 use Rattle.start_plan.proofs.Enterings.{all_units}
 use Rattle.start_plan.proofs.Keeps.{Keeps, all_filter, keeps_all}
 use Rattle.start_plan.proofs.Rests.{settled_twice}
+pub use Rattle.start_plan.proofs.Rests.{all_still, entries_still}
+pub use Rattle.start_plan.specs.Resting.{Rests, RestsAt}
 use Rattle.scm_rules.specs.Steps.{finished, left_by}
 use Rattle.scm_runs.proofs.Deadlines.{AreStill}
 use Rattle.scm_runs.proofs.Plans.{all_weaker}
 use Rattle.scm_runs.proofs.Starts.{all_fulfilled}
 use Rattle.scm_runs.proofs.Lists.{filter_full}
-
--- a plan that is decided, has no entry left, or waits
-abbrev pub RestsAt : Limits → Flat → Plan → List ℕ → Type 0
-RestsAt l f plan [] = Unit {0}
-RestsAt l f plan (x ∷ xs) = move_of l f plan.tried x ≡ moves.Waits
-
-abbrev pub Rests : Limits → Flat → Plan → Type 0
-Rests l f plan = (is_some plan.code ≡ true) ⊎ RestsAt l f plan plan.entries
+use Rattle.scm_text.specs.Numbers.{has}
 
 -- ## What settling doesn't change rests
-
-pub entries_still : (l : Limits) (f : Flat) (plan : Plan) (entries : List ℕ) → (is_some plan.code ≡ true) ⊎ RestsAt l f plan entries
-    → settle_entries l f plan entries ≡ (f, plan)
-entries_still l f plan [] rests = refl
-entries_still l f plan (x ∷ xs) (inl decided) = rw decided refl
-entries_still l f plan (x ∷ xs) (inr waits) =
-    elim (is_some plan.code) as (λ b. cond b (f, plan) (moved f plan x (settle_entries l f
-    (dropped plan x xs (move_code (move_of l f plan.tried x))) xs) (move_of l f plan.tried x)) ≡ (f, plan)) [
-      | true ↦ refl
-      | false ↦ rw waits refl
-    ]
-
-pub all_still : (l : Limits) (f : Flat) (plans : List Plan) → AllByRecursion (Rests l f) plans → settle_all l f plans ≡ (f, plans)
-all_still l f [] rests = refl
-all_still l f (plan ∷ plans) rests = rw (entries_still l f plan plan.entries rests.0, all_still l f plans rests.1) refl
 
 -- processes become no fewer
 more_processes : (l : Limits) (n : ℕ) → Keeps l (λ (f : Flat). n ≤ length f.processes) (λ plan. Unit {0})

@@ -13,9 +13,11 @@ use Rattle.scm_model.specs.declared.codes.TheConstants.{SERVICE_CONTROL_STOP}
 use Rattle.scm_model.specs.declared.flat.Flat.{Flat}
 use Rattle.scm_model.specs.declared.flat.HandleKind.{HandleKind}
 use Rattle.scm_model.specs.declared.flat.HandleKind.TheVariants as kinds
+use Rattle.scm_model.specs.declared.flat.HandleRow.{HandleRow}
 use Rattle.scm_model.specs.declared.flat.Limits.{Limits}
 use Rattle.scm_model.specs.declared.flat.LockRow.{LockRow}
 use Rattle.scm_model.specs.declared.flat.Plan.{Plan}
+use Rattle.scm_model.specs.declared.flat.Order.{Order}
 use Rattle.scm_model.specs.declared.flat.Process.{Process}
 use Rattle.scm_model.specs.declared.flat.Principal.{Principal}
 use Rattle.scm_model.specs.declared.flat.Registration.{Registration}
@@ -34,7 +36,7 @@ use Rattle.scm_runs.proofs.Told.{IsNamed, IsProper, all_named, fall_tells, leavi
 use Rattle.database_lock.specs.Locking.{unlocked}
 use Rattle.service_record.specs.Checks.{check_new}
 use Rattle.start_plan.specs.Decided.{aims_at, is_callers, is_numbered, decided_in}
-use Rattle.scm_rules.specs.Controls.{controlled_if, dequeued_if, with_control, with_control_taken}
+use Rattle.scm_rules.specs.Controls.{controlled_if, dequeued_if, order_to, with_control, with_control_taken}
 use Rattle.scm_rules.specs.Launches.{is_launched, launch_failed, launch_taken, launched, process_of, service_of_process}
 use Rattle.scm_rules.specs.Locks.{lock_done, unlock_done}
 use Rattle.scm_rules.specs.Opening.{CanOpen, IsOpening, automatic_starts, opening, services_from, starts_from}
@@ -134,16 +136,21 @@ opened l groups configs moment can = record {
 pub begun : (l : Limits) (f : Flat) → IsOpening l f → Sound f
 begun l f o = subst Sound (sym o.is) (opened l o.groups o.configs o.moment o.can)
 
-pub moved : (f : Flat) (moment : ℕ) → Sound f → Sound (with_moment f moment)
-moved f moment s = record {
+-- another moment, other reboots and other registrations
+anew : (f : Flat) (moment reboots next : ℕ) (rows : List Registration) → AreRegistered next f.callers rows → Sound f
+    → Sound (record f { registrations = rows; moment = moment; next = record f.next { registration = next }; reboots = reboots })
+anew f moment reboots next rows told s = record {
   services = s.services;
   handles = s.handles;
   processes = s.processes;
   plans = s.plans;
   dues = s.dues;
   deadlines = s.deadlines;
-  registrations = s.registrations;
+  registrations = told;
 }
+
+pub moved : (f : Flat) (moment : ℕ) → Sound f → Sound (with_moment f moment)
+moved f moment s = anew f (with_moment f moment).moment f.reboots f.next.registration f.registrations s.registrations s
 
 -- its services have numbers and short names
 pub are_named : (f : Flat) → Sound f → All IsNamed f.services
@@ -154,28 +161,14 @@ are_named f s = all_named f.next.service f.next.process f.services s.services
 -- other registrations
 pub retold : (f : Flat) (rows : List Registration) → AreRegistered f.next.registration f.callers rows → Sound f
     → Sound (record f { registrations = rows })
-retold f rows told s = record {
-  services = s.services;
-  handles = s.handles;
-  processes = s.processes;
-  plans = s.plans;
-  dues = s.dues;
-  deadlines = s.deadlines;
-  registrations = told;
-}
+retold f rows told s = anew f f.moment f.reboots f.next.registration rows told s
 
 -- one more, with the next number
 pub watching : (f : Flat) (row : Registration) → row.number ≡ f.next.registration → IsOfCaller f.callers row → HasShortName row → Sound f
     → Sound (with_registration f row)
-watching f row number there short s = record {
-  services = s.services;
-  handles = s.handles;
-  processes = s.processes;
-  plans = s.plans;
-  dues = s.dues;
-  deadlines = s.deadlines;
-  registrations = one_registered f.next.registration f.callers row f.registrations number there short s.registrations;
-}
+watching f row number there short s =
+    anew f f.moment f.reboots (f.next.registration + 1) (with_registration f row).registrations
+    (one_registered f.next.registration f.callers row f.registrations number there short s.registrations) s
 
 -- an event of a service or of the manager
 pub told : (f : Flat) (event : Event) → IsProper event → Sound f → Sound (with_noted f event)
@@ -207,20 +200,27 @@ left f caller s = record {
   registrations = who_left f.next.registration f.callers caller f.registrations s.registrations;
 }
 
--- a handle more, and who then holds the lock
-given : (f : Flat) (held : Option LockRow) (caller : ℕ) (kind : HandleKind) (granted : ℕ) → Sound f → is_caller f caller ≡ true
-    → AreRights (principal_of f caller) kind granted
-    → Locked held (with_handle f caller kind granted).handles → Sound (with_handle (record f { lock = held }) caller kind granted)
-given f held caller kind granted s there rights lock = record {
+-- other handles
+held_anew : (f : Flat) (next : ℕ) (rows : List HandleRow) (held : Option LockRow) → AreHandled f.next.caller f.callers next rows held
+    → Sound f → Sound (record f { handles = rows; lock = held; next = record f.next { handle = next } })
+held_anew f next rows held handled s = record {
   services = s.services;
-  handles = handle_given f.next.caller f.callers f.next.handle f.handles f.lock held
-      (record { number = f.next.handle; caller = caller; kind = kind; granted = granted }) s.handles refl there rights lock;
+  handles = handled;
   processes = s.processes;
   plans = s.plans;
   dues = s.dues;
   deadlines = s.deadlines;
   registrations = s.registrations;
 }
+
+-- a handle more, and who then holds the lock
+given : (f : Flat) (held : Option LockRow) (caller : ℕ) (kind : HandleKind) (granted : ℕ) → Sound f → is_caller f caller ≡ true
+    → AreRights (principal_of f caller) kind granted
+    → Locked held (with_handle f caller kind granted).handles → Sound (with_handle (record f { lock = held }) caller kind granted)
+given f held caller kind granted s there rights lock =
+    held_anew f (f.next.handle + 1) (with_handle f caller kind granted).handles held
+    (handle_given f.next.caller f.callers f.next.handle f.handles f.lock held
+    (record { number = f.next.handle; caller = caller; kind = kind; granted = granted }) s.handles refl there rights lock) s
 
 pub handed : (f : Flat) (caller : ℕ) (kind : HandleKind) (granted : ℕ) → Sound f → is_caller f caller ≡ true
     → AreRights (principal_of f caller) kind granted → is_lock kind ≡ false
@@ -234,15 +234,9 @@ taken f caller s there free = given f _ caller kinds.Lock 0 s there refl
 
 -- a handle leaves, and the lock is free if it held it
 pub given_back : (f : Flat) (number : ℕ) → Sound f → Sound (unlock_done f number).flat
-given_back f number s = record {
-  services = s.services;
-  handles = handle_left f.next.caller f.callers f.next.handle f.handles f.lock number s.handles;
-  processes = s.processes;
-  plans = s.plans;
-  dues = s.dues;
-  deadlines = s.deadlines;
-  registrations = s.registrations;
-}
+given_back f number s =
+    held_anew f f.next.handle (without_handle f number).handles (unlock_done f number).flat.lock
+    (handle_left f.next.caller f.callers f.next.handle f.handles f.lock number s.handles) s
 
 pub closed : (f : Flat) (number : ℕ) → Sound f → unlocked f.lock number ≡ f.lock → Sound (without_handle f number)
 closed f number s same = subst (λ (held : Option LockRow). Sound (without_handle (record f { lock = held }) number)) same
@@ -531,19 +525,19 @@ of_controls f change only s = record {
   registrations = s.registrations;
 }
 
-pub controls_more : (limit number code : ℕ) → IsOfControls (controlled_if limit number code)
-controls_more limit number code row =
+pub controls_more : (limit number : ℕ) (order : Order) → IsOfControls (controlled_if limit number order)
+controls_more limit number order row =
     elim (row.number == number && nat_lt (length row.controls) limit) as (λ b. cond b
-    (record row { controls = row.controls ++ code ∷ [] }) row
-    ≡ record row { controls = (cond b (record row { controls = row.controls ++ code ∷ [] }) row).controls }) [ true ↦ refl | false ↦ refl ]
+    (record row { controls = row.controls ++ order ∷ [] }) row
+    ≡ record row { controls = (cond b (record row { controls = row.controls ++ order ∷ [] }) row).controls }) [ true ↦ refl | false ↦ refl ]
 
 pub controls_fewer : (number : ℕ) → IsOfControls (dequeued_if number)
 controls_fewer number row =
     elim (row.number == number) as (λ b. cond b (record row { controls = drop 1 row.controls }) row ≡
     record row { controls = (cond b (record row { controls = drop 1 row.controls }) row).controls }) [ true ↦ refl | false ↦ refl ]
 
-pub control_waits : (l : Limits) (f : Flat) (number code : ℕ) → Sound f → Sound (with_control l f number code)
-control_waits l f number code s = of_controls f (controlled_if l.controls number code) (controls_more l.controls number code) s
+pub control_waits : (l : Limits) (f : Flat) (number : ℕ) (order : Order) → Sound f → Sound (with_control l f number order)
+control_waits l f number order s = of_controls f (controlled_if l.controls number order) (controls_more l.controls number order) s
 
 -- ## Starts and commands that begin unasked
 
@@ -560,16 +554,7 @@ command_begins f command s = record {
 }
 
 pub rebooted : (f : Flat) → Sound f → Sound (with_reboot f)
-rebooted f s =
-    record {
-      services = s.services;
-      handles = s.handles;
-      processes = s.processes;
-      plans = s.plans;
-      dues = s.dues;
-      deadlines = s.deadlines;
-      registrations = s.registrations;
-    }
+rebooted f s = anew f f.moment (with_reboot f).reboots f.next.registration f.registrations s.registrations s
 
 -- a start that no caller asks for
 pub start_begins : (f : Flat) (row : Service) → Contains f.services row → Sound f → Sound (with_start 0 [] row f)
@@ -589,8 +574,7 @@ due l f s = ticked_by Sound l (record {
 pub triggers : (l : Limits) (f : Flat) (caller : ℕ) (subtype : List ℕ) → Sound f → Sound (raised l f caller subtype)
 triggers l f caller subtype s = raised_by Sound l subtype (record {
   starts = λ g row there can t. start_begins g row there t;
-  stops = λ g row action there is stops gets t. of_controls g (controlled_if l.controls row.process SERVICE_CONTROL_STOP)
-      (controls_more l.controls row.process SERVICE_CONTROL_STOP) t;
+  stops = λ g row action there is stops gets t. control_waits l g row.process (order_to row.number SERVICE_CONTROL_STOP) t;
 }) f caller s
 
 pub control_sent : (f : Flat) (number : ℕ) → Sound f → Sound (with_control_taken f number)

@@ -126,7 +126,7 @@ old_effect : (l : Limits) (f : Flat) (moment : ℕ) (step : Step) → All (HasOl
     (effect_of l (at_moment f moment step) step).flat.services
 old_effect l f moment (Call caller asked append) = old_call l (with_moment f moment) caller asked append
 old_effect l f moment (LaunchFailed process code) = old_fallen f process code
-old_effect l f moment (Report process status) =
+old_effect l f moment (Report process service status) =
     failing_rows (HasOld f.services) (λ row failures last has. has) (failed_by status (current_of (with_moment f moment) process)) _
     (old_reported f process status)
 old_effect l f moment (Ended process) =

@@ -16,7 +16,7 @@ use Rattle.scm_model.specs.Rows.{service_of}
 use Rattle.scm_model.proofs.Found.{found_keeps}
 use Rattle.start_plan.specs.Decided.{decided_in, is_numbered}
 use Rattle.start_triggers.specs.Triggers.{matching}
-use Rattle.scm_rules.specs.Controls.{controlled_if}
+use Rattle.scm_rules.specs.Controls.{controlled_if, order_to}
 use Rattle.scm_rules.specs.Due.{next_due}
 use Rattle.scm_rules.specs.Raise.{all_triggered, gets_stop, raise_verdict, raised, triggered, with_stop}
 use Rattle.scm_rules.specs.Start.{with_start}
@@ -89,7 +89,7 @@ pub record Raises (P : Flat → Type 0) (l : Limits) (subtype : List ℕ) : Type
   pub stops : (f : Flat) (row : Service) (action : ℕ) → Contains f.services row → matching row.config subtype ≡ Some action
       → (action == SERVICE_TRIGGER_ACTION_SERVICE_START) ≡ false
       → gets_stop l f row ≡ true → P f → P (record f {
-        processes = map (controlled_if l.controls row.process SERVICE_CONTROL_STOP)
+        processes = map (controlled_if l.controls row.process (order_to row.number SERVICE_CONTROL_STOP))
             f.processes;
       })
 
@@ -98,7 +98,7 @@ stop_keeps : (P : Flat → Type 0) (l : Limits) (subtype : List ℕ) → Raises 
     → (action == SERVICE_TRIGGER_ACTION_SERVICE_START) ≡ false → P f → P (with_stop l row f)
 stop_keeps P l subtype k f row action there is stops p =
     elim (gets_stop l f row) as (λ b. gets_stop l f row ≡ b → P (cond b
-    (record f { processes = map (controlled_if l.controls row.process SERVICE_CONTROL_STOP) f.processes }) f))
+    (record f { processes = map (controlled_if l.controls row.process (order_to row.number SERVICE_CONTROL_STOP)) f.processes }) f))
     [ true ↦ λ gets. k.stops f row action there is stops gets p | false ↦ λ refused. p ] refl
 
 triggered_keeps : (P : Flat → Type 0) (l : Limits) (subtype : List ℕ) → Raises P l subtype → (f : Flat) (row : Service) (action : ℕ)
@@ -178,7 +178,7 @@ raise_begins l f subtype = record {
   starts = λ g row there can e. start_begins f g row e;
   stops = λ g row action there is stops gets e. ap (λ (h : Flat). record h {
     processes =
-        map (controlled_if l.controls row.process SERVICE_CONTROL_STOP) g.processes;
+        map (controlled_if l.controls row.process (order_to row.number SERVICE_CONTROL_STOP)) g.processes;
   }) e;
 }
 

@@ -6,7 +6,7 @@ use Rattle.scm_model.specs.declared.flat.Plan.{Plan}
 use Rattle.scm_model.specs.declared.flat.Service.{Service}
 use Rattle.scm_model.specs.declared.steps.Answer.{Answer}
 use Rattle.scm_model.specs.Entries.{Entry}
-use Rattle.start_plan.specs.Moves.{has}
+use Rattle.scm_text.specs.Numbers.{has}
 
 -- a plan that is undecided has tried a service, and had not tried it before
 pub record TriesAnew (befores : List Plan) (service : ℕ) (plan : Plan) : Type 0 where

@@ -14,9 +14,10 @@ use Rattle.scm_model.specs.declared.steps.Answer.{Answer}
 use Rattle.scm_model.specs.declared.steps.Step.{Step}
 use Rattle.scm_model.specs.declared.steps.Step.TheVariants.{Gone}
 use Rattle.scm_model.specs.Rows.{principal_of}
-use Rattle.access_mask.specs.Granted.{has_bits, rights_of}
+use Rattle.access_mask.specs.Granted.{rights_of}
 use Rattle.scm_model.specs.Entries.{Entry}
 use Rattle.scm_rules.specs.Valid.{AreNumbered}
+use Rattle.scm_text.specs.Numbers.{has_bits}
 
 -- a mask has only rights that the principal can have on what the handle is of; other handles have none
 abbrev pub AreRights : Principal → HandleKind → ℕ → Type 0

@@ -85,15 +85,15 @@ configures f (Call caller (request.Change2 handle asked) append) told number = s
 configures f step told number = false
 
 -- whether a step is a report of the service's current process, its own or by a call
-abbrev pub reports : Flat → Step → Service → Bool
-reports f (Report process status) row = row.process == process
-reports f (Call caller (request.SetStatus handle status) append) row = is_process_of (held_service f caller handle) row.process
-reports f step row = false
+abbrev pub is_report : Flat → Step → Service → Bool
+is_report f (Report process service status) row = row.process == process
+is_report f (Call caller (request.SetStatus handle status) append) row = is_process_of (held_service f caller handle) row.process
+is_report f step row = false
 
 -- whether a step is a failure of the service: its current process ends, or a report that counts as one stops it, its own or by a call
 abbrev pub fails : Flat → Step → Service → Bool
 fails f (Ended process) row = row.process == process
-fails f (Report process status) row = row.process == process && is_failure status row
+fails f (Report process service status) row = row.process == process && is_failure status row
 fails f (Call caller (request.SetStatus handle status) append) row = is_process_of (held_service f caller handle) row.process
     && is_failure status row
 fails f step row = false
@@ -110,7 +110,7 @@ pub record IsSameService (f : Flat) (step : Step) (told : Answer) (old new : Ser
     last_failure = new.last_failure;
     marked = old.marked || marks f step told old.number;
   }
-  pub state : new.process ≡ old.process → reports f step old ≡ false → new.status ≡ record old.status { kind = new.status.kind }
+  pub state : new.process ≡ old.process → is_report f step old ≡ false → new.status ≡ record old.status { kind = new.status.kind }
   pub config : configures f step told old.number ≡ false → (new.config ≡ old.config) × (new.status.kind ≡ old.status.kind)
   pub name : new.config.name ≡ old.config.name
   pub failures : fails f step old ≡ false → (new.failures ≡ old.failures) × (new.last_failure ≡ old.last_failure)

@@ -1,4 +1,4 @@
--- How long texts are that are told.
+-- The sizes of the texts that replies return.
 use Rattle.std.specs.Prelude.{ℕ, ◌≡◌, ◌+◌, ◌*◌, codes, length, Some}
 use Rattle.scm_model.specs.declared.flat.Config.{Config}
 use Rattle.scm_model.specs.declared.flat.Service.{Service}
@@ -15,7 +15,7 @@ config_bytes config =
     + 2 * (length (codes "LocalSystem") + 1)
     + 2 * (length config.display + 1)
 
--- every size that is told of a service is the true one: none reaches the greatest number
+-- every size that a reply returns of a service is the true one: none reaches the greatest number
 pub record IsToldWhole (row : Service) : Type 0 where
   pub config : shown_size (shown_of row.config) ≡ config_bytes row.config
   pub name : units_of (name_in (Some row)) ≡ length row.config.name

@@ -26,8 +26,9 @@ pub fn law_of_states(limits: &Limits, steps: &Items<(u64, Step)>, opening: &Flat
     ensures { IsValid limits.now (state limits.now opening.now steps.now) }
 {}
 
-/// The law of sizes: in every state that a run ends in, the sizes that are told of configurations
-/// and names are those of their texts: no text is so long that a `u32` would not hold its size.
+/// The law of sizes: in every state that a run ends in, the sizes that replies return of
+/// configurations and names are those of their texts: no text is so long that a `u32` would not
+/// hold its size.
 pub fn law_of_sizes(limits: &Limits, steps: &Items<(u64, Step)>, opening: &Flat)
     requires begins { IsOpening limits.now opening.now }
     requires legal { IsLegal limits.now opening.now steps.now }
@@ -73,7 +74,7 @@ pub fn law_of_plans(limits: &Limits, steps: &Items<(u64, Step)>, opening: &Flat)
     ensures entered { EachStep LawOfEntering limits.now opening.now steps.now }
 {}
 
-/// The law of histories: the state that a history ends in and what its entries are told, in terms
+/// The law of histories: the state that a history ends in and the answers to its entries, in terms
 /// of the step, from any state: so neither need be opened.
 pub fn law_of_histories(limits: &Limits, first: &Flat)
     ensures states { LawOfStates limits.now first.now }

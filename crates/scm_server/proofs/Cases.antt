@@ -1,5 +1,5 @@
 -- What becomes of a connection: the first case from a join that was refused, the second from a caller's pass that was spent.
-use Rattle.std.proofs.Common.{◌≡◌, ◌≢◌, ◌∙◌, ℕ, true, false, List, [], ◌∷◌, ◌++◌, length, map, Option, None, Some, refl, sym, ap, subst}
+use Rattle.std.proofs.Common.{◌≡◌, ◌≢◌, ◌⊎◌, ◌∙◌, ℕ, true, false, List, [], ◌∷◌, ◌++◌, length, map, Option, None, Some, refl, sym, ap, subst}
 use Rattle.std.proofs.Common.{inl, inr, eq-eqb}
 use Rattle.std.specs.Prelude.{IfSome}
 use Rattle.std.proofs.lemmas.List.Elements.{All-cons}
@@ -26,20 +26,21 @@ use Rattle.book_rule.proofs.Places.{has_left}
 use Rattle.book_rule.proofs.Prefixes.{prefix_self, prefix_snoc, prefix_trans}
 use Rattle.scm_book.specs.declared.answers.JoinFault.{JoinFault}
 use Rattle.scm_book.specs.declared.answers.JoinFault.TheVariants as joins
-use Rattle.scm_book.specs.Joins.{JoinCause, Joins, Watches, fresh}
-use Rattle.scm_book.specs.Passes.{Known, Made}
+use Rattle.scm_book.specs.Joins.{JoinCause, Joins, Watches, fresh, has_place}
+use Rattle.scm_book.specs.Passes.{Known, Made, room_behind}
 use Rattle.conn_desk.specs.declared.served.Served.{Served}
 use Rattle.conn_desk.specs.declared.served.Served.TheVariants as served
 use Rattle.conn_desk.specs.Bodies.{asked}
 use Rattle.conn_desk.specs.Connection.{IsServedFor, Reached}
 use Rattle.conn_worker.specs.Connecting.{Connects, HasNoRoomFor}
-use Rattle.conn_worker.specs.Owning.{FoundRoom, HadRoom, Owns, StandAt, unowed_places}
+use Rattle.conn_worker.specs.Owning.{StepsHadRoom, HadRoom, Owns, StandAt, unowed_places}
 use Rattle.conn_worker.specs.Serving.{step_for}
 use Rattle.conn_worker.proofs.Owning.{found_behind, had_behind, had_room}
+use Rattle.conn_worker.proofs.Reaching.{reached_as}
 use Rattle.scm_listener.specs.Connections.{PastConnection}
 use Rattle.scm_server.specs.Handling.{Handed, HasNoRoomBehind, IsHandledAs, JoinedBehind, NamedOnlyAt, StandsForIt, WasRefused}
 use Rattle.scm_server.specs.Handling.{is_without_memory, wants_memory}
-use Rattle.scm_server.specs.Pairs.{IsRising}
+use Rattle.scm_server.specs.Pairs.{Ascends}
 use Rattle.scm_server.specs.Works.{HasJoined, IsDone, Out}
 use Rattle.scm_server.proofs.Chains.{Goes, goes_on, of_chain, of_left, rises}
 use Rattle.scm_server.proofs.Named.{are_named}
@@ -95,32 +96,31 @@ module _ (tells : ℕ → Type 0) (o : Opening) (begins : IsOpening o.limits o.f
 
 -- ## Refused
 
+refused_for : (o : Opening) (principal : Principal) (seen : List Entry) (given began : Option (List ℕ)) (past : PastConnection)
+    → (has_place o seen ≡ false) ⊎ (room_behind o seen (Joined principal) ≡ false) → IfSome began (λ bytes. bytes ≡ [])
+    → past.left ≡ given → past.written ≡ began → past.read_faults ≡ 0 → past.write_faults ≡ 0
+    → WasRefused o seen principal (record { given = given; began = began; past = past; caller = None })
+refused_for o principal seen given began past cause fresh left written reads writes = record {
+  fresh = fresh;
+  unread = left;
+  unwritten = written;
+  no_read_fault = reads;
+  no_write_fault = writes;
+  front = seen;
+  within = prefix_self seen;
+  cause = cause;
+}
+
 pub refused_by : (tells : ℕ → Type 0) (o : Opening) (principal : Principal) (by by' : Known) (given began : Option (List ℕ))
     (past : PastConnection) (fault : JoinFault)
     → Watches o by by' → JoinCause o by' principal fault → IfSome began (λ bytes. bytes ≡ []) → past.left ≡ given → past.written ≡ began
     → past.read_faults ≡ 0 → past.write_faults ≡ 0
     → is_without_memory fault ≡ false → WasRefused o by'.seen principal
     (record { given = given; began = began; past = past; caller = None })
-refused_by tells o principal by by' given began past joins.TooMany watches cause fresh left written reads writes short = record {
-  fresh = fresh;
-  unread = left;
-  unwritten = written;
-  no_read_fault = reads;
-  no_write_fault = writes;
-  front = by'.seen;
-  within = prefix_self by'.seen;
-  cause = inl cause;
-}
-refused_by tells o principal by by' given began past joins.Full watches cause fresh left written reads writes short = record {
-  fresh = fresh;
-  unread = left;
-  unwritten = written;
-  no_read_fault = reads;
-  no_write_fault = writes;
-  front = by'.seen;
-  within = prefix_self by'.seen;
-  cause = inr cause.1;
-}
+refused_by tells o principal by by' given began past joins.TooMany watches cause fresh left written reads writes short =
+    refused_for o principal by'.seen given began past (inl cause) fresh left written reads writes
+refused_by tells o principal by by' given began past joins.Full watches cause fresh left written reads writes short =
+    refused_for o principal by'.seen given began past (inr cause.1) fresh left written reads writes
 refused_by tells o principal by by' given began past joins.OutOfMemory watches cause fresh left written reads writes short = absurd cc
 
 -- ## Served
@@ -129,17 +129,9 @@ reached_behind : (o : Opening) (caller : ℕ) (how : Served) (k : Known) (read :
     (heard : List (Option Reply)) (written : List ℕ)
     → k.caller ≡ caller → Reached (HasNoRoomFor o) k how read left done heard written
     → Reached (HasNoRoomBehind o caller) k.seen how read left done heard written
-reached_behind o caller served.Full k read left done heard written same reached = (
-  reached.0,
-  record {
-    next = reached.1.next;
-    follows = reached.1.follows;
-    request = reached.1.request;
-    asks = reached.1.asks;
-    met = subst (λ (c : ℕ). HasNoRoomBehind o c k.seen reached.1.request) same reached.1.met;
-  },
-)
-reached_behind o caller how k read left done heard written same reached = reached
+reached_behind o caller how k read left done heard written same reached =
+    reached_as (HasNoRoomFor o) (HasNoRoomBehind o caller) k k.seen
+    (λ request none. subst (λ (c : ℕ). HasNoRoomBehind o c k.seen request) same none) how read left done heard written reached
 
 module _ (tells : ℕ → Type 0) (o : Opening) (begins : IsOpening o.limits o.first) (principal : Principal) (by mid p : Known) (moment : ℕ)
     (so : tells moment) (joins : Joins o by moment principal mid p) where
@@ -173,8 +165,8 @@ module _ (tells : ℕ → Type 0) (o : Opening) (begins : IsOpening o.limits o.f
       (sym made.own)
       (record { front = made.before; rest = []; is = made.seen; at = refl; told = made.answer }, tt)
 
-  one_rises : IsRising p.own
-  one_rises = subst IsRising (sym made.own) ((λ y none. absurd none), tt)
+  one_rises : Ascends p.own
+  one_rises = subst Ascends (sym made.own) ((λ y none. absurd none), tt)
 
   module _ (spent : Known) (given began : Option (List ℕ)) (past : PastConnection) (how : Served)
       (connects : Connects true tells o p spent given past.left began past.written how)
@@ -199,11 +191,11 @@ module _ (tells : ℕ → Type 0) (o : Opening) (begins : IsOpening o.limits o.f
         had_behind o p.seen spent.seen (length joins.made.made.before) (Joined principal) connects.adds.longer
         (had_room o (fresh by) p moment (Joined principal) (answers.Caller p.caller) joins.made.made (Joined principal) joins.made.room)
 
-    all_found : FoundRoom o spent.seen (unowed_places connects.stood.own
+    all_found : StepsHadRoom o spent.seen (unowed_places connects.stood.own
         (made_of (moment, Joined principal) (answers.Caller p.caller) ∷ connects.entries))
         (Joined principal ∷ map (step_for p.caller) (asked connects.done))
     all_found =
-        subst (λ (places : List ℕ). FoundRoom o spent.seen (unowed_places places
+        subst (λ (places : List ℕ). StepsHadRoom o spent.seen (unowed_places places
         (made_of (moment, Joined principal) (answers.Caller p.caller) ∷ connects.entries))
         (Joined principal ∷ map (step_for p.caller) (asked connects.done)))
         (sym (connects.own ∙ ap (λ (own : List ℕ). own ++ connects.places) joins.made.made.own)) (joining_found, connects.found)
@@ -265,7 +257,7 @@ module _ (tells : ℕ → Type 0) (o : Opening) (begins : IsOpening o.limits o.f
           stand = but_last o spent.seen connects.stood.own (length gone.before) (one ∷ connects.entries) last all_stand;
           goes = record { front = gone.before; rest = []; is = gone.seen; at = refl; told = gone.answer };
           found = all_found;
-          rising = subst IsRising gone.own (rises o connects.stood spent connects.moment (Gone p.caller) answers.Done gone
+          rising = subst Ascends gone.own (rises o connects.stood spent connects.moment (Gone p.caller) answers.Done gone
               (goes_stood.rising one_rises));
           ahead = gone.until.within;
           no_other = only some;

@@ -19,11 +19,11 @@ use Rattle.conn_desk.specs.Serves.{Leaves}
 use Rattle.conn_worker.specs.Serving.{IsServed}
 use Rattle.conn_worker.specs.Waiting.{Turns, Waits, WaitsOnce}
 use Rattle.conn_worker.proofs.Owning.{Lacked, want_made}
-use Rattle.scm_server.specs.Pairs.{IsRising}
+use Rattle.scm_server.specs.Pairs.{Ascends}
 use Rattle.scm_server.proofs.Lists.{pairwise_more}
 
 pub record Goes (k k' : Known) : Type 0 where
-  pub rising : IsRising k.own → IsRising k'.own
+  pub rising : Ascends k.own → Ascends k'.own
   pub caller : k'.caller ≡ k.caller
 
 pub goes_on : (k m k' : Known) → Goes k m → Goes m k' → Goes k k'
@@ -34,10 +34,10 @@ goes_same k k' same = subst (λ (x : Known). Goes k x) (sym same) (record { risi
 
 module _ (o : Opening) where
   -- the place of a step is behind all that the pass had
-  pub rises : (k k' : Known) (moment : ℕ) (step : Step) (told : Answer) → Made o k moment step told k' → IsRising k.own → IsRising k'.own
+  pub rises : (k k' : Known) (moment : ℕ) (step : Step) (told : Answer) → Made o k moment step told k' → Ascends k.own → Ascends k'.own
   rises k k' moment step told made rising =
       let n : length k.seen ≤ length made.before = prefix_length k.seen made.before made.longer in
-      subst IsRising (sym made.own)
+      subst Ascends (sym made.own)
       (pairwise_more (λ (a : ℕ) (b : ℕ). a < b) k.own (length made.before) rising
       (λ place has. let w : place < length k.seen = made.until.within place has in omega arith))
 
@@ -45,7 +45,7 @@ module _ (o : Opening) where
   goes_made k k' moment step told made caller = record { rising = rises k k' moment step told made; caller = caller }
 
   goes_learnt : (k k' : Known) → Learnt o k k' → Goes k k'
-  goes_learnt k k' learnt = record { rising = λ r. subst IsRising (sym learnt.own) r; caller = learnt.caller }
+  goes_learnt k k' learnt = record { rising = λ r. subst Ascends (sym learnt.own) r; caller = learnt.caller }
 
   of_turn : (k k' : Known) (moment : ℕ) → Turns true o k moment k' → Goes k k'
   of_turn k k' moment (inl (inl same)) = goes_same k k' same

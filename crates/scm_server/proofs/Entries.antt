@@ -1,6 +1,6 @@
 -- Entries of a history that goes on, and those that name a caller.
 use Rattle.std.proofs.Common.{◌≡◌, ◌∙◌, ◌||◌, ℕ, Bool, true, false, IsTrue, List, [], ◌∷◌, ◌++◌, Option, None, Some, refl, sym, ap, subst}
-use Rattle.std.proofs.Common.{inl, ⊎_elim, append_assoc, eq-eqb, eqb-true}
+use Rattle.std.proofs.Common.{inl, ⊎_elim, eq-eqb, eqb-true}
 use Rattle.std.specs.Prelude.{IfSome}
 use mathlib.Core.List.{IsPrefix}
 use Rattle.scm_model.specs.declared.flat.Flat.{Flat}
@@ -11,12 +11,12 @@ use Rattle.scm_model.specs.declared.steps.Name.TheVariants as names
 use Rattle.scm_model.specs.declared.steps.Step.TheVariants.{Gone}
 use Rattle.scm_model.specs.Entries.{Entry}
 use Rattle.scm_model.specs.Rows.{is_caller}
-use Rattle.scm_rules.specs.Histories.{Legal, answer, state}
+use Rattle.scm_rules.specs.Histories.{Legal, state}
 use Rattle.scm_rules.specs.Named.{caller_named, has_made, is_it, makes_caller, names_caller}
 use Rattle.scm_rules.specs.Opening.{IsOpening}
 use Rattle.scm_rules.specs.Runs.{IsLegal, run_state}
 use Rattle.scm_rules.specs.Steps.{step_of}
-use Rattle.scm_runs.proofs.Histories.{legal_made, made_front, may_behind, state_is, told}
+use Rattle.scm_runs.proofs.Histories.{legal_made, made_front, may_behind, state_is}
 use Rattle.scm_runs.proofs.Sound.{begun}
 use Rattle.scm_history.specs.Owned.{Made as Told, made_of}
 use Rattle.scm_history.proofs.Callers.{gone_for_good}
@@ -25,30 +25,11 @@ use Rattle.book_rule.specs.declared.view.Opening.{Opening}
 use Rattle.book_rule.specs.Ways.{Has}
 use Rattle.scm_book.specs.Naming.{caller_names}
 use Rattle.conn_worker.specs.Owning.{StandAt, StandsAt}
+use Rattle.conn_worker.proofs.Owning.{stay_at, stays_at}
 use Rattle.scm_server.specs.Handling.{NamedOnlyAt}
 use Rattle.scm_server.proofs.Lists.{Within, split_at}
 
 -- ## Places stay
-
-stays_at : (o : Opening) (log more : List Entry) (place : ℕ) (one : Told) → StandsAt o log place one → StandsAt o (log ++ more) place one
-stays_at o log more place one stands =
-    let l = o.limits in
-    let f = o.first in
-    let e = one.entry in
-    let whole : log ++ more ≡ stands.front ++ e ∷ (stands.rest ++ more) = ap (λ (es : List Entry). es ++ more) stands.is
-    ∙ append_assoc stands.front (e ∷ stands.rest) more in
-    let first : answer l f log place ≡ Some (step_of l (state l f stands.front) e.0 e.1).answer =
-    (λ i. answer l f (stands.is i) (stands.at i)) ∙ told l f stands.front e stands.rest in
-    let then : answer l f (log ++ more) place ≡ Some (step_of l (state l f stands.front) e.0 e.1).answer =
-    (λ i. answer l f (whole i) (stands.at i)) ∙ told l f stands.front e (stands.rest ++ more) in
-    record { front = stands.front; rest = stands.rest ++ more; is = whole; at = stands.at; told = then ∙ (sym first ∙ stands.told) }
-
-stay_at : (o : Opening) (log more : List Entry) (places : List ℕ) (own : List Told) → StandAt o log places own
-    → StandAt o (log ++ more) places own
-stay_at o log more [] [] stand = tt
-stay_at o log more (place ∷ places) (one ∷ own) stand = (stays_at o log more place one stand.0, stay_at o log more places own stand.1)
-stay_at o log more [] (one ∷ own) stand = absurd stand
-stay_at o log more (place ∷ places) [] stand = absurd stand
 
 pub stands_behind : (o : Opening) (log longer : List Entry) (place : ℕ) (one : Told) → IsPrefix log longer → StandsAt o log place one
     → StandsAt o longer place one

@@ -26,7 +26,7 @@ use Rattle.scm_listener.specs.declared.accepted.Numbered.{Numbered}
 use Rattle.scm_server.specs.Accepts.{EndsBy}
 use Rattle.scm_server.specs.Handling.{Handed, IsHandled, JoinedBehind, WasRefused, is_without_memory, wants_memory}
 use Rattle.scm_server.specs.Ports.{Apart, AreHandedOut, IsHandedOut, IsSentAt, ServesPort, Told}
-use Rattle.scm_server.specs.Serving.{Differ, GoesOn, HasCome, IsKnown, Mark, OnlyNotes, Serves, Stand, mark_at_work, mark_of, standing}
+use Rattle.scm_server.specs.Serving.{Differ, GoesOn, HasCome, IsKnown, Mark, OnlyNotes, Serves, Stand, mark_at_work, mark_of, stand}
 use Rattle.scm_server.specs.Works.{HasJoined, IsDone, IsUntouched, Out}
 use Rattle.scm_server.proofs.Cases.{handled_still, memory_of, refused_by, stood_for, worker_behind, worker_made}
 use Rattle.scm_server.proofs.Entries.{made_behind}
@@ -124,7 +124,7 @@ module _ (o : Opening) (l : Told) where
 -- ## The steps
 
 pub serves_none : (tells : ℕ → Type 0) (o : Opening) (principal : Principal) (by : Known) (l : Told)
-    → Serves tells o principal by l (standing by l [] false)
+    → Serves tells o principal by l (stand by l [] false)
 serves_none tells o principal by l = record {
   goes = far_self o by;
   handed = [];
@@ -152,7 +152,7 @@ module _ (tells : ℕ → Type 0) (o : Opening) (principal : Principal) where
   -- nothing came
   pub came_none : (by : Known) (m m' : Told) (outs : List Out) (short : Bool) → m'.left ≡ m.left → m'.accepted ≡ m.accepted + 0
       → m'.noted ≡ m.noted → m'.listened ≡ m.listened
-      → GoesOn tells o principal (standing by m outs short) (standing by m' outs short)
+      → GoesOn tells o principal (stand by m outs short) (stand by m' outs short)
   came_none by m m' outs short left accepted noted listened begins first l serves =
       let same : m.accepted ≤ m'.accepted = omega (arith, accepted) in record {
         goes = serves.goes;
@@ -161,9 +161,9 @@ module _ (tells : ℕ → Type 0) (o : Opening) (principal : Principal) where
         left = subst (AreHandedOut (length serves.handed + length outs) l.left) (sym left) serves.left;
         noted = noted ∙ serves.noted;
         listened = listened ∙ serves.listened;
-        known = λ h there. known_still o l (standing by m outs short) (standing by m' outs short) (mark_of h) h.given
+        known = λ h there. known_still o l (stand by m outs short) (stand by m' outs short) (mark_of h) h.given
             (prefix_self by.seen) same (serves.known h there);
-        known_at_work = λ w there. known_still o l (standing by m outs short) (standing by m' outs short) (mark_at_work w) w.given
+        known_at_work = λ w there. known_still o l (stand by m outs short) (stand by m' outs short) (mark_at_work w) w.given
             (prefix_self by.seen) same (serves.known_at_work w there);
         differ = serves.differ;
         differ_at_work = serves.differ_at_work;
@@ -176,10 +176,10 @@ module _ (tells : ℕ → Type 0) (o : Opening) (principal : Principal) where
   -- a connection came, and a caller joined for it
   pub came_joined : (by mid : Known) (m m' : Told) (outs : List Out) (w : Out) (short : Bool) → Watches o by mid
       → HasCome m m' w.number w.given → (joined : HasJoined tells o principal w) → joined.by ≡ by → joined.by' ≡ mid
-      → GoesOn tells o principal (standing by m outs short) (standing mid m' (outs ++ w ∷ []) short)
+      → GoesOn tells o principal (stand by m outs short) (stand mid m' (outs ++ w ∷ []) short)
   came_joined by mid m m' outs w short watches come joined is_by is_mid begins first l serves =
-      let s : Stand = standing by m outs short in
-      let s' : Stand = standing mid m' (outs ++ w ∷ []) short in
+      let s : Stand = stand by m outs short in
+      let s' : Stand = stand mid m' (outs ++ w ∷ []) short in
       let hs : List Handed = serves.handed in
       let more : m.accepted ≤ m'.accepted = (let one = come.accepted in omega (arith, one)) in
       let count : m'.accepted ≡ l.accepted + (length hs + length (outs ++ w ∷ [])) =
@@ -233,12 +233,12 @@ module _ (tells : ℕ → Type 0) (o : Opening) (principal : Principal) where
   pub came_refused : (by by' : Known) (m m' now : Told) (outs : List Out) (short one : Bool) (given began : Option (List ℕ))
       (past : PastConnection) → Watches o by by' → HasCome m m' past.number given
       → (one ≡ false → WasRefused o by'.seen principal (record { given = given; began = began; past = past; caller = None }))
-      → OnlyNotes m' now → now.noted ≡ and_last m'.noted past → GoesOn tells o principal (standing by m outs short)
-      (standing by' now outs (short || one))
+      → OnlyNotes m' now → now.noted ≡ and_last m'.noted past → GoesOn tells o principal (stand by m outs short)
+      (stand by' now outs (short || one))
   came_refused by by' m m' now outs short one given began past watches come refused only noted begins first l serves =
       let h : Handed = record { given = given; began = began; past = past; caller = None } in
-      let s : Stand = standing by m outs short in
-      let s' : Stand = standing by' now outs (short || one) in
+      let s : Stand = stand by m outs short in
+      let s' : Stand = stand by' now outs (short || one) in
       let hs : List Handed = serves.handed in
       let accepted : now.accepted ≡ m'.accepted = ap (λ (t : Told). t.accepted) only.same in
       let more : m.accepted ≤ now.accepted = (let up = come.accepted in omega (arith, up, accepted)) in
@@ -290,12 +290,12 @@ module _ (tells : ℕ → Type 0) (o : Opening) (principal : Principal) where
   -- a connection at work is past, and its pass was taken in
   pub was_done : (b : Identity) → b.opening ≡ o → (by by' : Known) (m m' : Told) (front rest : List Out) (w : Out) (short : Bool)
       (spent : Known) (past : PastConnection) (how : Served) → IsDone tells b w spent past how → TakesIn by spent by'
-      → OnlyNotes m m' → m'.noted ≡ and_last m.noted past → GoesOn tells o principal (standing by m (front ++ w ∷ rest) short)
-      (standing by' m' (front ++ rest) (short || wants_memory how))
+      → OnlyNotes m m' → m'.noted ≡ and_last m.noted past → GoesOn tells o principal (stand by m (front ++ w ∷ rest) short)
+      (stand by' m' (front ++ rest) (short || wants_memory how))
   was_done b same by by' m m' front rest w short spent past how done takes only noted begins first l serves =
       let h : Handed = record { given = w.given; began = w.began; past = past; caller = Some w.pass.caller } in
-      let s : Stand = standing by m (front ++ w ∷ rest) short in
-      let s' : Stand = standing by' m' (front ++ rest) (short || wants_memory how) in
+      let s : Stand = stand by m (front ++ w ∷ rest) short in
+      let s' : Stand = stand by' m' (front ++ rest) (short || wants_memory how) in
       let hs : List Handed = serves.handed in
       let accepted : m'.accepted ≡ m.accepted = ap (λ (t : Told). t.accepted) only.same in
       let more : m.accepted ≤ m'.accepted = omega (arith, accepted) in
@@ -369,7 +369,7 @@ serves_all tells o principal by l s none serves =
 pub joined_goes : (tells : ℕ → Type 0) (o : Opening) (principal : Principal) (by mid : Known) (m m' : Told) (outs : List Out) (w : Out)
     (short : Bool) (moment : ℕ) → Watches o by mid → HasCome m m' w.number w.given → tells moment
     → Joins o by moment principal mid w.pass → w.pass.caller ≢ 0 → IsUntouched w.began w.read_faults w.write_faults
-    → GoesOn tells o principal (standing by m outs short) (standing mid m' (outs ++ w ∷ []) short)
+    → GoesOn tells o principal (stand by m outs short) (stand mid m' (outs ++ w ∷ []) short)
 joined_goes tells o principal by mid m m' outs w short moment watches come so joins somebody untouched =
     came_joined tells o principal by mid m m' outs w short watches come
     (record { by = by; by' = mid; moment = moment; told = so; joins = joins; somebody = somebody; untouched = untouched }) refl refl
@@ -381,7 +381,7 @@ pub refused_goes : (tells : ℕ → Type 0) (o : Opening) (principal : Principal
     → past.left ≡ given → past.written ≡ began → past.read_faults ≡ 0 → past.write_faults ≡ 0 → past.number ≡ number
     → now.left ≡ m'.left → now.accepted ≡ m'.accepted → now.listened ≡ m'.listened → now.faults ≡ m'.faults
     → now.noted ≡ and_last m'.noted past
-    → GoesOn tells o principal (standing by m outs short) (standing by' now outs (short || one))
+    → GoesOn tells o principal (stand by m outs short) (stand by' now outs (short || one))
 refused_goes tells o principal by by' m m' now outs short one fault told given began past number watches come cause fresh left written reads
     writes same kept_left kept_accepted kept_listened kept_faults noted =
     came_refused tells o principal by by' m m' now outs short one given began past watches
@@ -434,18 +434,18 @@ ends_kept false first l l' same ends = (ends.0, ends.1 ∙ same)
 ends_kept true first l l' same ends = subst (λ (n : ℕ). Rose n l'.faults) same ends
 
 module _ (tells : ℕ → Type 0) (o : Opening) (principal : Principal) (first : Stand) (by : Known) (m m' : Told) (outs : List Out)
-    (short : Bool) (before : GoesOn tells o principal first (standing by m outs short)) (kept : OnlyNotes first.told m) where
+    (short : Bool) (before : GoesOn tells o principal first (stand by m outs short)) (kept : OnlyNotes first.told m) where
   none_came : (fail : Bool) → m'.left ≡ m.left → m'.accepted ≡ m.accepted + 0 → m'.noted ≡ m.noted → m'.listened ≡ m.listened
-      → EndsBy fail m m' → GoesOn tells o principal first (standing by m' outs short) × EndsBy fail first.told m'
+      → EndsBy fail m m' → GoesOn tells o principal first (stand by m' outs short) × EndsBy fail first.told m'
   none_came fail left accepted noted listened ends = (
-    goes_trans tells o principal first (standing by m outs short) (standing by m' outs short) before
+    goes_trans tells o principal first (stand by m outs short) (stand by m' outs short) before
         (came_none tells o principal by m m' outs short left accepted noted listened),
     ends_kept fail first.told m m' (ap (λ (t : Told). t.faults) kept.same) ends,
   )
 
   pub over_closed : {I O : Type 0} (sent : I → Option (List ℕ)) (accepted : Accepted I O) → accepted ≡ accept.Closed
       → Takes sent accepted m.left m'.left → m'.accepted ≡ m.accepted + 0 → m'.noted ≡ m.noted → m'.listened ≡ m.listened
-      → m'.faults ≡ m.faults → GoesOn tells o principal first (standing by m' outs short) × EndsBy false first.told m'
+      → m'.faults ≡ m.faults → GoesOn tells o principal first (stand by m' outs short) × EndsBy false first.told m'
   over_closed {I} {O} sent accepted was took count noted listened faults =
       let takes : Takes {I = I} {O = O} sent accept.Closed m.left m'.left =
       subst (λ (a : Accepted I O). Takes sent a m.left m'.left) was took in
@@ -454,7 +454,7 @@ module _ (tells : ℕ → Type 0) (o : Opening) (principal : Principal) (first :
 
   pub over_failed : {I O : Type 0} (sent : I → Option (List ℕ)) (accepted : Accepted I O) → accepted ≡ accept.Failed
       → Takes sent accepted m.left m'.left → m'.accepted ≡ m.accepted + 0 → m'.noted ≡ m.noted → m'.listened ≡ m.listened
-      → Rose m.faults m'.faults → GoesOn tells o principal first (standing by m' outs short) × EndsBy true first.told m'
+      → Rose m.faults m'.faults → GoesOn tells o principal first (stand by m' outs short) × EndsBy true first.told m'
   over_failed {I} {O} sent accepted was took count noted listened rose =
       let takes : Takes {I = I} {O = O} sent accept.Failed m.left m'.left =
       subst (λ (a : Accepted I O). Takes sent a m.left m'.left) was took in

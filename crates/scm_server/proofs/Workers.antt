@@ -15,7 +15,7 @@ use Rattle.scm_server.specs.Handling.{wants_memory}
 use Rattle.scm_server.specs.declared.ending.ServeEnd.{ServeEnd}
 use Rattle.scm_server.specs.declared.ending.ServeEnd.TheVariants.{Ended, ListenFault, OutOfMemory}
 use Rattle.scm_server.specs.Ports.{Told, was_short}
-use Rattle.scm_server.specs.Serving.{Continues, GoesOn, OnlyNotes, Serves, standing}
+use Rattle.scm_server.specs.Serving.{Continues, GoesOn, OnlyNotes, Serves, stand}
 use Rattle.scm_server.specs.Works.{IsDone, Out}
 use Rattle.scm_server.proofs.Lists.{split_out}
 use Rattle.scm_server.proofs.Serving.{serves_none, was_done}
@@ -42,12 +42,12 @@ only_then a b c d first next same = subst (OnlyNotes a) (sym same) (only_trans a
 module _ (tells : ℕ → Type 0) (o : Opening) where
   pub continue_none : (by : Known) (m : Told) (outs : List Out) → Continues tells o by m outs by m outs false
   continue_none by m outs principal before begins first l serves =
-      subst (λ (b : Bool). Serves tells o principal first l (standing by m outs b)) (sym (or_none before)) serves
+      subst (λ (b : Bool). Serves tells o principal first l (stand by m outs b)) (sym (or_none before)) serves
 
   pub continue_trans : (a b c : Known) (k l m : Told) (us vs ws : List Out) (one other : Bool) → Continues tells o a k us b l vs one
       → Continues tells o b l vs c m ws other → Continues tells o a k us c m ws (one || other)
   continue_trans a b c k l m us vs ws one other first next principal before begins from at serves =
-      subst (λ (s : Bool). Serves tells o principal from at (standing c m ws s)) (or_more before one other)
+      subst (λ (s : Bool). Serves tells o principal from at (stand c m ws s)) (or_more before one other)
       (next principal (before || one) begins from at (first principal before begins from at serves))
 
   pub continue_then : (a b c : Known) (k l m n : Told) (us vs ws : List Out) (one other : Bool) → Continues tells o a k us b l vs one
@@ -57,7 +57,7 @@ module _ (tells : ℕ → Type 0) (o : Opening) where
       (continue_trans a b c k l m us vs ws one other first next)
 
   serves_short : (principal : Principal) (from : Known) (at : Told) (by : Known) (m : Told) (outs : List Out) (s : Bool)
-      → Serves tells o principal from at (standing by m outs s) → Serves tells o principal from at (standing by m outs true)
+      → Serves tells o principal from at (stand by m outs s) → Serves tells o principal from at (stand by m outs true)
   serves_short principal from at by m outs s serves = record {
     goes = serves.goes;
     handed = serves.handed;
@@ -78,7 +78,7 @@ module _ (tells : ℕ → Type 0) (o : Opening) where
   pub continue_short : (a b : Known) (k l : Told) (us vs : List Out) (one : Bool) → Continues tells o a k us b l vs one
       → Continues tells o a k us b l vs true
   continue_short a b k l us vs one first principal before begins from at serves =
-      subst (λ (s : Bool). Serves tells o principal from at (standing b l vs s)) (sym (or_all before))
+      subst (λ (s : Bool). Serves tells o principal from at (stand b l vs s)) (sym (or_all before))
       (serves_short principal from at b l vs (before || one) (first principal before begins from at serves))
 
 module _ (tells : ℕ → Type 0) (b : Identity) (spent : Known) (past : PastConnection) (how : Served) (short : Bool)
@@ -88,14 +88,14 @@ module _ (tells : ℕ → Type 0) (b : Identity) (spent : Known) (past : PastCon
   pub done_here : (outs : List Out) (w : Out) → IsDone tells b w spent past how
       → Continues tells b.opening by m (outs ++ w ∷ []) by' m' outs short
   done_here outs w done principal before =
-      let all : GoesOn tells b.opening principal (standing by m (outs ++ w ∷ []) before)
-      (standing by' m' (outs ++ []) (before || wants_memory how)) =
+      let all : GoesOn tells b.opening principal (stand by m (outs ++ w ∷ []) before)
+      (stand by' m' (outs ++ []) (before || wants_memory how)) =
       was_done tells b.opening principal b refl by by' m m' outs [] w before spent past how done takes only noted in
-      let list : GoesOn tells b.opening principal (standing by m (outs ++ w ∷ []) before)
-      (standing by' m' outs (before || wants_memory how)) =
-      subst (λ (ws : List Out). GoesOn tells b.opening principal (standing by m (outs ++ w ∷ []) before)
-      (standing by' m' ws (before || wants_memory how))) (append-nil outs) all in
-      subst (λ (s : Bool). GoesOn tells b.opening principal (standing by m (outs ++ w ∷ []) before) (standing by' m' outs (before || s)))
+      let list : GoesOn tells b.opening principal (stand by m (outs ++ w ∷ []) before)
+      (stand by' m' outs (before || wants_memory how)) =
+      subst (λ (ws : List Out). GoesOn tells b.opening principal (stand by m (outs ++ w ∷ []) before)
+      (stand by' m' ws (before || wants_memory how))) (append-nil outs) all in
+      subst (λ (s : Bool). GoesOn tells b.opening principal (stand by m (outs ++ w ∷ []) before) (stand by' m' outs (before || s)))
       (sym told) list
 
   -- and the list of threads is what it was
@@ -118,23 +118,23 @@ module _ (tells : ℕ → Type 0) (b : Identity) (spent : Known) (past : PastCon
   done_there {W} out xs ys i x less is left done principal before =
       let front : List W = take i xs in
       let rest : List W = drop (i + 1) xs in
-      let all : GoesOn tells b.opening principal (standing by m (map out front ++ out x ∷ map out rest) before)
-      (standing by' m' (map out front ++ map out rest) (before || wants_memory how)) =
+      let all : GoesOn tells b.opening principal (stand by m (map out front ++ out x ∷ map out rest) before)
+      (stand by' m' (map out front ++ map out rest) (before || wants_memory how)) =
       was_done tells b.opening principal b refl by by' m m' (map out front) (map out rest)
       (out x) before spent past how done takes only noted in
       let from : map out front ++ out x ∷ map out rest ≡ map out xs = sym (map-append out front (x ∷ rest))
       ∙ ap (map out) (sym (split_out xs i x less is)) in
       let to : map out front ++ map out rest ≡ map out ys = sym (map-append out front rest) ∙ ap (map out) (sym left) in
-      let first : GoesOn tells b.opening principal (standing by m (map out xs) before)
-      (standing by' m' (map out front ++ map out rest) (before || wants_memory how)) =
-      subst (λ (ws : List Out). GoesOn tells b.opening principal (standing by m ws before)
-      (standing by' m' (map out front ++ map out rest) (before || wants_memory how))) from all in
-      let list : GoesOn tells b.opening principal (standing by m (map out xs) before)
-      (standing by' m' (map out ys) (before || wants_memory how)) =
-      subst (λ (ws : List Out). GoesOn tells b.opening principal (standing by m (map out xs) before)
-      (standing by' m' ws (before || wants_memory how))) to first in
-      subst (λ (s : Bool). GoesOn tells b.opening principal (standing by m (map out xs) before)
-      (standing by' m' (map out ys) (before || s))) (sym told) list
+      let first : GoesOn tells b.opening principal (stand by m (map out xs) before)
+      (stand by' m' (map out front ++ map out rest) (before || wants_memory how)) =
+      subst (λ (ws : List Out). GoesOn tells b.opening principal (stand by m ws before)
+      (stand by' m' (map out front ++ map out rest) (before || wants_memory how))) from all in
+      let list : GoesOn tells b.opening principal (stand by m (map out xs) before)
+      (stand by' m' (map out ys) (before || wants_memory how)) =
+      subst (λ (ws : List Out). GoesOn tells b.opening principal (stand by m (map out xs) before)
+      (stand by' m' ws (before || wants_memory how))) to first in
+      subst (λ (s : Bool). GoesOn tells b.opening principal (stand by m (map out xs) before)
+      (stand by' m' (map out ys) (before || s))) (sym told) list
 
 -- what is the same, said of others
 pub done_so : {C : Type 0} (tells : C → ℕ → Type 0) (k k' : C) → k ≡ k' → (b b' : Identity) → b ≡ b'
@@ -159,13 +159,13 @@ begun_there tells o by m out xs ys x w is same =
 pub port_served : (tells : ℕ → Type 0) (o : Opening) → IsOpening o.limits o.first
     → (principal : Principal) {W : Type 0} (out : W → Out) (a b c : Known) (k l m : Told) (xs ys zs : List W) (one other : Bool) → xs ≡ []
     → zs ≡ []
-    → GoesOn tells o principal (standing a k (map out xs) false) (standing b l (map out ys) one)
-    → Continues tells o b l (map out ys) c m (map out zs) other → Serves tells o principal a k (standing c m [] (one || other))
+    → GoesOn tells o principal (stand a k (map out xs) false) (stand b l (map out ys) one)
+    → Continues tells o b l (map out ys) c m (map out zs) other → Serves tells o principal a k (stand c m [] (one || other))
 port_served tells o begins principal {W} out a b c k l m xs ys zs one other none gone first last =
-    let begun : Serves tells o principal a k (standing a k (map out xs) false) =
-    subst (λ (ws : List W). Serves tells o principal a k (standing a k (map out ws) false)) (sym none)
+    let begun : Serves tells o principal a k (stand a k (map out xs) false) =
+    subst (λ (ws : List W). Serves tells o principal a k (stand a k (map out ws) false)) (sym none)
     (serves_none tells o principal a k) in
-    subst (λ (ws : List W). Serves tells o principal a k (standing c m (map out ws) (one || other))) gone
+    subst (λ (ws : List W). Serves tells o principal a k (stand c m (map out ws) (one || other))) gone
     (last principal one begins a k (first begins a k begun))
 
 -- want of memory is told as the end

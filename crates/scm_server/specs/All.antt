@@ -1,4 +1,4 @@
--- What serving two listeners comes to.
+-- The outcome of serving two listeners.
 use Rattle.std.specs.Prelude.{ℕ, ◌≡◌, ◌⊎◌, ◌++◌, Bool, false, List}
 use Rattle.scm_model.specs.declared.flat.Principal.TheVariants.{Admin, User}
 use mathlib.Core.List.{IsPrefix}
@@ -19,9 +19,8 @@ pub record GoesFor (o : Opening) (by by' : Known) : Type 0 where
   pub longer : IsPrefix by.seen by'.seen
   pub legal : Legal o.limits o.first by.seen → Legal o.limits o.first by'.seen
 
--- Each connection that either listener handed out is noted once, and unless there was want of memory is one of the two cases in this
--- history,
--- an administrator's or a user's; no caller stands for two of them, of one listener or of both.
+-- Each connection that either listener handed out is noted once. Unless memory ran out, it is one of the two cases in this history, an
+-- administrator's or a user's, and no caller stands for two of them, of one listener or of both.
 pub record ServedIn (tells : ℕ → Type 0) (o : Opening) (log : List Entry) (a a' u u' : Told) (is_short : Bool) : Type 0 where
   pub admins : List Handed
   pub users : List Handed

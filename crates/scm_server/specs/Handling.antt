@@ -21,30 +21,30 @@ use Rattle.conn_desk.specs.declared.served.Served.{Served}
 use Rattle.conn_desk.specs.declared.served.Served.TheVariants as served
 use Rattle.conn_desk.specs.Bodies.{asked}
 use Rattle.conn_desk.specs.Connection.{IsServedFor, Reached}
-use Rattle.conn_worker.specs.Owning.{AreOfAll, AreTold, FoundRoom, StandAt, StandsAt, unowed_places}
+use Rattle.conn_worker.specs.Owning.{AreOfAll, AreTold, StepsHadRoom, StandAt, StandsAt, unowed_places}
 use Rattle.conn_worker.specs.Serving.{step_for}
 use Rattle.scm_listener.specs.Connections.{PastConnection}
-use Rattle.scm_server.specs.Pairs.{IsRising}
+use Rattle.scm_server.specs.Pairs.{Ascends}
 use Rattle.scm_server.specs.Works.{AreNamed}
 
 -- a connection that was handed out and is past
 pub record Handed : Type 0 where
-  -- what its peer sends, and what was written when it was handed out, where they are told
+  -- what its peer sends, and what was written when it was handed out, if they are known
   pub given : Option (List ℕ)
   pub began : Option (List ℕ)
   pub past : PastConnection
   -- the caller that stands for it
   pub caller : Option ℕ
 
-abbrev pub IsFresh : Handed → Type 0
-IsFresh h = IfSome h.began (λ bytes. bytes ≡ [])
+abbrev pub IsJustHanded : Handed → Type 0
+IsJustHanded h = IfSome h.began (λ bytes. bytes ≡ [])
 
 -- ## The first case
 
 -- nothing of it was read or written, and there is a state of the history in which the callers are at their limit or nobody finds room to
 -- join
 pub record WasRefused (o : Opening) (log : List Entry) (principal : Principal) (h : Handed) : Type 0 where
-  pub fresh : IsFresh h
+  pub fresh : IsJustHanded h
   pub unread : h.past.left ≡ h.given
   pub unwritten : h.past.written ≡ h.began
   pub no_read_fault : h.past.read_faults ≡ 0
@@ -55,7 +55,7 @@ pub record WasRefused (o : Opening) (log : List Entry) (principal : Principal) (
 
 -- ## The second case
 
--- behind this front the limits have no room for the caller's request
+-- after this front the limits have no room for the caller's request
 abbrev pub HasNoRoomBehind : Opening → ℕ → List Entry → DecodedRequest → Type 0
 HasNoRoomBehind o caller front request = room_behind o front (step_for caller request) ≡ false
 
@@ -67,7 +67,7 @@ NamedOnlyAt log caller places = (front : List Entry) (e : Entry) (rest : List En
 -- what was read, answered and written of a connection, and how it ended
 pub record WasServed (full : List Entry → DecodedRequest → Type 0) (stood : List Entry) (h : Handed) (done : List Incoming)
     (heard : List (Option Reply)) (how : Served) : Type 0 where
-  pub fresh : IsFresh h
+  pub fresh : IsJustHanded h
   pub read : List ℕ
   pub consumed : Consumes h.given h.past.left read
   pub most : length read ≤ 2 ^ 40
@@ -77,8 +77,8 @@ pub record WasServed (full : List Entry → DecodedRequest → Type 0) (stood : 
   pub cause : IsServedFor how 0 h.past.read_faults 0 h.past.write_faults
 
 -- The caller joined with the principal, made the requests that were answered, and went: these are its entries in the history, and each of
--- them
--- names it, also those of a start that waited. How the connection ended is told behind all of them but the going.
+-- them names it, also those of a start that waited. The history `stood`, over which the end of the connection is stated, has all of them
+-- but the going.
 pub record StandsForIt (tells : ℕ → Type 0) (o : Opening) (log : List Entry) (principal : Principal) (h : Handed)
     (caller : ℕ) : Type 0 where
   pub how : Served
@@ -102,14 +102,14 @@ pub record StandsForIt (tells : ℕ → Type 0) (o : Opening) (log : List Entry)
   pub stand : StandAt o log places (made_of (joined, Joined principal) (answers.Caller caller) ∷ entries)
   pub goes : StandsAt o log last (made_of (gone, Gone caller) answers.Done)
   -- its joining and each request found room in the state of its place
-  pub found : FoundRoom o log (unowed_places places (made_of (joined, Joined principal) (answers.Caller caller) ∷ entries))
+  pub found : StepsHadRoom o log (unowed_places places (made_of (joined, Joined principal) (answers.Caller caller) ∷ entries))
       (Joined principal ∷ map (step_for caller) (asked done))
-  pub rising : IsRising (places ++ last ∷ [])
+  pub rising : Ascends (places ++ last ∷ [])
   pub ahead : (place : ℕ) → Has place places → place < length stood
   pub no_other : NamedOnlyAt log caller (places ++ last ∷ [])
   pub made : has_made o.limits o.first caller log ≡ true
 
--- ## Want of memory
+-- ## Out of memory
 
 abbrev pub wants_memory : Served → Bool
 wants_memory served.OutOfMemory = true
@@ -129,6 +129,6 @@ IsHandledAs tells o log principal h (Some caller) = StandsForIt tells o log prin
 abbrev pub IsHandled : (ℕ → Type 0) → Opening → List Entry → Principal → Handed → Type 0
 IsHandled tells o log principal h = IsHandledAs tells o log principal h h.caller
 
--- the caller joined behind this history
+-- the caller joined after this history
 abbrev pub JoinedBehind : Opening → List Entry → ℕ → Type 0
 JoinedBehind o log caller = has_made o.limits o.first caller log ≡ false

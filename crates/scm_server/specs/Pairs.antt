@@ -7,8 +7,8 @@ abbrev pub Pairwise : {A : Type 0} → (A → A → Type 0) → List A → Type 
 Pairwise R [] = Unit {0}
 Pairwise {A} R (x ∷ xs) = ((y : A) → Has y xs → R x y) × Pairwise R xs
 
-abbrev pub IsRising : List ℕ → Type 0
-IsRising places = Pairwise (λ a b. a < b) places
+abbrev pub Ascends : List ℕ → Type 0
+Ascends places = Pairwise (λ a b. a < b) places
 
 abbrev pub Each : {A : Type 0} → (A → Type 0) → List A → Type 0
 Each {A} P xs = (x : A) → Has x xs → P x

@@ -1,4 +1,4 @@
--- What serving a port comes to.
+-- The outcome of serving a port.
 use Rattle.std.specs.Prelude.{ℕ, ◌≡◌, ◌≢◌, ◌≤◌, ◌<◌, ◌+◌, ◌-◌, ◌++◌, ◌⊎◌, Bool, true, false, List, [], length, map, drop, slice_get, Option}
 use Rattle.std.specs.Prelude.{None, Some, IfSome, option_map}
 use mathlib.Core.List.{IsPrefix}
@@ -15,7 +15,7 @@ use Rattle.scm_server.specs.declared.ending.ServeEnd.TheVariants.{Ended, ListenF
 use Rattle.scm_server.specs.Handling.{Handed, IsHandled}
 use Rattle.scm_server.specs.Pairs.{Each, Pairwise}
 
--- what is told of a listener
+-- what is known of a listener
 pub record Told : Type 0 where
   -- what the peers of the connections to come send
   pub left : Option (List (List ℕ))
@@ -93,8 +93,8 @@ pub record GoesFar (o : Opening) (by by' : Known) : Type 0 where
   pub longer : IsPrefix by.seen by'.seen
   pub legal : Legal o.limits o.first by.seen → Legal o.limits o.first by'.seen
 
--- Each connection that was handed out is noted once, and unless there was want of memory is one of the two cases in this history; no caller
--- stands for two of them.
+-- Each connection that was handed out is noted once, and unless memory ran out is one of the two cases in this history; no caller stands
+-- for two of them.
 pub record ServesPort (tells : ℕ → Type 0) (o : Opening) (principal : Principal) (log : List Entry) (l l' : Told)
     (is_short : Bool) : Type 0 where
   pub handed : List Handed

@@ -19,8 +19,8 @@ pub record Stand : Type 0 where
   pub outs : List Out
   pub is_short : Bool
 
-abbrev pub standing : Known → Told → List Out → Bool → Stand
-standing by told outs is_short = record { by = by; told = told; outs = outs; is_short = is_short }
+abbrev pub stand : Known → Told → List Out → Bool → Stand
+stand by told outs is_short = record { by = by; told = told; outs = outs; is_short = is_short }
 
 -- what tells a connection from others
 pub record Mark : Type 0 where
@@ -66,12 +66,12 @@ abbrev pub GoesOn : (ℕ → Type 0) → Opening → Principal → (s s' : Stand
 GoesOn tells o principal s s' = IsOpening o.limits o.first → (by : Known) (l : Told) → Serves tells o principal by l s
     → Serves tells o principal by l s'
 
--- whoever its connections are of, and whether there was no memory before or there was none for one of these
+-- it goes on, for any principal of its connections; memory is short if it was before, or if there was none for one of these
 abbrev pub Continues : (tells : ℕ → Type 0) → Opening → (by : Known) → Told → List Out → (by' : Known) → Told → List Out → (is_short : Bool)
     → Type 0
 Continues tells o by told outs by' told' outs' is_short =
-    (principal : Principal) (before : Bool) → GoesOn tells o principal (standing by told outs before)
-    (standing by' told' outs' (before || is_short))
+    (principal : Principal) (before : Bool) → GoesOn tells o principal (stand by told outs before)
+    (stand by' told' outs' (before || is_short))
 
 -- ## Its steps
 

@@ -4,8 +4,8 @@ ghost use Rattle.scm_book.specs.Passes.{IsOf};
 ghost use Rattle.scm_listener.specs.Connections.{PastConnection};
 ghost use Rattle.scm_server.specs.Accepts.{EndsBy, ServesNext};
 ghost use Rattle.scm_server.specs.Handling.{is_without_memory};
-ghost use Rattle.scm_server.specs.Ports.{Told, told};
-ghost use Rattle.scm_server.specs.Serving.{GoesOn, HasCome, OnlyNotes, standing};
+ghost use Rattle.scm_server.specs.Ports.{Told, told_by};
+ghost use Rattle.scm_server.specs.Serving.{GoesOn, HasCome, OnlyNotes, stand};
 ghost use Rattle.scm_server.specs.Workers.{AreOf, outs_of};
 ghost use Rattle.scm_server.specs.Works.{IsUntouched};
 
@@ -28,7 +28,7 @@ pub struct Over {
     pub is_short: bool,
 }
 
-/// What one accept comes to.
+/// The outcome of one accept.
 #[derive(Clone, Copy, Drop)]
 pub enum Next {
     /// A connection came. Whether there was no memory for it, or for one before it.
@@ -37,7 +37,7 @@ pub enum Next {
     Over(Over),
 }
 
-/// Whether nobody joined for want of memory.
+/// Whether a join failed because memory ran out.
 fn is_without_memory(fault: JoinFault) -> bool
     ensures { result ≡ is_without_memory fault }
 {
@@ -76,23 +76,15 @@ where
     requires new { IsUntouched (O.held output.end) (I.faults input.end) (O.faults output.end) }
     ensures by { IsOf book.now by.new }
     ensures of { AreOf book.now clock.now workers.new.items }
-    ensures only { OnlyNotes
-        (told (N.left listener.old) (N.accepted listener.old) (N.noted listener.old)
-        (N.listened listener.old) (N.faults listener.old))
-        (told (N.left listener.new) (N.accepted listener.new) (N.noted listener.new)
-        (N.listened listener.new) (N.faults listener.new)) }
-    ensures goes { (came : Told) (before : Bool)
-        → HasCome came (told (N.left listener.old) (N.accepted listener.old) (N.noted listener.old)
-        (N.listened listener.old) (N.faults listener.old))
-        input.number (I.left input.end)
+    ensures only { let tell = told_by N.left N.accepted N.noted N.listened N.faults in
+        OnlyNotes (tell listener.old) (tell listener.new) }
+    ensures goes { let outs = outs_of I.left O.held I.faults O.faults in
+        let tell = told_by N.left N.accepted N.noted N.listened N.faults in
+        (came : Told) (before : Bool)
+        → HasCome came (tell listener.old) input.number (I.left input.end)
         → GoesOn (C.tells clock.now) book.now.opening principal
-        (standing by.old came (outs_of I.left O.held I.faults O.faults
-        workers.old.items) before)
-        (standing by.new (told (N.left listener.new) (N.accepted listener.new)
-        (N.noted listener.new)
-        (N.listened listener.new) (N.faults listener.new))
-        (outs_of I.left O.held I.faults O.faults
-        workers.new.items) (before || result)) }
+        (stand by.old came (outs workers.old.items) before)
+        (stand by.new (tell listener.new) (outs workers.new.items) (before || result)) }
 {
     match book.join(rt, by, clock.now(), principal) {
         Ok(pass) => run(
@@ -131,16 +123,11 @@ where
     requires of { AreOf book.now clock.now workers.old.items }
     ensures by { IsOf book.now by.new }
     ensures of { AreOf book.now clock.now workers.new.items }
-    ensures next { ServesNext (C.tells clock.now) book.now.opening principal
-        (standing by.old (told (N.left listener.old) (N.accepted listener.old)
-        (N.noted listener.old)
-        (N.listened listener.old) (N.faults listener.old))
-        (outs_of I.left O.held I.faults O.faults
-        workers.old.items) is_short)
-        by.new (told (N.left listener.new) (N.accepted listener.new) (N.noted listener.new)
-        (N.listened listener.new) (N.faults listener.new))
-        (outs_of I.left O.held I.faults O.faults
-        workers.new.items) result }
+    ensures next { let outs = outs_of I.left O.held I.faults O.faults in
+        let tell = told_by N.left N.accepted N.noted N.listened N.faults in
+        ServesNext (C.tells clock.now) book.now.opening principal
+        (stand by.old (tell listener.old) (outs workers.old.items) is_short)
+        by.new (tell listener.new) (outs workers.new.items) result }
 {
     let past = reap_until_next(rt, book, by, listener, workers, clock);
     let is_short = is_either(is_short, past);
@@ -188,22 +175,13 @@ where
     requires of { AreOf book.now clock.now workers.old.items }
     ensures by { IsOf book.now by.new }
     ensures of { AreOf book.now clock.now workers.new.items }
-    ensures goes { GoesOn (C.tells clock.now) book.now.opening principal
-        (standing by.old (told (N.left listener.old) (N.accepted listener.old)
-        (N.noted listener.old)
-        (N.listened listener.old) (N.faults listener.old))
-        (outs_of I.left O.held I.faults O.faults
-        workers.old.items) false)
-        (standing by.new (told (N.left listener.new) (N.accepted listener.new)
-        (N.noted listener.new)
-        (N.listened listener.new) (N.faults listener.new))
-        (outs_of I.left O.held I.faults O.faults
-        workers.new.items) result.is_short) }
-    ensures ends { EndsBy result.is_failed
-        (told (N.left listener.old) (N.accepted listener.old) (N.noted listener.old)
-        (N.listened listener.old) (N.faults listener.old))
-        (told (N.left listener.new) (N.accepted listener.new) (N.noted listener.new)
-        (N.listened listener.new) (N.faults listener.new)) }
+    ensures goes { let outs = outs_of I.left O.held I.faults O.faults in
+        let tell = told_by N.left N.accepted N.noted N.listened N.faults in
+        GoesOn (C.tells clock.now) book.now.opening principal
+        (stand by.old (tell listener.old) (outs workers.old.items) false)
+        (stand by.new (tell listener.new) (outs workers.new.items) result.is_short) }
+    ensures ends { let tell = told_by N.left N.accepted N.noted N.listened N.faults in
+        EndsBy result.is_failed (tell listener.old) (tell listener.new) }
 {
     let mut is_short = false;
     for _ in rt.forever() {

@@ -1,14 +1,11 @@
 // Both listeners, the launcher and the ticker over one book.
-ghost use Rattle.std.specs.Prelude.{◌≡◌, List};
+ghost use Rattle.std.specs.Prelude.{◌≡◌};
 ghost use Rattle.std.specs.Thread.{IsSend, IsSync};
-ghost use mathlib.Core.List.{IsPrefix};
 ghost use Rattle.scm_book.specs.Passes.{IsOf};
 ghost use Rattle.scm_launcher.specs.Past.{SeesOn};
 ghost use Rattle.scm_launcher.specs.Ticks.{TicksOn};
-ghost use Rattle.scm_model.specs.Entries.{Entry};
-ghost use Rattle.scm_rules.specs.Histories.{Legal};
 ghost use Rattle.scm_server.specs.All.{EndsAll, GoesFor, ServedFrom, ServedIn, TakesAll};
-ghost use Rattle.scm_server.specs.Ports.{GoesFar, told, told_by, was_short};
+ghost use Rattle.scm_server.specs.Ports.{GoesFar, told_by, was_short};
 
 use crate::both::{Both, serve_both};
 use crate::ending::ServeEnd;
@@ -72,27 +69,13 @@ where
     ensures sees { SeesOn book.now.opening launches result.launched.spent }
     ensures book { IsOf book.now result.both.pass }
     ensures goes { GoesFar book.now.opening serves result.both.pass }
-    ensures serves { (log : List Entry) → IsPrefix result.both.pass.seen log
-        → Legal book.now.opening.limits book.now.opening.first log
-        → ServedIn (C.tells clock.now) book.now.opening log
-        (told (N.left admin) (N.accepted admin) (N.noted admin)
-        (N.listened admin) (N.faults admin))
-        (told (N.left result.both.admin) (N.accepted result.both.admin) (N.noted result.both.admin)
-        (N.listened result.both.admin) (N.faults result.both.admin))
-        (told (N.left user) (N.accepted user) (N.noted user)
-        (N.listened user) (N.faults user))
-        (told (N.left result.both.user) (N.accepted result.both.user) (N.noted result.both.user)
-        (N.listened result.both.user) (N.faults result.both.user))
+    ensures serves { let tell = told_by N.left N.accepted N.noted N.listened N.faults in
+        ServedFrom (C.tells clock.now) book.now.opening result.both.pass.seen
+        (tell admin) (tell result.both.admin) (tell user) (tell result.both.user)
         (was_short result.both.end) }
-    ensures ends { EndsAll result.both.end
-        (told (N.left admin) (N.accepted admin) (N.noted admin)
-        (N.listened admin) (N.faults admin))
-        (told (N.left result.both.admin) (N.accepted result.both.admin) (N.noted result.both.admin)
-        (N.listened result.both.admin) (N.faults result.both.admin))
-        (told (N.left user) (N.accepted user) (N.noted user)
-        (N.listened user) (N.faults user))
-        (told (N.left result.both.user) (N.accepted result.both.user) (N.noted result.both.user)
-        (N.listened result.both.user) (N.faults result.both.user)) }
+    ensures ends { let tell = told_by N.left N.accepted N.noted N.listened N.faults in
+        EndsAll result.both.end
+        (tell admin) (tell result.both.admin) (tell user) (tell result.both.user) }
 {
     let (launched, both) = thread::join(
         rt,
@@ -185,25 +168,11 @@ where
     requires { IsOf book.now root.old }
     ensures book { IsOf book.now root.new }
     ensures goes { GoesFor book.now.opening root.old root.new }
-    ensures serves { ServedIn (C.tells clock.now) book.now.opening root.new.seen
-        (told (N.left admin) (N.accepted admin) (N.noted admin)
-        (N.listened admin) (N.faults admin))
-        (told (N.left result.admin) (N.accepted result.admin) (N.noted result.admin)
-        (N.listened result.admin) (N.faults result.admin))
-        (told (N.left user) (N.accepted user) (N.noted user)
-        (N.listened user) (N.faults user))
-        (told (N.left result.user) (N.accepted result.user) (N.noted result.user)
-        (N.listened result.user) (N.faults result.user))
-        (was_short result.end) }
-    ensures ends { EndsAll result.end
-        (told (N.left admin) (N.accepted admin) (N.noted admin)
-        (N.listened admin) (N.faults admin))
-        (told (N.left result.admin) (N.accepted result.admin) (N.noted result.admin)
-        (N.listened result.admin) (N.faults result.admin))
-        (told (N.left user) (N.accepted user) (N.noted user)
-        (N.listened user) (N.faults user))
-        (told (N.left result.user) (N.accepted result.user) (N.noted result.user)
-        (N.listened result.user) (N.faults result.user)) }
+    ensures serves { let tell = told_by N.left N.accepted N.noted N.listened N.faults in
+        ServedIn (C.tells clock.now) book.now.opening root.new.seen
+        (tell admin) (tell result.admin) (tell user) (tell result.user) (was_short result.end) }
+    ensures ends { let tell = told_by N.left N.accepted N.noted N.listened N.faults in
+        EndsAll result.end (tell admin) (tell result.admin) (tell user) (tell result.user) }
 {
     let mut ticks = book.join_runner(root);
     let _how = book.tick(rt, &mut ticks, clock.now());

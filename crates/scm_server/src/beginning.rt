@@ -2,7 +2,7 @@
 ghost use Rattle.std.specs.Prelude.{◌≡◌, ◌≢◌, ◌<◌, ◌∷◌, ◌++◌, [], IfErr, IfOk, OnOk};
 ghost use Rattle.std.specs.Prelude.{vec_capacity, vec_len};
 ghost use Rattle.scm_book.specs.Passes.{IsOf};
-ghost use Rattle.scm_server.specs.Ports.{told};
+ghost use Rattle.scm_server.specs.Ports.{told_by};
 ghost use Rattle.scm_server.specs.Serving.{Continues, OnlyNotes};
 ghost use Rattle.scm_server.specs.Workers.{AreOf, IsOfBook, out_at, outs_of};
 ghost use Rattle.scm_server.specs.Works.{IsDone, out_of};
@@ -121,21 +121,14 @@ where
     requires one { input.number ≡ output.number }
     ensures by { IsOf book.now by.new }
     ensures of { AreOf book.now clock.now workers.new.items }
-    ensures only { OnlyNotes
-        (told (N.left listener.old) (N.accepted listener.old) (N.noted listener.old)
-        (N.listened listener.old) (N.faults listener.old))
-        (told (N.left listener.new) (N.accepted listener.new) (N.noted listener.new)
-        (N.listened listener.new) (N.faults listener.new)) }
-    ensures goes { Continues (C.tells clock.now) book.now.opening
-        by.old (told (N.left listener.old) (N.accepted listener.old) (N.noted listener.old)
-        (N.listened listener.old) (N.faults listener.old))
-        ((outs_of I.left O.held I.faults O.faults
-        workers.old.items) ++ (out_of input.number (I.left input.end)
-        (O.held output.end) (I.faults input.end) (O.faults output.end) pass) ∷ [])
-        by.new (told (N.left listener.new) (N.accepted listener.new) (N.noted listener.new)
-        (N.listened listener.new) (N.faults listener.new))
-        (outs_of I.left O.held I.faults O.faults
-        workers.new.items) result }
+    ensures only { let tell = told_by N.left N.accepted N.noted N.listened N.faults in
+        OnlyNotes (tell listener.old) (tell listener.new) }
+    ensures goes { let outs = outs_of I.left O.held I.faults O.faults in
+        let tell = told_by N.left N.accepted N.noted N.listened N.faults in
+        Continues (C.tells clock.now) book.now.opening by.old (tell listener.old)
+        (outs workers.old.items ++ (out_of input.number (I.left input.end) (O.held output.end)
+        (I.faults input.end) (O.faults output.end) pass) ∷ [])
+        by.new (tell listener.new) (outs workers.new.items) result }
 {
     let Ok((flag, done)) = room(alloc, workers) else {
         let worked = work::<R, K, N, C>(rt, alloc, book, pass, input, output, clock);

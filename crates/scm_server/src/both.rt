@@ -1,14 +1,11 @@
 // Two listeners over one book, served at the same time.
-ghost use Rattle.std.specs.Prelude.{◌≡◌, List};
+ghost use Rattle.std.specs.Prelude.{◌≡◌};
 ghost use Rattle.std.specs.Thread.{IsSend, IsSync};
-ghost use mathlib.Core.List.{IsPrefix};
 ghost use Rattle.scm_book.specs.Joins.{TakesIn};
 ghost use Rattle.scm_book.specs.Passes.{IsOf};
 ghost use Rattle.scm_model.specs.declared.flat.Principal.TheVariants as principals;
-ghost use Rattle.scm_model.specs.Entries.{Entry};
-ghost use Rattle.scm_rules.specs.Histories.{Legal};
-ghost use Rattle.scm_server.specs.All.{EndsAll, ServedIn, of_both};
-ghost use Rattle.scm_server.specs.Ports.{EndsFor, GoesFar, ServesPort, told, told_by, was_short};
+ghost use Rattle.scm_server.specs.All.{EndsAll, ServedFrom, of_both};
+ghost use Rattle.scm_server.specs.Ports.{EndsFor, GoesFar, ServesPort, told_by, was_short};
 
 use crate::ending::ServeEnd;
 use crate::ports::{Port, serve_port};
@@ -97,27 +94,11 @@ where
     ensures book { IsOf book.now result.pass }
     ensures goes { GoesFar book.now.opening pass result.pass }
     // In each legal history that goes on from what the pass has seen.
-    ensures serves { (log : List Entry) → IsPrefix result.pass.seen log
-        → Legal book.now.opening.limits book.now.opening.first log
-        → ServedIn (C.tells clock.now) book.now.opening log
-        (told (N.left admin) (N.accepted admin) (N.noted admin)
-        (N.listened admin) (N.faults admin))
-        (told (N.left result.admin) (N.accepted result.admin) (N.noted result.admin)
-        (N.listened result.admin) (N.faults result.admin))
-        (told (N.left user) (N.accepted user) (N.noted user)
-        (N.listened user) (N.faults user))
-        (told (N.left result.user) (N.accepted result.user) (N.noted result.user)
-        (N.listened result.user) (N.faults result.user))
-        (was_short result.end) }
-    ensures ends { EndsAll result.end
-        (told (N.left admin) (N.accepted admin) (N.noted admin)
-        (N.listened admin) (N.faults admin))
-        (told (N.left result.admin) (N.accepted result.admin) (N.noted result.admin)
-        (N.listened result.admin) (N.faults result.admin))
-        (told (N.left user) (N.accepted user) (N.noted user)
-        (N.listened user) (N.faults user))
-        (told (N.left result.user) (N.accepted result.user) (N.noted result.user)
-        (N.listened result.user) (N.faults result.user)) }
+    ensures serves { let tell = told_by N.left N.accepted N.noted N.listened N.faults in
+        ServedFrom (C.tells clock.now) book.now.opening result.pass.seen
+        (tell admin) (tell result.admin) (tell user) (tell result.user) (was_short result.end) }
+    ensures ends { let tell = told_by N.left N.accepted N.noted N.listened N.faults in
+        EndsAll result.end (tell admin) (tell result.admin) (tell user) (tell result.user) }
 {
     book.opens();
     let mut pass = pass;

@@ -4,7 +4,7 @@ ghost use Rattle.scm_book.specs.Joins.{TakesIn};
 ghost use Rattle.scm_book.specs.Passes.{IsOf};
 ghost use Rattle.scm_listener.specs.Connections.{PastConnection, and_last};
 ghost use Rattle.scm_server.specs.Handling.{wants_memory};
-ghost use Rattle.scm_server.specs.Ports.{told};
+ghost use Rattle.scm_server.specs.Ports.{told_by};
 ghost use Rattle.scm_server.specs.Serving.{Continues, OnlyNotes};
 ghost use Rattle.scm_server.specs.Workers.{AreOf, outs_of};
 
@@ -19,7 +19,7 @@ use std::sync::Wait;
 use std::sync::atomic::Ordering::SeqCst;
 use std::thread::Threads;
 
-/// Whether a connection ended for want of memory.
+/// Whether a connection ended because memory ran out.
 fn wants_memory(how: Served) -> bool
     ensures { result ≡ wants_memory how }
 {
@@ -46,11 +46,8 @@ pub fn take_back<K: Keeper, N: Listener>(
     requires by { IsOf book.now by.old }
     requires spent { IsOf book.now worked.spent }
     ensures takes { TakesIn by.old worked.spent by.new }
-    ensures only { OnlyNotes
-        (told (N.left listener.old) (N.accepted listener.old) (N.noted listener.old)
-        (N.listened listener.old) (N.faults listener.old))
-        (told (N.left listener.new) (N.accepted listener.new) (N.noted listener.new)
-        (N.listened listener.new) (N.faults listener.new)) }
+    ensures only { let tell = told_by N.left N.accepted N.noted N.listened N.faults in
+        OnlyNotes (tell listener.old) (tell listener.new) }
     ensures noted { N.noted listener.new ≡ and_last (N.noted listener.old) (N.tells worked.past) }
     ensures short { result ≡ wants_memory worked.how }
 {
@@ -76,20 +73,12 @@ fn join_at<R: Threads, K: Keeper, N: Listener, C: Clock>(
     ensures by { IsOf book.now by.new }
     ensures of { AreOf book.now clock.now workers.new.items }
     ensures fewer { length workers.new.items + 1 ≡ length workers.old.items }
-    ensures only { OnlyNotes
-        (told (N.left listener.old) (N.accepted listener.old) (N.noted listener.old)
-        (N.listened listener.old) (N.faults listener.old))
-        (told (N.left listener.new) (N.accepted listener.new) (N.noted listener.new)
-        (N.listened listener.new) (N.faults listener.new)) }
-    ensures goes { Continues (C.tells clock.now) book.now.opening
-        by.old (told (N.left listener.old) (N.accepted listener.old) (N.noted listener.old)
-        (N.listened listener.old) (N.faults listener.old))
-        (outs_of N.In.left N.Out.held N.In.faults N.Out.faults
-        workers.old.items)
-        by.new (told (N.left listener.new) (N.accepted listener.new) (N.noted listener.new)
-        (N.listened listener.new) (N.faults listener.new))
-        (outs_of N.In.left N.Out.held N.In.faults N.Out.faults
-        workers.new.items) result }
+    ensures only { let tell = told_by N.left N.accepted N.noted N.listened N.faults in
+        OnlyNotes (tell listener.old) (tell listener.new) }
+    ensures goes { let outs = outs_of N.In.left N.Out.held N.In.faults N.Out.faults in
+        let tell = told_by N.left N.accepted N.noted N.listened N.faults in
+        Continues (C.tells clock.now) book.now.opening by.old (tell listener.old)
+        (outs workers.old.items) by.new (tell listener.new) (outs workers.new.items) result }
 {
     let _ = clock;
     let Worker { handle, done } = workers.remove(at);
@@ -120,20 +109,12 @@ pub fn reap<R: Threads, K: Keeper, N: Listener, C: Clock>(
     requires of { AreOf book.now clock.now workers.old.items }
     ensures by { IsOf book.now by.new }
     ensures of { AreOf book.now clock.now workers.new.items }
-    ensures only { OnlyNotes
-        (told (N.left listener.old) (N.accepted listener.old) (N.noted listener.old)
-        (N.listened listener.old) (N.faults listener.old))
-        (told (N.left listener.new) (N.accepted listener.new) (N.noted listener.new)
-        (N.listened listener.new) (N.faults listener.new)) }
-    ensures goes { Continues (C.tells clock.now) book.now.opening
-        by.old (told (N.left listener.old) (N.accepted listener.old) (N.noted listener.old)
-        (N.listened listener.old) (N.faults listener.old))
-        (outs_of N.In.left N.Out.held N.In.faults N.Out.faults
-        workers.old.items)
-        by.new (told (N.left listener.new) (N.accepted listener.new) (N.noted listener.new)
-        (N.listened listener.new) (N.faults listener.new))
-        (outs_of N.In.left N.Out.held N.In.faults N.Out.faults
-        workers.new.items) result }
+    ensures only { let tell = told_by N.left N.accepted N.noted N.listened N.faults in
+        OnlyNotes (tell listener.old) (tell listener.new) }
+    ensures goes { let outs = outs_of N.In.left N.Out.held N.In.faults N.Out.faults in
+        let tell = told_by N.left N.accepted N.noted N.listened N.faults in
+        Continues (C.tells clock.now) book.now.opening by.old (tell listener.old)
+        (outs workers.old.items) by.new (tell listener.new) (outs workers.new.items) result }
 {
     let mut is_short = false;
     while let Some(at) = first_done(workers.as_slice()) {
@@ -146,10 +127,8 @@ pub fn reap<R: Threads, K: Keeper, N: Listener, C: Clock>(
 /// Waits for the listener's next connection, but not for long, and not at all where no thread is at
 /// work. Returns whether an `accept` is to follow.
 fn is_next<K: Keeper, N: Listener, C: Clock>(listener: &mut N, workers: &[Worker<K, N, C>]) -> bool
-    ensures same { told (N.left listener.new) (N.accepted listener.new) (N.noted listener.new)
-        (N.listened listener.new) (N.faults listener.new)
-        ≡ told (N.left listener.old) (N.accepted listener.old) (N.noted listener.old)
-        (N.listened listener.old) (N.faults listener.old) }
+    ensures same { let tell = told_by N.left N.accepted N.noted N.listened N.faults in
+        tell listener.new ≡ tell listener.old }
 {
     workers.is_empty() || listener.wait_briefly()
 }
@@ -168,20 +147,12 @@ pub fn reap_until_next<R: Threads + Wait, K: Keeper, N: Listener, C: Clock>(
     requires of { AreOf book.now clock.now workers.old.items }
     ensures by { IsOf book.now by.new }
     ensures of { AreOf book.now clock.now workers.new.items }
-    ensures only { OnlyNotes
-        (told (N.left listener.old) (N.accepted listener.old) (N.noted listener.old)
-        (N.listened listener.old) (N.faults listener.old))
-        (told (N.left listener.new) (N.accepted listener.new) (N.noted listener.new)
-        (N.listened listener.new) (N.faults listener.new)) }
-    ensures goes { Continues (C.tells clock.now) book.now.opening
-        by.old (told (N.left listener.old) (N.accepted listener.old) (N.noted listener.old)
-        (N.listened listener.old) (N.faults listener.old))
-        (outs_of N.In.left N.Out.held N.In.faults N.Out.faults
-        workers.old.items)
-        by.new (told (N.left listener.new) (N.accepted listener.new) (N.noted listener.new)
-        (N.listened listener.new) (N.faults listener.new))
-        (outs_of N.In.left N.Out.held N.In.faults N.Out.faults
-        workers.new.items) result }
+    ensures only { let tell = told_by N.left N.accepted N.noted N.listened N.faults in
+        OnlyNotes (tell listener.old) (tell listener.new) }
+    ensures goes { let outs = outs_of N.In.left N.Out.held N.In.faults N.Out.faults in
+        let tell = told_by N.left N.accepted N.noted N.listened N.faults in
+        Continues (C.tells clock.now) book.now.opening by.old (tell listener.old)
+        (outs workers.old.items) by.new (tell listener.new) (outs workers.new.items) result }
 {
     let mut is_short = false;
     for _ in rt.forever() {
@@ -207,20 +178,12 @@ pub fn join_all<R: Threads, K: Keeper, N: Listener, C: Clock>(
     requires of { AreOf book.now clock.now workers.old.items }
     ensures by { IsOf book.now by.new }
     ensures none { workers.new.items ≡ [] }
-    ensures only { OnlyNotes
-        (told (N.left listener.old) (N.accepted listener.old) (N.noted listener.old)
-        (N.listened listener.old) (N.faults listener.old))
-        (told (N.left listener.new) (N.accepted listener.new) (N.noted listener.new)
-        (N.listened listener.new) (N.faults listener.new)) }
-    ensures goes { Continues (C.tells clock.now) book.now.opening
-        by.old (told (N.left listener.old) (N.accepted listener.old) (N.noted listener.old)
-        (N.listened listener.old) (N.faults listener.old))
-        (outs_of N.In.left N.Out.held N.In.faults N.Out.faults
-        workers.old.items)
-        by.new (told (N.left listener.new) (N.accepted listener.new) (N.noted listener.new)
-        (N.listened listener.new) (N.faults listener.new))
-        (outs_of N.In.left N.Out.held N.In.faults N.Out.faults
-        workers.new.items) result }
+    ensures only { let tell = told_by N.left N.accepted N.noted N.listened N.faults in
+        OnlyNotes (tell listener.old) (tell listener.new) }
+    ensures goes { let outs = outs_of N.In.left N.Out.held N.In.faults N.Out.faults in
+        let tell = told_by N.left N.accepted N.noted N.listened N.faults in
+        Continues (C.tells clock.now) book.now.opening by.old (tell listener.old)
+        (outs workers.old.items) by.new (tell listener.new) (outs workers.new.items) result }
 {
     let mut is_short = false;
     while workers.len() != 0 {

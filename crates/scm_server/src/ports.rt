@@ -3,7 +3,7 @@ ghost use Rattle.std.specs.Prelude.{◌≡◌, if◌then◌else◌};
 ghost use Rattle.std.specs.Thread.{IsSend, IsSync};
 ghost use Rattle.scm_book.specs.Passes.{IsOf};
 ghost use Rattle.scm_server.specs.declared.ending.ServeEnd.TheVariants as ends;
-ghost use Rattle.scm_server.specs.Ports.{EndsFor, GoesFar, ServesPort, told, was_short};
+ghost use Rattle.scm_server.specs.Ports.{EndsFor, GoesFar, ServesPort, told_by, was_short};
 
 use crate::accepting::{Over, accept_all};
 use crate::ending::ServeEnd;
@@ -59,16 +59,11 @@ where
     requires { IsOf book.now pass }
     ensures book { IsOf book.now result.pass }
     ensures goes { GoesFar book.now.opening pass result.pass }
-    ensures serves { ServesPort (C.tells clock.now) book.now.opening principal result.pass.seen
-        (told (N.left listener) (N.accepted listener) (N.noted listener)
-        (N.listened listener) (N.faults listener))
-        (told (N.left result.listener) (N.accepted result.listener) (N.noted result.listener)
-        (N.listened result.listener) (N.faults result.listener)) (was_short result.end) }
-    ensures ends { EndsFor result.end
-        (told (N.left listener) (N.accepted listener) (N.noted listener)
-        (N.listened listener) (N.faults listener))
-        (told (N.left result.listener) (N.accepted result.listener) (N.noted result.listener)
-        (N.listened result.listener) (N.faults result.listener)) }
+    ensures serves { let tell = told_by N.left N.accepted N.noted N.listened N.faults in
+        ServesPort (C.tells clock.now) book.now.opening principal result.pass.seen (tell listener)
+        (tell result.listener) (was_short result.end) }
+    ensures ends { let tell = told_by N.left N.accepted N.noted N.listened N.faults in
+        EndsFor result.end (tell listener) (tell result.listener) }
 {
     book.opens();
     let mut pass = pass;
@@ -120,16 +115,11 @@ where
     requires { IsOf book.now pass }
     ensures book { IsOf book.now result.pass }
     ensures goes { GoesFar book.now.opening pass result.pass }
-    ensures serves { ServesPort (C.tells clock.now) book.now.opening principal result.pass.seen
-        (told (N.left listener) (N.accepted listener) (N.noted listener)
-        (N.listened listener) (N.faults listener))
-        (told (N.left result.listener) (N.accepted result.listener) (N.noted result.listener)
-        (N.listened result.listener) (N.faults result.listener)) (was_short result.end) }
-    ensures ends { EndsFor result.end
-        (told (N.left listener) (N.accepted listener) (N.noted listener)
-        (N.listened listener) (N.faults listener))
-        (told (N.left result.listener) (N.accepted result.listener) (N.noted result.listener)
-        (N.listened result.listener) (N.faults result.listener)) }
+    ensures serves { let tell = told_by N.left N.accepted N.noted N.listened N.faults in
+        ServesPort (C.tells clock.now) book.now.opening principal result.pass.seen (tell listener)
+        (tell result.listener) (was_short result.end) }
+    ensures ends { let tell = told_by N.left N.accepted N.noted N.listened N.faults in
+        EndsFor result.end (tell listener) (tell result.listener) }
 {
     thread::scope(
         thread::scope_env(),
@@ -139,19 +129,11 @@ where
                 × IsSend N.row × IsSync C.row × IsOf book.now pass }
             ensures book { IsOf book.entry.now result.pass }
             ensures goes { GoesFar book.entry.now.opening pass result.pass }
-            ensures serves { ServesPort
-                (C.tells clock.entry.now) book.entry.now.opening principal result.pass.seen
-                (told (N.left listener) (N.accepted listener) (N.noted listener)
-                (N.listened listener) (N.faults listener))
-                (told (N.left result.listener) (N.accepted result.listener)
-                (N.noted result.listener)
-                (N.listened result.listener) (N.faults result.listener)) (was_short result.end) }
-            ensures ends { EndsFor result.end
-                (told (N.left listener) (N.accepted listener) (N.noted listener)
-                (N.listened listener) (N.faults listener))
-                (told (N.left result.listener) (N.accepted result.listener)
-                (N.noted result.listener)
-                (N.listened result.listener) (N.faults result.listener)) }
+            ensures serves { let tell = told_by N.left N.accepted N.noted N.listened N.faults in
+                ServesPort (C.tells clock.entry.now) book.entry.now.opening principal
+                result.pass.seen (tell listener) (tell result.listener) (was_short result.end) }
+            ensures ends { let tell = told_by N.left N.accepted N.noted N.listened N.faults in
+                EndsFor result.end (tell listener) (tell result.listener) }
         { serve_in(scope, rt, alloc, book, pass, listener, principal, clock) },
     )
 }

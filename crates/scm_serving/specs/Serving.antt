@@ -24,20 +24,20 @@ abbrev pub lacked_memory : BookEnd → Bool
 lacked_memory OutOfMemory = true
 lacked_memory end = false
 
--- how serving ended; the text that is told is the summary
+-- how serving ended; the text that is returned is the summary
 abbrev pub EndsAs : Opening → List Entry → (a a' u u' : Told) → BookEnd → Type 0
 EndsAs o history a a' u u' (Ended text) = (text ≡ summary_of o history) × EndsAll ends.Ended a a' u u'
 EndsAs o history a a' u u' ListenFault = EndsAll ends.ListenFault a a' u u'
 EndsAs o history a a' u u' OutOfMemory = EndsAll ends.OutOfMemory a a' u u'
 
--- how it is told over a history that left so many services
+-- what is returned for how serving ended, over a history that left so many services
 abbrev pub IsTold : List Entry → (services : ℕ) → ServeEnd → BookEnd → Type 0
 IsTold history services ends.Ended (Ended text) = text ≡ summary history services
 IsTold history services ends.ListenFault end = end ≡ ListenFault
 IsTold history services fault end = end ≡ OutOfMemory
 
 module _ {K : Type 0} (told : K → Option (List ℕ)) (faulted : K → ℕ) where
-  -- a book was closed behind what was seen: its history is legal, and the keeper has its kept changes
+  -- a book was closed after what was seen: its history is legal, and the keeper has its kept changes
   pub record HasClosed (o : Opening) (seen : List Entry) (how : ServeEnd) (end : BookEnd) (keeper : K) : Type 0 where
     pub history : List Entry
     pub longer : IsPrefix seen history

@@ -59,7 +59,7 @@ fn book_end(alloc: Global, end: ServeEnd, trail: &Trail, services: u64) -> BookE
     }
 }
 
-/// Closes the book behind its last pass, and sums its history up.
+/// Closes the book after its last pass, and sums its history up.
 fn closed<R: Wait, K: Keeper, N, P>(
     rt: &R,
     alloc: Global,

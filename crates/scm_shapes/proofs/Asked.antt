@@ -28,8 +28,8 @@ use Rattle.scm_shapes.specs.Parts.{Reads, made_at, both_at, checked_at, unkept_a
 use Rattle.scm_shapes.specs.Parts.{ThenStands, BothStand, Holds, CheckedStands, IfStands, ForEachStands, SameStands, NonzeroStands}
 use Rattle.scm_shapes.specs.Parts.{put_pointer, put_flag, put_if, put_all}
 use Rattle.scm_shapes.specs.Levels.{failure_head, failure_head_at, FailureHeadStands, action_of, action_at, ActionStands, actions_at}
-use Rattle.scm_shapes.specs.Levels.{ActionsStand, failure_tail_at, FailureTailStands, failure_of, failure_at, FailureStands, trigger_head}
-use Rattle.scm_shapes.specs.Levels.{trigger_head_at, TriggerHeadStands, trigger_of, trigger_at, TriggerStands, trigger_heads_at}
+use Rattle.scm_shapes.specs.Levels.{ActionsStand, failure_tail_at, FailureTailStands, failure_info, failure_at, FailureStands, trigger_head}
+use Rattle.scm_shapes.specs.Levels.{trigger_head_at, TriggerHeadStands, trigger_from, trigger_at, TriggerStands, trigger_heads_at}
 use Rattle.scm_shapes.specs.Levels.{TriggerHeadsStand, listed_triggers_at, ListedTriggersStand, is_listed, listing_at, ListingStands}
 use Rattle.scm_shapes.specs.Levels.{triggers_of, triggers_at, TriggersStand, level_of, referent_at, ReferentStands, served_at, level_at}
 use Rattle.scm_shapes.specs.Levels.{LevelStands, info_at, InfoStands, count_of, put_failure_head, put_action, put_actions, put_failure}
@@ -84,7 +84,7 @@ failure_tail_exactly head body fits =
 
 failure_exactly : (body : List ℕ) → IsBytes body → Exactly failure_at FailureStands body
 unfolding failure_at
-failure_exactly body fits = made_exactly failure_of _ _ body (then_exactly _ _ failure_tail_at FailureTailStands body
+failure_exactly body fits = made_exactly failure_info _ _ body (then_exactly _ _ failure_tail_at FailureTailStands body
     (failure_head_exactly body fits) (λ head. failure_tail_exactly head body fits))
 
 -- ## Triggers are read where they stand
@@ -97,7 +97,7 @@ trigger_head_exactly body fits =
     (both_exactly _ _ _ _ body number (same_exactly 0 body fits)))))
 
 trigger_exactly : (head : TriggerHead) (body : List ℕ) → Exactly (trigger_at head) (TriggerStands head) body
-trigger_exactly head body = made_exactly (trigger_of head) _ _ body (if_exactly head.named _ _ body (uuid_exactly body))
+trigger_exactly head body = made_exactly (trigger_from head) _ _ body (if_exactly head.named _ _ body (uuid_exactly body))
 
 trigger_heads_exactly : (count : ℕ) (body : List ℕ) → IsBytes body → Exactly (trigger_heads_at count) (TriggerHeadsStand count) body
 trigger_heads_exactly count body fits = made_exactly (λ (v : ℕ × List TriggerHead). v.1) _ _ body
@@ -525,7 +525,7 @@ failure_put reset command actions h =
     let text = some_put IsSent text_at put_text command text_put h.sent.1.0 in
     let tail = both_put (unkept_at (if_at false text_at)) _ _ _ tt (command, actions) none
     (both_put _ _ _ _ _ _ text (actions_if_put actions few h.sent.1.1)) in
-    made_put failure_of _ _ (head, (tt, (command, actions))) (then_put failure_head_at failure_tail_at _ _ _ _
+    made_put failure_info _ _ (head, (tt, (command, actions))) (then_put failure_head_at failure_tail_at _ _ _ _
     (failure_head_put reset command actions h.sent.0 few) tail)
 
 abbrev head_of : TriggerIn → TriggerHead
@@ -541,7 +541,7 @@ trigger_head_put trigger h =
 
 trigger_put : (trigger : TriggerIn) → IsTriggerSent trigger → IsPutAs (trigger_at (head_of trigger)) (put_subtype trigger) trigger
 unfolding put_subtype
-trigger_put trigger h = made_put (trigger_of (head_of trigger)) _ _ trigger.subtype
+trigger_put trigger h = made_put (trigger_from (head_of trigger)) _ _ trigger.subtype
     (some_put (λ (uuid : List ℕ). length uuid ≡ 16) uuid_at put_uuid trigger.subtype uuid_put h.subtype)
 
 listed_put : (triggers : List TriggerIn) → length triggers ≤ SC_MAX_TRIGGERS → AllByRecursion IsTriggerSent triggers

@@ -7,7 +7,7 @@ use Rattle.std.proofs.lemmas.List.{append-nil, length-take, length-replicate}
 use Rattle.std.proofs.Math.Seq.{take-length}
 use Rattle.ndr_body.specs.declared.fault.BodyFault.{BodyFault}
 use Rattle.ndr_body.specs.Reading.{◌>>=◌, Gives, number_at, handle_at, text_at, some_text_at, some_number_at, some_bytes_at, bytes_at}
-use Rattle.ndr_body.specs.Reading.{finished}
+use Rattle.ndr_body.specs.Reading.{ended_at}
 use Rattle.ndr_body.specs.Writing.{Draft, blank, put_number, put_handle, put_text, put_bytes, put_some_text, put_some_number, put_referent}
 use Rattle.ndr_body.specs.Laws.{IsPutAs, filled}
 use Rattle.ndr_body.proofs.Written.{number_put, handle_put, text_put, bytes_put, any_text_put, any_number_put, no_text_put, no_bytes_put}
@@ -25,7 +25,7 @@ use Rattle.scm_shapes.specs.Words.{words_at, put_words}
 use Rattle.scm_shapes.specs.Shapes.{item_at, values_at, leave_open, closed_at, body_values, put_value, put_values, body_bytes}
 use Rattle.scm_shapes.specs.Bodies.{ItemStands, ValuesStand, IsBody}
 use Rattle.scm_shapes.specs.Laws.{CanHold, CanHoldAll, as_read}
-use Rattle.scm_shapes.specs.Records.{lock_at, lock_of, lock_marks, lock_texts, owners, shown_at, shown_of, shown_told, shown_marks}
+use Rattle.scm_shapes.specs.Records.{lock_at, lock_of, lock_marks, lock_texts, owners, shown_at, shown_from, shown_told, shown_marks}
 use Rattle.scm_shapes.specs.Records.{shown_texts, put_record}
 use Rattle.scm_shapes.specs.Levels.{info_at, put_info}
 use Rattle.scm_shapes.specs.Parts.{made}
@@ -112,7 +112,7 @@ values_put (kind ∷ kinds) (v ∷ vs) h = both_put (item_at kind) (values_at ki
 values_put [] (v ∷ vs) h = absurd h
 values_put (kind ∷ kinds) [] h = absurd h
 
-closes_there : (b : Bool) (d : Draft) → cond b (Ok tt) (finished d.bytes (length d.bytes)) ≡ Ok tt
+closes_there : (b : Bool) (d : Draft) → cond b (Ok tt) (ended_at d.bytes (length d.bytes)) ≡ Ok tt
 closes_there true d = refl
 closes_there false d = ends_there d
 
@@ -148,7 +148,7 @@ item_ranged item.Lock body place v after h =
 item_ranged item.Info body place v after h = rw h.is (info_ranged body place h.content after h.there)
 item_ranged item.Shown body place v after h =
     let t = h.there in
-    let r = record_small 9 shown_told shown_of body place h.content after t in
+    let r = record_small 9 shown_told shown_from body place h.content after t in
     rw (h.is, t.is) (shown_ranged t.numbers t.texts r.0 r.1)
 
 values_ranged : (shape : List Item) (body : List ℕ) (place : ℕ) (vs : List Value) (after : ℕ) → ValuesStand shape body place vs after

@@ -6,7 +6,7 @@ use Rattle.std.proofs.lemmas.Bool.{eqb-true, eq-eqb}
 use Rattle.ndr_body.specs.declared.fault.BodyFault.{BodyFault}
 use Rattle.ndr_body.specs.declared.fault.BodyFault.TheVariants.{BadCount}
 use Rattle.ndr_body.specs.Reading.{◌>>=◌, Gives, aligned, number_at, handle_at, text_at, some_text_at, some_number_at, some_bytes_at}
-use Rattle.ndr_body.specs.Reading.{bytes_at, finished}
+use Rattle.ndr_body.specs.Reading.{bytes_at, ended_at}
 use Rattle.ndr_body.specs.Spelled.{IsNumber, IsHandle, IsText, IsBytesOf, IsPointed, IsEnded, Stands}
 use Rattle.ndr_body.proofs.Spelled.{IsBytes, bind_ok, ok_is, number_spelled, number_read}
 use Rattle.ndr_body.proofs.SpelledHandles.{handle_spelled, handle_read}
@@ -22,7 +22,7 @@ use Rattle.scm_shapes.specs.Sized.{is_size, sized_at}
 use Rattle.scm_shapes.specs.Words.{words_at}
 use Rattle.scm_shapes.specs.Shapes.{item_at, values_at, leave_open, closed_at, body_values, first_as, fitted}
 use Rattle.scm_shapes.specs.Bodies.{IsSize, SizedStands, WordsStand, ItemStands, ValuesStand, IsBody}
-use Rattle.scm_shapes.specs.Records.{RecordStands, record_at, owners, lock_of, lock_at, shown_told, shown_of, shown_at}
+use Rattle.scm_shapes.specs.Records.{RecordStands, record_at, owners, lock_of, lock_at, shown_told, shown_from, shown_at}
 use Rattle.scm_shapes.proofs.Ranges.{guard_true}
 use Rattle.scm_shapes.proofs.Argv.{words_found, words_read}
 use Rattle.scm_shapes.proofs.Recorded.{record_exactly}
@@ -136,8 +136,8 @@ item_exactly item.Words body fits =
     })
 item_exactly item.Lock body fits = made_exactly (λ (l : ℕ × Option (List ℕ) × ℕ). value.Lock l.0 l.1 l.2) lock_at
     (RecordStands 3 owners lock_of) body (recorded 3 owners lock_of body fits)
-item_exactly item.Shown body fits = made_exactly value.Shown shown_at (RecordStands 9 shown_told shown_of) body
-    (recorded 9 shown_told shown_of body fits)
+item_exactly item.Shown body fits = made_exactly value.Shown shown_at (RecordStands 9 shown_told shown_from) body
+    (recorded 9 shown_told shown_from body fits)
 item_exactly item.Info body fits = made_exactly value.Info info_at InfoStands body (info_exactly body fits)
 
 -- ## Shapes
@@ -164,11 +164,11 @@ values_read (kind ∷ kinds) body place (v ∷ vs) after fits h = rw (
 values_read [] body place (v ∷ vs) after fits h = absurd h
 values_read (kind ∷ kinds) body place [] after fits h = absurd h
 
-closed_ends : (b : Bool) (body : List ℕ) (place : ℕ) → cond b (Ok tt) (finished body place) ≡ Ok tt → IsTrue b ⊎ IsEnded body place
+closed_ends : (b : Bool) (body : List ℕ) (place : ℕ) → cond b (Ok tt) (ended_at body place) ≡ Ok tt → IsTrue b ⊎ IsEnded body place
 closed_ends true body place e = inl refl
 closed_ends false body place e = inr (finished_ended body place e)
 
-ends_closed : (b : Bool) (body : List ℕ) (place : ℕ) → IsTrue b ⊎ IsEnded body place → cond b (Ok tt) (finished body place) ≡ Ok tt
+ends_closed : (b : Bool) (body : List ℕ) (place : ℕ) → IsTrue b ⊎ IsEnded body place → cond b (Ok tt) (ended_at body place) ≡ Ok tt
 ends_closed true body place h = refl
 ends_closed false body place (inl h) = absurd cc
 ends_closed false body place (inr h) = ended_finished body place h

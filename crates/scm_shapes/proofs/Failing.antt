@@ -6,7 +6,7 @@ use Rattle.ndr_body.specs.declared.fault.BodyFault.{BodyFault}
 use Rattle.ndr_body.specs.Reading.{◌>>=◌, Fails, text_at}
 use Rattle.scm_shapes.specs.declared.levels.FailureHead.{FailureHead}
 use Rattle.scm_shapes.specs.Parts.{Reads, then_at, both_at, made_at, unkept_at, if_at}
-use Rattle.scm_shapes.specs.Levels.{failure_head_at, failure_tail_at, actions_at, failure_of, failure_at}
+use Rattle.scm_shapes.specs.Levels.{failure_head_at, failure_tail_at, actions_at, failure_info, failure_at}
 use Rattle.scm_shapes.proofs.Loop.{fails_on}
 
 module _ {A B : Type 0} (first_at : Reads A) (second_at : A → Reads B) (body : List ℕ) (place : ℕ) where
@@ -44,7 +44,7 @@ module _ (body b1 : List ℕ) (place : ℕ) (head : FailureHead) (p1 p2 : ℕ) w
   command_fails b2 e same1 same2 one two h =
       let skipped : reboot_at body p1 ≡ Ok (tt, p2) = subst (λ (b : List ℕ). reboot_at b p1 ≡ Ok (tt, p2)) same1 two in
       let failed : Fails e (command_at body p2) = subst (λ (b : List ℕ). Fails e (command_at b p2)) (same2 ∙ same1) h in
-      made_fails failure_of (then_at failure_head_at failure_tail_at) body place e
+      made_fails failure_info (then_at failure_head_at failure_tail_at) body place e
       (second_fails failure_head_at failure_tail_at body place head p1 e one
       (second_fails reboot_at (λ (kept : Unit {0}). both_at command_at listed_at) body p1 tt p2 e skipped
       (first_fails command_at (λ (command : Option (List ℕ)). listed_at) body p2 e failed)))
@@ -58,7 +58,7 @@ module _ (body b1 : List ℕ) (place : ℕ) (head : FailureHead) (p1 p2 : ℕ) w
       let named : command_at body p2 ≡ Ok (command, p3) = subst (λ (b : List ℕ). command_at b p2 ≡ Ok (command, p3)) (same2
       ∙ same1) three in
       let failed : Fails e (listed_at body p3) = subst (λ (b : List ℕ). Fails e (listed_at b p3)) (same3 ∙ same2 ∙ same1) h in
-      made_fails failure_of (then_at failure_head_at failure_tail_at) body place e
+      made_fails failure_info (then_at failure_head_at failure_tail_at) body place e
       (second_fails failure_head_at failure_tail_at body place head p1 e one
       (second_fails reboot_at (λ (kept : Unit {0}). both_at command_at listed_at) body p1 tt p2 e skipped
       (second_fails command_at (λ (command : Option (List ℕ)). listed_at) body p2 command p3 e named failed)))

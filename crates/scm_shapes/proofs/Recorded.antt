@@ -13,7 +13,7 @@ use Rattle.ndr_body.proofs.Written.{number_put}
 use Rattle.ndr_body.proofs.Chains.{Holds, read_there}
 use Rattle.scm_shapes.specs.Each.{each_at, put_each, EachStands}
 use Rattle.scm_shapes.specs.Records.{texts_at, record_at, RecordStands, put_mark, put_marks, put_record, owners, lock_of, lock_marks}
-use Rattle.scm_shapes.specs.Records.{lock_texts, shown_told, shown_of, shown_marks, shown_texts}
+use Rattle.scm_shapes.specs.Records.{lock_texts, shown_told, shown_from, shown_marks, shown_texts}
 use Rattle.scm_shapes.specs.Laws.{IsShown}
 use Rattle.scm_shapes.proofs.Referents.{no_null, referent_next, referent_read}
 use Rattle.scm_shapes.proofs.Each.{Behind, behind_both, behind_nothing, behind_number, behind_referent, behind_each, each_found, each_read}
@@ -171,10 +171,10 @@ lock_ranged ns texts small sent = (omega arith, (tt, omega arith))
 
 -- ## A configuration
 
-shown_put_some : (s : Shown) → IsShown s → IsPutAs (record_at 9 shown_told shown_of)
+shown_put_some : (s : Shown) → IsShown s → IsPutAs (record_at 9 shown_told shown_from)
     (put_record (shown_marks (Some s)) (shown_texts (Some s))) (Some s)
 shown_put_some s h =
-    record_put shown_told shown_of (shown_marks (Some s)) (shown_texts (Some s)) (Some s)
+    record_put shown_told shown_from (shown_marks (Some s)) (shown_texts (Some s)) (Some s)
     (h.kind, (h.start, (h.error, (tt, (tt, (h.tag, (tt, (tt, (tt, tt))))))))) h.texts
     (λ d referent.
     let d1 = put_number s.kind d in
@@ -192,11 +192,11 @@ shown_put_some s h =
     rw (no_null d3.next r3, no_null d4.next r4, no_null d6.next r6, no_null d7.next r7, no_null (put_referent d7).next r8) refl)
     (λ d referent. refl)
 
-pub shown_put : (shown : Option Shown) → IfSome shown IsShown → IsPutAs (record_at 9 shown_told shown_of)
+pub shown_put : (shown : Option Shown) → IfSome shown IsShown → IsPutAs (record_at 9 shown_told shown_from)
     (put_record (shown_marks shown) (shown_texts shown)) shown
 shown_put None h =
     let lt : 0 < 2 ^ 32 = omega arith in
-    record_put shown_told shown_of (shown_marks None) [] None (lt, (lt, (lt, (lt, (lt, (lt, (lt, (lt, (lt, tt))))))))) tt
+    record_put shown_told shown_from (shown_marks None) [] None (lt, (lt, (lt, (lt, (lt, (lt, (lt, (lt, (lt, tt))))))))) tt
     (λ d referent. refl) (λ d referent. refl)
 shown_put (Some s) h = shown_put_some s h
 
@@ -206,7 +206,7 @@ unfolding each_at
 decides body place = refl
 
 pub shown_ranged : (ns : List ℕ) (texts : List (List ℕ)) → AllByRecursion (λ n. n < 2 ^ 32) ns → AllByRecursion IsSent texts
-    → IfSome (shown_of ns texts) IsShown
+    → IfSome (shown_from ns texts) IsShown
 shown_ranged (kind ∷ start ∷ error ∷ to_path ∷ to_group ∷ tag ∷ ns) (path ∷ group ∷ needs ∷ account ∷ display ∷ []) small sent =
     record { kind = small.0; start = small.1.0; error = small.1.1.0; tag = small.1.1.1.1.1.0; texts = sent }
 shown_ranged ns texts small sent = tt

@@ -8,19 +8,19 @@ use Rattle.scm_shapes.specs.declared.item.Value.{Value}
 use Rattle.scm_shapes.specs.declared.item.Value.TheVariants as value
 use Rattle.scm_shapes.specs.Words.{pointing, words_of, unlisted}
 use Rattle.scm_shapes.specs.Ranges.{WithinStands}
-use Rattle.scm_shapes.specs.Records.{RecordStands, owners, lock_of, shown_told, shown_of}
+use Rattle.scm_shapes.specs.Records.{RecordStands, owners, lock_of, shown_told, shown_from}
 use Rattle.scm_shapes.specs.Parts.{Holds}
 use Rattle.scm_shapes.specs.Levels.{InfoStands}
 use Rattle.scm_shapes.specs.Shapes.{leave_open}
 
 -- ## Bytes with their size, and words
 
--- a size that stands behind bytes is theirs, and anything where there are none
+-- a size that follows bytes is their length, or any number if there are none
 abbrev pub IsSize : Option (List ℕ) → ℕ → Type 0
 IsSize None size = Unit {0}
 IsSize (Some held) size = length held ≡ size
 
--- bytes behind a pointer, and their size
+-- a unique pointer to bytes, and the size of these
 pub record SizedStands (bytes : List ℕ) (place : ℕ) (held : Option (List ℕ)) (after : ℕ) : Type 0 where
   pub behind_held : ℕ
   pub held_stands : Stands (IsPointed IsBytesOf) bytes place held behind_held
@@ -67,10 +67,10 @@ ItemStands item.UnkeptBytes = Holds (λ held. value.UnkeptBytes) SizedStands
 ItemStands item.Bytes = Holds (λ held. value.Bytes (length held) held) (Stands IsBytesOf)
 ItemStands item.Words = Holds value.Words WordsStand
 ItemStands item.Lock = Holds (λ l. value.Lock l.0 l.1 l.2) (RecordStands 3 owners lock_of)
-ItemStands item.Shown = Holds value.Shown (RecordStands 9 shown_told shown_of)
+ItemStands item.Shown = Holds value.Shown (RecordStands 9 shown_told shown_from)
 ItemStands item.Info = Holds value.Info InfoStands
 
--- items of these kinds stand one behind the other
+-- items of these kinds stand one after the other
 abbrev pub ValuesStand : List Item → List ℕ → ℕ → List Value → ℕ → Type 0
 ValuesStand [] bytes place [] after = after ≡ place
 ValuesStand (kind ∷ kinds) bytes place (v ∷ vs) after = (behind : ℕ) × ItemStands kind bytes place v behind

@@ -1,10 +1,10 @@
--- Items of one kind, one behind the other.
+-- Items of one kind, one after the other.
 use Rattle.std.specs.Prelude.{◌≡◌, ℕ, suc, zero, List, [], ◌∷◌, length, Result, Ok}
 use Rattle.ndr_body.specs.declared.fault.BodyFault.{BodyFault}
 use Rattle.ndr_body.specs.Reading.{◌>>=◌}
 use Rattle.ndr_body.specs.Writing.{Draft, put_text}
 
--- items stand one behind the other
+-- items stand one after the other
 abbrev pub EachStands : {A : Type 0} → (List ℕ → ℕ → A → ℕ → Type 0) → List ℕ → ℕ → List A → ℕ → Type 0
 EachStands There bytes place [] after = after ≡ place
 EachStands There bytes place (value ∷ values) after = (behind : ℕ) × There bytes place value behind

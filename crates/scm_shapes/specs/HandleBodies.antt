@@ -1,7 +1,7 @@
 -- Bodies of a handle and at most two numbers, which hold no value of another kind.
 use Rattle.std.specs.Prelude.{ℕ, Bool, true, false, ◌&&◌, List, [], ◌∷◌, drop, Result, Ok}
 use Rattle.ndr_body.specs.declared.fault.BodyFault.{BodyFault}
-use Rattle.ndr_body.specs.Reading.{◌>>=◌, number_at, handle_at, finished}
+use Rattle.ndr_body.specs.Reading.{◌>>=◌, number_at, handle_at, ended_at}
 use Rattle.scm_shapes.specs.declared.item.Item.{Item}
 use Rattle.scm_shapes.specs.declared.item.Item.TheVariants as item
 use Rattle.scm_shapes.specs.declared.item.Value.{Value}
@@ -11,15 +11,15 @@ use Rattle.scm_shapes.specs.Parts.{Reads}
 use Rattle.scm_shapes.specs.Ranges.{within_at}
 use Rattle.scm_shapes.specs.Shapes.{after, first_handle, first_number}
 
-abbrev pub is_number : Item → Bool
-is_number item.Number = true
-is_number (item.NumberTo most) = true
-is_number _ = false
+abbrev pub is_numeric : Item → Bool
+is_numeric item.Number = true
+is_numeric (item.NumberTo most) = true
+is_numeric _ = false
 
 abbrev pub is_handle_body : List Item → Bool
 is_handle_body (item.Handle ∷ []) = true
-is_handle_body (item.Handle ∷ first ∷ []) = is_number first
-is_handle_body (item.Handle ∷ first ∷ second ∷ []) = is_number first && is_number second
+is_handle_body (item.Handle ∷ first ∷ []) = is_numeric first
+is_handle_body (item.Handle ∷ first ∷ second ∷ []) = is_numeric first && is_numeric second
 is_handle_body _ = false
 
 -- what the values of such a body are; a number that it doesn't have is 0
@@ -41,5 +41,5 @@ handle_body_at numbers body = do
   handle ← handle_at body 0
   first ← next_number_at numbers body handle.1
   second ← next_number_at (drop 1 numbers) body first.1
-  ended ← finished body second.1
+  ended ← ended_at body second.1
   Ok (record { handle = handle.0; first = first.0; second = second.0 })

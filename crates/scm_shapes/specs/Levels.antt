@@ -60,14 +60,14 @@ abbrev pub FailureTailStands : FailureHead → List ℕ → ℕ → Unit {0} × 
 FailureTailStands head = BothStand (Holds (λ text. tt) (IfStands head.reboot (Stands IsText)))
     (BothStand (IfStands head.command (Stands IsText)) (IfStands head.listed (ActionsStand head.count)))
 
-abbrev pub failure_of : FailureHead × (Unit {0} × (Option (List ℕ) × Option (List Action))) → Info
-failure_of v = info.Failure v.0.reset v.1.1.0 v.1.1.1
+abbrev pub failure_info : FailureHead × (Unit {0} × (Option (List ℕ) × Option (List Action))) → Info
+failure_info v = info.Failure v.0.reset v.1.1.0 v.1.1.1
 
 unfoldable pub failure_at : Reads Info
-failure_at = made_at failure_of (then_at failure_head_at failure_tail_at)
+failure_at = made_at failure_info (then_at failure_head_at failure_tail_at)
 
 abbrev pub FailureStands : List ℕ → ℕ → Info → ℕ → Type 0
-FailureStands = Holds failure_of (ThenStands FailureHeadStands FailureTailStands)
+FailureStands = Holds failure_info (ThenStands FailureHeadStands FailureTailStands)
 
 -- ## Triggers: a count, a pointer and a zero pointer, the triggers, and the subtypes that they point to. No trigger needs no list.
 
@@ -81,14 +81,14 @@ abbrev pub TriggerHeadStands : List ℕ → ℕ → TriggerHead → ℕ → Type
 TriggerHeadStands = Holds trigger_head (BothStand (Stands IsNumber) (BothStand (Stands IsNumber)
     (BothStand NonzeroStands (BothStand (Stands IsNumber) (SameStands 0)))))
 
-abbrev pub trigger_of : TriggerHead → Option (List ℕ) → TriggerIn
-trigger_of head subtype = record { kind = head.kind; action = head.action; subtype = subtype; items = head.items }
+abbrev pub trigger_from : TriggerHead → Option (List ℕ) → TriggerIn
+trigger_from head subtype = record { kind = head.kind; action = head.action; subtype = subtype; items = head.items }
 
 abbrev pub trigger_at : TriggerHead → Reads TriggerIn
-trigger_at head = made_at (trigger_of head) (if_at head.named uuid_at)
+trigger_at head = made_at (trigger_from head) (if_at head.named uuid_at)
 
 abbrev pub TriggerStands : TriggerHead → List ℕ → ℕ → TriggerIn → ℕ → Type 0
-TriggerStands head = Holds (trigger_of head) (IfStands head.named (Stands IsUuid))
+TriggerStands head = Holds (trigger_from head) (IfStands head.named (Stands IsUuid))
 
 -- the count again, the triggers, and their subtypes
 abbrev pub trigger_heads_at : ℕ → Reads (List TriggerHead)
@@ -156,7 +156,7 @@ ReferentStands (info.Nothing level) bytes place after = ⊥
 unfoldable pub served_at : ℕ → Reads Info
 served_at level = made_at (λ v. unwrap_or v.1 (info.Nothing level)) (then_at nonzero_at (λ points. if_at points (referent_at level)))
 
--- behind a level that isn't served anything may stand
+-- anything may follow a level that isn't served
 unfoldable pub level_at : ℕ → Reads Info
 level_at level = if is_level level then served_at level else (λ body place. Ok (info.Other level, place))
 
@@ -211,7 +211,7 @@ unfoldable pub put_triggers : List TriggerIn → Draft → Draft
 put_triggers triggers d = if length triggers == 0 then put_listing 0 false d
     else put_listed_triggers triggers (put_listing (length triggers) true d)
 
--- what stands behind a pointer
+-- the referent of a pointer
 unfoldable pub put_referent_of : Info → Draft → Draft
 put_referent_of (info.Description text) d = put_some_text text d
 put_referent_of (info.Failure reset command actions) d = put_failure reset command actions d

@@ -1,4 +1,4 @@
--- Parts of a body one behind the other, where what stands first may tell what comes behind it.
+-- Parts of a body one after the other. A part can decide which part follows it.
 use Rattle.std.specs.Prelude.{◌≡◌, ◌==◌, not, ℕ, Bool, true, false, List, [], ◌∷◌, Option, None, Some, Result, Ok, Err, if◌then◌else◌}
 use Rattle.ndr_body.specs.declared.fault.BodyFault.{BodyFault}
 use Rattle.ndr_body.specs.declared.fault.BodyFault.TheVariants.{BadCount}
@@ -8,11 +8,11 @@ use Rattle.ndr_body.specs.Spelled.{IsNumber, Stands}
 
 -- ## Reading
 
--- how a part is read at a place of a body: its content, and the place behind it
+-- how a part is read at a place of a body: its content, and the place after it
 abbrev pub Reads : Type 0 → Type 0
 Reads A = List ℕ → ℕ → Result (A × ℕ) BodyFault
 
--- a part, and behind it one that it tells of
+-- a part, and then the one that its content decides
 abbrev pub then_at : {A B : Type 0} → Reads A → (A → Reads B) → Reads (A × B)
 then_at first_at second_at body place = first_at body place >>= λ first. second_at first.0 body first.1 >>= λ second. Ok
     ((first.0, second.0), second.1)
@@ -35,7 +35,7 @@ unkept_at read_at = made_at (λ x. tt) read_at
 abbrev pub checked_at : {A : Type 0} → (A → Bool) → Reads A → Reads A
 checked_at test read_at body place = read_at body place >>= λ x. if test x.0 then Ok x else Err (BadCount (aligned place))
 
--- a part where it is told of, and else nothing
+-- a part if there is one, and else nothing
 abbrev pub if_at : {A : Type 0} → Bool → Reads A → Reads (Option A)
 if_at true read_at = made_at Some read_at
 if_at false read_at = λ body place. Ok (None, place)

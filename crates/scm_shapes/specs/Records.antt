@@ -1,4 +1,4 @@
--- Numbers, of which some point to texts, and these texts behind them all: the state of a lock, and a configuration.
+-- Numbers, of which some point to texts, and then these texts: the state of a lock, and a configuration.
 use Rattle.std.specs.Prelude.{◌≡◌, ℕ, ◌+◌, ◌&&◌, ◌||◌, ◌==◌, not, Bool, List, [], ◌∷◌, length, Option, None, Some, Result, Ok, Err}
 use Rattle.std.specs.Prelude.{if◌then◌else◌}
 use Rattle.scm_model.specs.declared.calls.Shown.{Shown}
@@ -12,7 +12,7 @@ use Rattle.scm_shapes.specs.Each.{each_at, put_each, EachStands}
 
 -- ## Reading
 
--- so many texts, or a number that doesn't fit, so far behind the first one
+-- so many texts, or the fault of a number that doesn't fit, at this offset from the first one
 abbrev pub texts_at : Result ℕ ℕ → ℕ → List ℕ → ℕ → Result (List (List ℕ) × ℕ) BodyFault
 texts_at (Ok count) start body place = each_at text_at count body place
 texts_at (Err far) start body place = Err (BadCount (aligned start + far))
@@ -85,7 +85,7 @@ is_blank h = begins_blank h && h.group == 0 && h.tag == 0 && h.needs == 0 && h.a
 abbrev pub is_pointed : Heads → Bool
 is_pointed h = not (h.path == 0 || h.group == 0 || h.needs == 0 || h.account == 0 || h.display == 0)
 
--- how far behind the first number the first one stands that isn't 0 where none is told
+-- without one: the offset, from the first number, of the first one that isn't 0
 abbrev pub left_over : Heads → ℕ
 left_over h =
     if not (h.group == 0) then 16
@@ -94,7 +94,7 @@ left_over h =
     else if not (h.account == 0) then 28
     else 32
 
--- and the first pointer that is 0 where one is
+-- with one: the offset of the first pointer that is 0
 abbrev pub missing : Heads → ℕ
 missing h =
     if h.path == 0 then 12
@@ -104,11 +104,11 @@ missing h =
     else 32
 
 -- the first number that isn't as those before it state: no body goes on so
-abbrev pub misfit : Heads → ℕ
-misfit h = if begins_blank h then left_over h else missing h
+abbrev pub first_misfit : Heads → ℕ
+first_misfit h = if begins_blank h then left_over h else missing h
 
 abbrev pub texts_told : Heads → Result ℕ ℕ
-texts_told h = if is_blank h then Ok 0 else if is_pointed h then Ok 5 else Err (misfit h)
+texts_told h = if is_blank h then Ok 0 else if is_pointed h then Ok 5 else Err (first_misfit h)
 
 abbrev pub numbers_in : Heads → List ℕ
 numbers_in h = h.kind ∷ h.start ∷ h.error ∷ h.path ∷ h.group ∷ h.tag ∷ h.needs ∷ h.account ∷ h.display ∷ []
@@ -128,8 +128,8 @@ shown_told (kind ∷ start ∷ error ∷ path ∷ group ∷ tag ∷ needs ∷ ac
     })
 shown_told ns = Ok 0
 
-abbrev pub shown_of : List ℕ → List (List ℕ) → Option Shown
-shown_of (kind ∷ start ∷ error ∷ to_path ∷ to_group ∷ tag ∷ ns) (path ∷ group ∷ needs ∷ account ∷ display ∷ []) =
+abbrev pub shown_from : List ℕ → List (List ℕ) → Option Shown
+shown_from (kind ∷ start ∷ error ∷ to_path ∷ to_group ∷ tag ∷ ns) (path ∷ group ∷ needs ∷ account ∷ display ∷ []) =
     Some (record {
       kind = kind;
       start = start;
@@ -141,14 +141,14 @@ shown_of (kind ∷ start ∷ error ∷ to_path ∷ to_group ∷ tag ∷ ns) (pat
       account = account;
       display = display;
     })
-shown_of ns texts = None
+shown_from ns texts = None
 
 -- the five texts of these numbers
 unfoldable pub shown_texts_at : Heads → List ℕ → ℕ → Result (Option Shown × ℕ) BodyFault
-shown_texts_at heads body place = each_at text_at 5 body place >>= λ texts. Ok (shown_of (numbers_in heads) texts.0, texts.1)
+shown_texts_at heads body place = each_at text_at 5 body place >>= λ texts. Ok (shown_from (numbers_in heads) texts.0, texts.1)
 
 unfoldable pub shown_at : List ℕ → ℕ → Result (Option Shown × ℕ) BodyFault
-shown_at = record_at 9 shown_told shown_of
+shown_at = record_at 9 shown_told shown_from
 
 abbrev pub shown_marks : Option Shown → List (Option ℕ)
 shown_marks None = Some 0 ∷ Some 0 ∷ Some 0 ∷ Some 0 ∷ Some 0 ∷ Some 0 ∷ Some 0 ∷ Some 0 ∷ Some 0 ∷ []

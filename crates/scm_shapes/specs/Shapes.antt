@@ -5,7 +5,7 @@ use Rattle.scm_model.specs.declared.calls.Info.{Info}
 use Rattle.scm_model.specs.declared.calls.Info.TheVariants as info
 use Rattle.scm_model.specs.declared.calls.Shown.{Shown}
 use Rattle.ndr_body.specs.declared.fault.BodyFault.{BodyFault}
-use Rattle.ndr_body.specs.Reading.{◌>>=◌, number_at, handle_at, text_at, some_text_at, some_number_at, bytes_at, finished}
+use Rattle.ndr_body.specs.Reading.{◌>>=◌, number_at, handle_at, text_at, some_text_at, some_number_at, bytes_at, ended_at}
 use Rattle.ndr_body.specs.Writing.{Draft, blank, put_number, put_handle, put_text, put_bytes, put_some_text, put_some_number}
 use Rattle.scm_shapes.specs.declared.item.Item.{Item}
 use Rattle.scm_shapes.specs.declared.item.Item.TheVariants as item
@@ -38,7 +38,7 @@ item_at item.Lock body place = made (λ l. value.Lock l.0 l.1 l.2) (lock_at body
 item_at item.Shown body place = made value.Shown (shown_at body place)
 item_at item.Info body place = made value.Info (info_at body place)
 
--- the items of a shape, one behind the other
+-- the items of a shape, one after the other
 unfoldable pub values_at : List Item → List ℕ → ℕ → Result (List Value × ℕ) BodyFault
 values_at [] body place = Ok ([], place)
 values_at (kind ∷ kinds) body place = do
@@ -46,7 +46,7 @@ values_at (kind ∷ kinds) body place = do
   others ← values_at kinds body first.1
   Ok (first.0 ∷ others.0, others.1)
 
--- any bytes may stand behind a level that isn't served
+-- any bytes may follow a level that isn't served
 abbrev pub leaves_open : Value → Bool
 leaves_open (value.Info (info.Other level)) = true
 leaves_open _ = false
@@ -55,7 +55,7 @@ abbrev pub leave_open : List Value → Bool
 leave_open vs = list_any leaves_open vs
 
 unfoldable pub closed_at : List Value → List ℕ → ℕ → Result (Unit {0}) BodyFault
-closed_at vs body place = if leave_open vs then Ok tt else finished body place
+closed_at vs body place = if leave_open vs then Ok tt else ended_at body place
 
 -- a whole body of a shape, or the first fault
 unfoldable pub body_values : List Item → List ℕ → Result (List Value) BodyFault
@@ -70,7 +70,7 @@ abbrev pub rest : List Value → List Value
 rest [] = []
 rest (v ∷ vs) = vs
 
--- the values behind so many
+-- the values after so many
 abbrev pub after : ℕ → List Value → List Value
 after zero vs = vs
 after (suc n) vs = after n (rest vs)

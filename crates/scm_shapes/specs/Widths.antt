@@ -11,16 +11,16 @@ use Rattle.scm_shapes.specs.declared.item.Value.TheVariants as value
 abbrev pub text_width : List ℕ → ℕ
 text_width text = 14 + 2 * length text
 
--- the place behind items of these widths, each behind its padding
+-- the place after items of these widths, each after its padding
 abbrev pub end_of : List ℕ → ℕ → ℕ
 end_of [] place = place
 end_of (width ∷ widths) place = end_of widths (aligned place + width)
 
--- numbers, and texts behind them
+-- numbers, and then texts
 abbrev pub record_width : List (Option ℕ) → List (List ℕ) → ℕ
 record_width marks texts = end_of (map text_width texts) (4 * length marks)
 
--- how many bytes a value has behind its padding
+-- how many bytes a value takes after the padding before it
 abbrev pub width_of : Value → ℕ
 width_of (value.Handle handle) = 20
 width_of (value.Number number) = 4

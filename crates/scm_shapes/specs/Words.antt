@@ -19,7 +19,7 @@ pointing pointers = length (filter (λ pointer. not (pointer == 0)) pointers)
 abbrev pub words_of : List ℕ → List (List ℕ) → Option (List (List ℕ))
 words_of pointers texts = if list_any (λ pointer. pointer == 0) pointers then None else Some texts
 
--- a pointer per word, and behind them the texts of those that aren't 0
+-- a pointer per word, and then the texts of those that aren't 0
 unfoldable pub pointed_at : ℕ → List ℕ → ℕ → Result (Option (List (List ℕ)) × ℕ) BodyFault
 pointed_at argc = record_at argc (λ pointers. Ok (pointing pointers)) words_of
 
@@ -33,7 +33,7 @@ listed_at argc body place = do
 abbrev pub unlisted : ℕ → Option (List (List ℕ))
 unlisted argc = if argc == 0 then Some [] else None
 
--- a pointer, and the list behind it
+-- a pointer, and the list that it points to
 unfoldable pub argv_at : ℕ → List ℕ → ℕ → Result (Option (List (List ℕ)) × ℕ) BodyFault
 argv_at argc body place = do
   pointer ← number_at body place

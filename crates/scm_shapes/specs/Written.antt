@@ -1,10 +1,10 @@
--- What becomes of a buffer behind which a body is written.
+-- What becomes of a buffer that a body is appended to.
 use Rattle.std.specs.Prelude.{◌≡◌, ◌≤◌, ◌++◌, ℕ, List, length, Result, IfOk, IfErr, IsOk}
 use Rattle.scm_text.specs.Roomed.{Roomed}
 use Rattle.scm_shapes.specs.declared.item.Value.{Value}
 use Rattle.scm_shapes.specs.Shapes.{body_bytes}
 
--- the body of the values stands behind what the buffer held; without memory the buffer is given back as it was, and none is taken where
+-- the body of the values follows what the buffer held; if memory runs out, the buffer is given back as it was; no memory is taken if
 -- there is room
 pub record IsWritten {E : Type 0} (vs : List Value) (out : Roomed ℕ) (result : Result (Roomed ℕ) (E × Roomed ℕ)) : Type 0 where
   pub ok : IfOk result (λ written. written.items ≡ out.items ++ body_bytes vs)

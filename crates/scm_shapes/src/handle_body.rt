@@ -2,7 +2,7 @@ ghost use Rattle.std.specs.Prelude.{◌≡◌, drop, IsTrue};
 ghost use Rattle.ndr_body.specs.Reading.{FindsMemory, Gives};
 ghost use Rattle.scm_shapes.specs.Calls.{read_as};
 ghost use Rattle.scm_shapes.specs.HandleBodies.{handle_body_at, handle_body_of, is_handle_body};
-ghost use Rattle.scm_shapes.specs.HandleBodies.{is_number, next_number_at};
+ghost use Rattle.scm_shapes.specs.HandleBodies.{is_numeric, next_number_at};
 
 use crate::item::Item;
 use crate::places::read_within;
@@ -19,7 +19,7 @@ pub struct HandleBody {
 
 /// Whether an item is a number of 32 bits.
 fn is_number(item: &Item) -> bool
-    ensures { result ≡ is_number item.now }
+    ensures { result ≡ is_numeric item.now }
 {
     matches!(item, Item::Number | Item::NumberTo(_))
 }

@@ -13,13 +13,13 @@ pub enum Item {
     NumberTo(u32),
     /// A string.
     Text,
-    /// A string behind a pointer.
+    /// A unique pointer to a string.
     SomeText,
     /// The same, which isn't kept.
     UnkeptText,
-    /// A number behind a pointer.
+    /// A unique pointer to a number.
     SomeNumber,
-    /// Bytes behind a pointer, and their size.
+    /// A unique pointer to bytes, and the size of these.
     SomeBytes,
     /// The same, which isn't kept.
     UnkeptBytes,

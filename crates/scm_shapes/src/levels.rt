@@ -131,7 +131,7 @@ fn read_each_action(
     Ok(actions)
 }
 
-/// The actions, behind their count.
+/// The count of the actions, and then the actions.
 fn read_actions_if(
     reader: &mut NdrReader,
     alloc: Global,
@@ -243,7 +243,7 @@ fn read_subtypes(
     Ok(triggers)
 }
 
-/// The triggers, behind their count.
+/// The count of the triggers, and then the triggers.
 fn read_listed_triggers(
     reader: &mut NdrReader,
     alloc: Global,
@@ -319,8 +319,8 @@ fn read_served(reader: &mut NdrReader, alloc: Global, level: u32) -> Result<Info
     }
 }
 
-/// What is asked to be changed at one level: the level twice, and what stands behind it. Nothing is
-/// read behind a level that isn't served.
+/// What is asked to be changed at one level: the level twice, and then the arm of the union that it
+/// selects. No arm is read for a level that isn't served.
 #[tactic(auto, unfolding(crate::specs::Levels::info_at, crate::specs::Levels::level_at))]
 pub fn read_info(reader: &mut NdrReader, alloc: Global) -> Result<Info, BodyFault>
     ensures value { Gives (λ v. (v, reader.new.place)) result

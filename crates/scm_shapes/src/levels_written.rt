@@ -115,7 +115,7 @@ fn put_each_action(writer: &mut NdrWriter, actions: &[Action]) -> Result<(), Out
     Ok(())
 }
 
-/// The actions, behind their count.
+/// The count of the actions, and then the actions.
 #[tactic(auto, using(crate::proofs::Grown::grown), unfolding(crate::specs::Levels::put_actions))]
 fn put_actions_if(
     writer: &mut NdrWriter,
@@ -199,7 +199,8 @@ fn put_subtype(writer: &mut NdrWriter, trigger: &TriggerIn) -> Result<(), OutOfM
 
 fn put_subtypes(writer: &mut NdrWriter, triggers: &[TriggerIn]) -> Result<(), OutOfMemory>
     ensures front { writer.new.front ≡ writer.old.front }
-    ensures ok { OnOk result (writer.new.draft ≡ put_all put_subtype triggers.now writer.old.draft) }
+    ensures ok { OnOk result (writer.new.draft ≡
+        put_all put_subtype triggers.now writer.old.draft) }
     ensures space { writer.old.space ≤ writer.new.space }
     ensures enough { length (put_all put_subtype triggers.now writer.old.draft).bytes ≤
         writer.old.space → IsOk result }
@@ -224,11 +225,12 @@ fn put_listing(writer: &mut NdrWriter, count: usize, listed: bool) -> Result<(),
     writer.number(0)
 }
 
-/// The triggers, behind their count, and their subtypes.
+/// The count of the triggers, the triggers, and then their subtypes.
 #[tactic(auto, using(crate::proofs::Grown::grown), unfolding(crate::specs::Levels::put_listed_triggers))]
 fn put_listed_triggers(writer: &mut NdrWriter, triggers: &[TriggerIn]) -> Result<(), OutOfMemory>
     ensures front { writer.new.front ≡ writer.old.front }
-    ensures ok { OnOk result (writer.new.draft ≡ put_listed_triggers triggers.now writer.old.draft) }
+    ensures ok { OnOk result (writer.new.draft ≡
+        put_listed_triggers triggers.now writer.old.draft) }
     ensures space { writer.old.space ≤ writer.new.space }
     ensures enough { length (put_listed_triggers triggers.now writer.old.draft).bytes ≤
         writer.old.space → IsOk result }
@@ -276,7 +278,7 @@ fn put_referent_of(writer: &mut NdrWriter, asked: &Info) -> Result<(), OutOfMemo
     }
 }
 
-/// What stands behind the levels.
+/// The arm of the union that the level selects.
 #[tactic(auto, using(crate::proofs::Grown::grown), unfolding(crate::specs::Levels::put_level))]
 fn put_level(writer: &mut NdrWriter, asked: &Info) -> Result<(), OutOfMemory>
     ensures front { writer.new.front ≡ writer.old.front }

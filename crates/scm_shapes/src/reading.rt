@@ -28,7 +28,7 @@ fn is_size(held: &Option<Items<u8>>, size: u32) -> bool
     }
 }
 
-/// Bytes behind a pointer, and their size.
+/// A unique pointer to bytes, and the size of these.
 #[tactic(auto, unfolding(crate::specs::Sized::sized_at))]
 fn read_sized(reader: &mut NdrReader, alloc: Global) -> Result<Option<Items<u8>>, BodyFault>
     ensures value { Gives (λ v. (v, reader.new.place)) result
@@ -85,7 +85,7 @@ fn read_item(reader: &mut NdrReader, alloc: Global, item: Item) -> Result<Value,
     }
 }
 
-/// Reads the items of a shape behind one another.
+/// Reads the items of a shape one after the other.
 fn read_values(
     reader: &mut NdrReader,
     alloc: Global,

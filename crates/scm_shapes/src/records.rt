@@ -4,7 +4,8 @@ ghost use Rattle.scm_shapes.specs.declared.item.Value.TheVariants as value;
 ghost use Rattle.scm_shapes.specs.Parts.{made};
 ghost use Rattle.scm_shapes.specs.Each.{each_at, put_each};
 ghost use Rattle.scm_shapes.specs.Records.{lock_at, lock_marks, lock_texts, begins_blank, is_blank};
-ghost use Rattle.scm_shapes.specs.Records.{is_pointed, left_over, missing, misfit, numbers_in};
+ghost use Rattle.scm_shapes.specs.Records.{is_pointed, left_over, missing, first_misfit};
+ghost use Rattle.scm_shapes.specs.Records.{numbers_in};
 ghost use Rattle.scm_shapes.specs.Records.{shown_texts_at, shown_at, shown_marks, shown_texts};
 ghost use Rattle.scm_shapes.specs.Records.{put_mark, put_marks, put_record};
 
@@ -92,9 +93,9 @@ impl Heads {
         }
     }
 
-    /// How far behind the first number the first one stands that isn't as those before it state.
+    /// The offset, from the first number, of the first one that doesn't fit those before it.
     fn misfit(&self) -> usize
-        ensures value { result ≡ misfit self.now }
+        ensures value { result ≡ first_misfit self.now }
         ensures small { result ≤ 32 }
     {
         if self.begins_blank() {
@@ -169,7 +170,7 @@ pub fn read_shown(reader: &mut NdrReader, alloc: Global) -> Result<Option<Shown>
     }
 }
 
-/// The state of a lock. Its owner stands behind the three numbers, where there is one.
+/// The state of a lock: three numbers, and then its owner, if there is one.
 #[tactic(auto, unfolding(crate::specs::Records::lock_at, crate::specs::Records::record_at, crate::specs::Each::each_at))]
 pub fn read_lock(reader: &mut NdrReader, alloc: Global) -> Result<Value, BodyFault>
     ensures value { Gives (λ v. (v, reader.new.place)) result

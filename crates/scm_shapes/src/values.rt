@@ -53,7 +53,7 @@ fn first_number(values: &[Value]) -> u32
     }
 }
 
-/// The first of the values as a number behind a pointer, or none.
+/// The first of the values as a unique pointer to a number, or none.
 fn first_some_number(values: &[Value]) -> Option<u32>
     ensures { result ≡ first_some_number values.now }
 {
@@ -63,7 +63,7 @@ fn first_some_number(values: &[Value]) -> Option<u32>
     }
 }
 
-/// Whether a value leaves open what stands behind the body.
+/// Whether a value leaves open which bytes follow the body.
 fn leaves_open(value: &Value) -> bool
     ensures { result ≡ leaves_open value.now }
 {
@@ -92,7 +92,7 @@ impl Values {
         self.queue.clear();
     }
 
-    /// Adds a value behind the others. It takes no memory for the first 8.
+    /// Adds a value after the others. It takes no memory for the first 8.
     pub fn push(&mut self, value: Value) -> Result<(), OutOfMemory>
         ensures ok { OnOk result (self.new ≡ self.old ++ value ∷ []) }
         ensures err { OnErr result (self.new ≡ self.old) }
@@ -107,7 +107,7 @@ impl Values {
         }
     }
 
-    /// Whether any bytes may stand behind the body of these.
+    /// Whether any bytes may follow the body of these.
     pub(crate) fn leave_open(&self) -> bool
         ensures { result ≡ leave_open self.now }
     {

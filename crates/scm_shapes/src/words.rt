@@ -65,8 +65,8 @@ fn has_null(pointers: &[u32]) -> bool
     pointers.iter().any(|pointer| *pointer == 0)
 }
 
-/// A pointer per word, and behind them the strings of those that aren't null. The words are absent
-/// where one is.
+/// A pointer per word, and then the strings of those that aren't null. The words are absent if a
+/// pointer is null.
 #[tactic(auto, unfolding(crate::specs::Words::pointed_at, crate::specs::Records::record_at))]
 fn read_pointed(
     reader: &mut NdrReader,
@@ -117,7 +117,7 @@ fn unlisted(alloc: Global, argc: u32) -> Option<Items<WText>>
     }
 }
 
-/// `argv`: a pointer, and the list of words behind it.
+/// `argv`: a pointer, and the list of words that it points to.
 #[tactic(auto, unfolding(crate::specs::Words::argv_at))]
 fn read_argv(
     reader: &mut NdrReader,
@@ -161,7 +161,7 @@ fn put_referents(writer: &mut NdrWriter, count: usize) -> Result<(), OutOfMemory
     Ok(())
 }
 
-/// The strings, one behind the other.
+/// The strings, one after the other.
 fn put_each(writer: &mut NdrWriter, texts: &[WText]) -> Result<(), OutOfMemory>
     ensures front { writer.new.front ≡ writer.old.front }
     ensures ok { OnOk result (writer.new.draft ≡ put_each texts.now writer.old.draft) }

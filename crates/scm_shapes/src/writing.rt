@@ -12,7 +12,7 @@ use crate::words::put_words;
 use ndr_body::NdrWriter;
 use scm_text::{Buffer, Items, OutOfMemory};
 
-/// Bytes behind a pointer, and their size.
+/// A unique pointer to bytes, and the size of these.
 #[tactic(auto, using(crate::proofs::Widths::grows), unfolding(crate::specs::Sized::put_sized))]
 fn put_sized(writer: &mut NdrWriter, held: &Option<Items<u8>>) -> Result<(), OutOfMemory>
     ensures front { writer.new.front ≡ writer.old.front }
@@ -38,7 +38,8 @@ fn put_sized(writer: &mut NdrWriter, held: &Option<Items<u8>>) -> Result<(), Out
 #[tactic(auto, unfolding(crate::specs::Shapes::put_value))]
 fn put_piece(writer: &mut NdrWriter, piece: Piece) -> Result<(), OutOfMemory>
     ensures front { writer.new.front ≡ writer.old.front }
-    ensures ok { OnOk result (writer.new.draft ≡ put_value (value_of piece.entry) writer.old.draft) }
+    ensures ok { OnOk result (writer.new.draft ≡
+        put_value (value_of piece.entry) writer.old.draft) }
     ensures space { writer.old.space ≤ writer.new.space }
     ensures enough { length (put_value (value_of piece.entry) writer.old.draft).bytes ≤
         writer.old.space → IsOk result }
@@ -71,7 +72,7 @@ fn first(bytes: &[u8], size: u32) -> &[u8]
     }
 }
 
-/// Writes values one behind the other.
+/// Writes values one after the other.
 fn put_pieces(writer: &mut NdrWriter, pieces: &[Piece]) -> Result<(), OutOfMemory>
     ensures front { writer.new.front ≡ writer.old.front }
     ensures ok { OnOk result (writer.new.draft ≡ put_values
@@ -97,7 +98,8 @@ fn written(pieces: &[Piece], out: Buffer<u8>) -> Result<Buffer<u8>, (OutOfMemory
     }
 }
 
-/// Writes a body behind what the buffer holds. Without memory the buffer is given back as it was.
+/// Writes a body after what the buffer holds. If memory runs out, the buffer is given back as it
+/// was.
 pub fn write_pieces(
     pieces: &[Piece],
     out: Buffer<u8>,

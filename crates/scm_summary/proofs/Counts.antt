@@ -8,7 +8,7 @@ use Rattle.std.proofs.lemmas.List.{get_or_past}
 use Rattle.scm_model.specs.declared.steps.Step.{Step}
 use Rattle.scm_model.specs.declared.steps.Step.TheVariants.{Joined}
 use Rattle.scm_model.specs.Entries.{Entry}
-use Rattle.scm_summary.specs.Calls.{calling, calls_from, calls_of, joined_in, one_if, one_joined}
+use Rattle.scm_summary.specs.Calls.{calling, calls_from, calls_of, joined_in, one_if_its, one_joined}
 use Rattle.scm_summary.specs.Lines.{caller_line, callers_from}
 use Rattle.scm_summary.specs.Counting.{CountsTo, HasRoomFor, IsCounted, IsZeros, Raises}
 
@@ -30,13 +30,13 @@ pub counted_at : (h : List Entry) (i joined : ℕ) (of : Option ℕ) (e : Entry)
 counted_at h i joined of e at one his = record {
   joins = ap (λ m. m + joined_in (drop (i + 1) h)) one ∙ sym (ap joined_in (cut_at h i e at));
   small = rw one (one_at_most e.1);
-  calls = λ caller. ap (λ (o : Option ℕ). one_if caller o + calls_of caller (drop (i + 1) h)) his
+  calls = λ caller. ap (λ (o : Option ℕ). one_if_its caller o + calls_of caller (drop (i + 1) h)) his
       ∙ sym (ap (calls_of caller) (cut_at h i e at));
 }
 
 -- ## Calls
 
-one_small : (caller : ℕ) (of : Option ℕ) → one_if caller of ≤ 1
+one_small : (caller : ℕ) (of : Option ℕ) → one_if_its caller of ≤ 1
 one_small caller None = omega arith
 one_small caller (Some of) = grind arith
 

@@ -20,14 +20,14 @@ calling (Raised caller subtype) = Some caller
 calling (NoMemory caller) = Some caller
 calling step = None
 
-abbrev pub one_if : ℕ → Option ℕ → ℕ
-one_if caller None = 0
-one_if caller (Some of) = if of == caller then 1 else 0
+abbrev pub one_if_its : ℕ → Option ℕ → ℕ
+one_if_its caller None = 0
+one_if_its caller (Some of) = if of == caller then 1 else 0
 
 -- how many calls the caller made
 abbrev pub calls_of : ℕ → List Entry → ℕ
 calls_of caller [] = 0
-calls_of caller (e ∷ es) = one_if caller (calling e.1) + calls_of caller es
+calls_of caller (e ∷ es) = one_if_its caller (calling e.1) + calls_of caller es
 
 -- the same of so many callers, from this one on
 abbrev pub calls_from : List Entry → ℕ → ℕ → List ℕ

@@ -1,7 +1,7 @@
 -- Counts of calls while they are made: the first is that of caller 1, and each is the only one of its caller.
 use Rattle.std.specs.Prelude.{ℕ, ◌≡◌, ◌+◌, ◌<◌, ◌≤◌, ◌^◌, List, Option, length, drop, get_or}
 use Rattle.scm_model.specs.Entries.{Entry}
-use Rattle.scm_summary.specs.Calls.{calls_of, joined_in, one_if}
+use Rattle.scm_summary.specs.Calls.{calls_of, joined_in, one_if_its}
 
 pub record IsZeros (count : ℕ) (counts : List ℕ) : Type 0 where
   pub long : length counts ≡ count
@@ -9,18 +9,18 @@ pub record IsZeros (count : ℕ) (counts : List ℕ) : Type 0 where
 
 -- no count gets too great by this caller's call
 abbrev pub HasRoomFor : List ℕ → Option ℕ → Type 0
-HasRoomFor counts caller = (k : ℕ) → k < length counts → get_or counts k 0 + one_if (k + 1) caller < 2 ^ 64
+HasRoomFor counts caller = (k : ℕ) → k < length counts → get_or counts k 0 + one_if_its (k + 1) caller < 2 ^ 64
 
 -- the caller's count is one more, where it has one
 pub record Raises (counts : List ℕ) (caller : Option ℕ) (now : List ℕ) : Type 0 where
   pub long : length now ≡ length counts
-  pub each : (k : ℕ) → k < length counts → get_or now k 0 ≡ get_or counts k 0 + one_if (k + 1) caller
+  pub each : (k : ℕ) → k < length counts → get_or now k 0 ≡ get_or counts k 0 + one_if_its (k + 1) caller
 
 -- the entry at a place joins so many callers, and is this caller's call
 pub record IsCounted (h : List Entry) (place joined : ℕ) (calling : Option ℕ) : Type 0 where
   pub joins : joined + joined_in (drop (place + 1) h) ≡ joined_in (drop place h)
   pub small : joined ≤ 1
-  pub calls : (caller : ℕ) → one_if caller calling + calls_of caller (drop (place + 1) h) ≡ calls_of caller (drop place h)
+  pub calls : (caller : ℕ) → one_if_its caller calling + calls_of caller (drop (place + 1) h) ≡ calls_of caller (drop place h)
 
 -- what is counted and what is yet to be counted are the calls of each caller
 pub record CountsTo (h : List Entry) (callers done : ℕ) (counts : List ℕ) : Type 0 where

@@ -1,4 +1,4 @@
--- What a history came to: its steps, the calls of each caller, and the services that are there behind it.
+-- What a history amounts to: its steps, the calls of each caller, and the services that are there after it.
 use Rattle.std.specs.Prelude.{ℕ, List, ◌++◌, length, codes}
 use Rattle.scm_model.specs.Entries.{Entry}
 use Rattle.scm_summary.specs.Calls.{calls_from, joined_in}

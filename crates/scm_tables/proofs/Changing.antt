@@ -5,6 +5,7 @@ use Rattle.std.specs.Prelude.{option_map, slice_get}
 use Rattle.std.proofs.lemmas.Bool.{ne_eqb}
 use Rattle.std.proofs.lemmas.List.{get_or-map, length-map}
 use Rattle.scm_model.specs.declared.flat.Phase.TheVariants as phases
+use Rattle.scm_model.specs.declared.flat.Order.{Order}
 use Rattle.scm_model.specs.declared.flat.Process.{Process}
 use Rattle.scm_rules.specs.Controls.{controlled_if, dequeued_if}
 use Rattle.scm_rules.specs.Launches.{launched_if, taken_if}
@@ -33,18 +34,19 @@ launched_here n pid row is = rw (eq-eqb row.number n is) refl
 pub launched_elsewhere : (n pid : ℕ) (row : ProcessRow) → row.number ≢ n → listed_as (launched_if n pid) row ≡ row
 launched_elsewhere n pid row other = rw (ne_eqb row.number n other) refl
 
-abbrev pub controlled : ℕ → ℕ → ProcessRow → ProcessRow
-controlled limit code row = cond (nat_lt (length row.controls) limit) (record row { controls = row.controls ++ code ∷ [] }) row
+abbrev pub controlled : ℕ → Order → ProcessRow → ProcessRow
+controlled limit order row = cond (nat_lt (length row.controls) limit) (record row { controls = row.controls ++ order ∷ [] }) row
 
-pub controlled_here : (limit n code : ℕ) (row : ProcessRow) → row.number ≡ n
-    → listed_as (controlled_if limit n code) row ≡ controlled limit code row
-controlled_here limit n code row is =
+pub controlled_here : (limit n : ℕ) (order : Order) (row : ProcessRow) → row.number ≡ n
+    → listed_as (controlled_if limit n order) row ≡ controlled limit order row
+controlled_here limit n order row is =
     rw (eq-eqb row.number n is) (elim (nat_lt (length row.controls) limit) as (λ b. listed_as
-    (λ p. cond b (record p { controls = p.controls ++ code ∷ [] }) p) row ≡ cond b
-    (record row { controls = row.controls ++ code ∷ [] }) row) [ true ↦ refl | false ↦ refl ])
+    (λ p. cond b (record p { controls = p.controls ++ order ∷ [] }) p) row ≡ cond b
+    (record row { controls = row.controls ++ order ∷ [] }) row) [ true ↦ refl | false ↦ refl ])
 
-pub controlled_elsewhere : (limit n code : ℕ) (row : ProcessRow) → row.number ≢ n → listed_as (controlled_if limit n code) row ≡ row
-controlled_elsewhere limit n code row other = rw (ne_eqb row.number n other) refl
+pub controlled_elsewhere : (limit n : ℕ) (order : Order) (row : ProcessRow) → row.number ≢ n
+    → listed_as (controlled_if limit n order) row ≡ row
+controlled_elsewhere limit n order row other = rw (ne_eqb row.number n other) refl
 
 abbrev pub relieved : ProcessRow → ProcessRow
 relieved row = record row { controls = drop 1 row.controls }
@@ -65,18 +67,18 @@ pub launched_number : (n pid : ℕ) (row : ProcessRow) → (listed_as (launched_
 launched_number n pid row = elim (row.number == n) as (λ b. (listed_as (λ p. cond b (record p { phase = phases.Launched; pid = pid }) p)
     row).number ≡ row.number) [ true ↦ refl | false ↦ refl ]
 
-pub controlled_number : (limit n code : ℕ) (row : ProcessRow) → (listed_as (controlled_if limit n code) row).number ≡ row.number
-controlled_number limit n code row =
+pub controlled_number : (limit n : ℕ) (order : Order) (row : ProcessRow) → (listed_as (controlled_if limit n order) row).number ≡ row.number
+controlled_number limit n order row =
     elim (row.number == n && nat_lt (length row.controls) limit) as (λ b.
-    (listed_as (λ p. cond b (record p { controls = p.controls ++ code ∷ [] }) p) row).number ≡ row.number) [
+    (listed_as (λ p. cond b (record p { controls = p.controls ++ order ∷ [] }) p) row).number ≡ row.number) [
       | true ↦ refl
       | false ↦ refl
     ]
 
-pub controlled_phase : (limit n code : ℕ) (row : ProcessRow) → (listed_as (controlled_if limit n code) row).phase ≡ row.phase
-controlled_phase limit n code row =
+pub controlled_phase : (limit n : ℕ) (order : Order) (row : ProcessRow) → (listed_as (controlled_if limit n order) row).phase ≡ row.phase
+controlled_phase limit n order row =
     elim (row.number == n && nat_lt (length row.controls) limit) as (λ b.
-    (listed_as (λ p. cond b (record p { controls = p.controls ++ code ∷ [] }) p) row).phase ≡ row.phase) [ true ↦ refl | false ↦ refl ]
+    (listed_as (λ p. cond b (record p { controls = p.controls ++ order ∷ [] }) p) row).phase ≡ row.phase) [ true ↦ refl | false ↦ refl ]
 
 pub relieved_number : (n : ℕ) (row : ProcessRow) → (listed_as (dequeued_if n) row).number ≡ row.number
 relieved_number n row = elim (row.number == n) as (λ b. (listed_as (λ p. cond b (record p { controls = drop 1 p.controls }) p) row).number ≡

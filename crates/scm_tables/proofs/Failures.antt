@@ -13,7 +13,7 @@ use Rattle.scm_rules.specs.Needs.{need_row}
 use Rattle.scm_rules.specs.Reports.{reported_if, reported_in}
 use Rattle.scm_tables.proofs.Keeping.{reported_number}
 use Rattle.scm_tables.specs.declared.failing.Failed.{Failed}
-use Rattle.scm_tables.specs.Failed.{failure_of, with_failed}
+use Rattle.scm_tables.specs.Failed.{failed_at, with_failed}
 
 -- ## The service is there
 
@@ -42,23 +42,23 @@ found_listed p change same (one ∷ rows) row e =
 -- so is the service of a failure
 pub failure_listed : (moment : ℕ) (p : Service → Bool) (change : Service → Service) → ((row : Service) → (change row).number ≡ row.number)
     → (rows : List Service) (found : Option Service) → find p rows ≡ found
-    → IfSome (option_map (failure_of moment) found) (IsListed (map change rows))
+    → IfSome (option_map (failed_at moment) found) (IsListed (map change rows))
 failure_listed moment p change same rows None e = tt
 failure_listed moment p change same rows (Some row) e = found_listed p change same rows row e
 
 pub report_listed : (moment : ℕ) (report : Status) (p : Service → Bool) (change : Service → Service)
     → ((row : Service) → (change row).number ≡ row.number) → (rows : List Service) (found : Option Service)
-    → find p rows ≡ found → IfSome (option_map (failure_of moment) (failed_by report found)) (IsListed (map change rows))
+    → find p rows ≡ found → IfSome (option_map (failed_at moment) (failed_by report found)) (IsListed (map change rows))
 report_listed moment report p change same rows None e = tt
 report_listed moment report p change same rows (Some row) e =
-    elim (is_failure report row) as (λ b. IfSome (option_map (failure_of moment) (cond b (Some row) None)) (IsListed (map change rows)))
+    elim (is_failure report row) as (λ b. IfSome (option_map (failed_at moment) (cond b (Some row) None)) (IsListed (map change rows)))
     [ true ↦ found_listed p change same rows row e | false ↦ tt ]
 
 pub taken_listed : (moment : ℕ) (report : Status) (p : Service → Bool) (rows : List Service) (found : Option Service) → find p rows ≡ found
-    → IfSome (option_map (failure_of moment) (failed_by report found)) (IsListed (reported_in report found rows))
+    → IfSome (option_map (failed_at moment) (failed_by report found)) (IsListed (reported_in report found rows))
 taken_listed moment report p rows None e = tt
 taken_listed moment report p rows (Some row) e =
-    elim (is_failure report row) as (λ b. IfSome (option_map (failure_of moment) (cond b (Some row) None))
+    elim (is_failure report row) as (λ b. IfSome (option_map (failed_at moment) (cond b (Some row) None))
     (IsListed (map (reported_if row.process report) rows)))
     [ true ↦ found_listed p (reported_if row.process report) (reported_number row.process report) rows row e | false ↦ tt ]
 
@@ -72,9 +72,9 @@ listed_map number change same (row ∷ rows) =
 -- ## What a failure comes to
 
 pub failed_as : (moment : ℕ) (found : Option Service) (f : Flat) → f.moment ≡ moment
-    → if_found with_failed (option_map (failure_of moment) found) f ≡ if_found with_failure found f
+    → if_found with_failed (option_map (failed_at moment) found) f ≡ if_found with_failure found f
 failed_as moment None f same = refl
-failed_as moment (Some row) f same = subst (λ (n : ℕ). if_found with_failed (option_map (failure_of n) (Some row)) f ≡ with_failure row f)
+failed_as moment (Some row) f same = subst (λ (n : ℕ). if_found with_failed (option_map (failed_at n) (Some row)) f ≡ with_failure row f)
     same refl
 
 -- ## What counting keeps

@@ -162,7 +162,8 @@ pub found_there : (p : Service → Bool) (rows : List Service) (row : Service) �
     → IsSome (find (λ (r : Service). r.number == row.number) rows)
 found_there p [] row e = absurd cc
 found_there p (one ∷ rows) row e =
-    elim (p one) as (λ b. cond b (Some one) (find p rows) ≡ Some row → IsSome (find (λ (r : Service). r.number == row.number) (one ∷ rows))) [
+    elim (p one) as (λ b. cond b (Some one) (find p rows) ≡ Some row
+    → IsSome (find (λ (r : Service). r.number == row.number) (one ∷ rows))) [
       | true ↦ λ is.
           let same : one ≡ row = cc in
           ap (λ b. is_some (cond b (Some one) (find (λ (r : Service). r.number == row.number) rows)))

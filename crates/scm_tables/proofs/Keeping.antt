@@ -1,5 +1,5 @@
 -- What the changes keep of texts and of the numbers of plans.
-use Rattle.std.proofs.Common.{ℕ, ◌≡◌, ◌+◌, ◌==◌, ◌&&◌, Bool, true, false, cond, List, [], ◌∷◌, ◌++◌, filter, map, get_or, sym, refl, subst}
+use Rattle.std.proofs.Common.{ℕ, ◌≡◌, ◌+◌, ◌==◌, Bool, true, false, cond, List, [], ◌∷◌, ◌++◌, filter, map, get_or, sym, refl, subst}
 use Rattle.std.proofs.Common.{arith, ◌∙◌}
 use Rattle.std.specs.Prelude.{All}
 use Rattle.std.specs.List.{AllByRecursion}
@@ -13,7 +13,7 @@ use Rattle.scm_model.specs.Changes.{configured_if}
 use Rattle.scm_rules.specs.Launches.{fallen_if}
 use Rattle.scm_rules.specs.Needs.{need_row}
 use Rattle.scm_rules.specs.Reports.{moved_by, reported_if}
-use Rattle.status_machine.specs.Moves.{take_report}
+use Rattle.status_machine.specs.Moves.{take_end, take_report}
 use Rattle.scm_model.specs.declared.flat.Status.{Status}
 use Rattle.std.specs.Prelude.{Result, Ok, Err}
 use Rattle.start_plan.specs.Asleep.{ArePending}
@@ -23,6 +23,7 @@ use Rattle.start_plan.specs.Settle.{is_due_still, settle_all, settled, stays, wi
 use Rattle.start_plan.proofs.Plain.{settles_beside}
 use Rattle.start_plan.proofs.Keeps.{all_filter, keeps_all}
 use Rattle.start_plan.proofs.Enterings.{all_units}
+use Rattle.start_plan.proofs.Rows.{started_or}
 use Rattle.scm_model.specs.declared.flat.Due.{Due}
 use Rattle.scm_tables.specs.Places.{HasPlaces}
 use Rattle.scm_tables.specs.Inside.{IsBelow, IsKept}
@@ -38,59 +39,24 @@ pub texts_map : (change : Service → Service) → ((row : Service) → (change 
     → All HasShort rows → All HasShort (map change rows)
 texts_map change same rows old = All-map HasShort change rows (λ k d lt. subst HasShortTexts (sym (same (get_or rows k d))) (old k d lt))
 
+-- what holds of a service that falls and of one that stays as it is
+pub fallen_or : (P : Service → Type 0) (process code : ℕ) (row : Service) → P (record row { status = take_end row.status code; process = 0 })
+    → P row → P (fallen_if process code row)
+fallen_or P process code row falls stays =
+    elim (row.process == process) as (λ b. P (cond b (record row { status = take_end row.status code; process = 0 }) row))
+    [ true ↦ falls | false ↦ stays ]
+
 pub started_config : (number process : ℕ) (row : Service) → (started_if number process row).config ≡ row.config
-started_config number process row =
-    elim (row.number == number && row.status.state == 1) as (λ b. (cond b
-    (record row {
-      status = record {
-        kind = row.status.kind;
-        state = 2;
-        accepted = 0;
-        win32 = 0;
-        specific = 0;
-        checkpoint = 0;
-        hint = 0;
-      };
-      process = process;
-    }) row).config ≡ row.config)
-    [ true ↦ refl | false ↦ refl ]
+started_config number process row = started_or (λ new. new.config ≡ row.config) number process row (λ e. refl) refl
 
 pub fallen_config : (process code : ℕ) (row : Service) → (fallen_if process code row).config ≡ row.config
-fallen_config process code row =
-    elim (row.process == process) as (λ b. (cond b (record row {
-      status =
-          record { kind = row.status.kind; state = 1; accepted = 0; win32 = code; specific = 0; checkpoint = 0; hint = 0 };
-      process = 0;
-    })
-    row).config ≡ row.config)
-    [ true ↦ refl | false ↦ refl ]
+fallen_config process code row = fallen_or (λ new. new.config ≡ row.config) process code row refl refl
 
 pub started_number : (number process : ℕ) (row : Service) → (started_if number process row).number ≡ row.number
-started_number number process row =
-    elim (row.number == number && row.status.state == 1) as (λ b. (cond b
-    (record row {
-      status = record {
-        kind = row.status.kind;
-        state = 2;
-        accepted = 0;
-        win32 = 0;
-        specific = 0;
-        checkpoint = 0;
-        hint = 0;
-      };
-      process = process;
-    }) row).number ≡ row.number)
-    [ true ↦ refl | false ↦ refl ]
+started_number number process row = started_or (λ new. new.number ≡ row.number) number process row (λ e. refl) refl
 
 pub fallen_number : (process code : ℕ) (row : Service) → (fallen_if process code row).number ≡ row.number
-fallen_number process code row =
-    elim (row.process == process) as (λ b. (cond b (record row {
-      status =
-          record { kind = row.status.kind; state = 1; accepted = 0; win32 = code; specific = 0; checkpoint = 0; hint = 0 };
-      process = 0;
-    })
-    row).number ≡ row.number)
-    [ true ↦ refl | false ↦ refl ]
+fallen_number process code row = fallen_or (λ new. new.number ≡ row.number) process code row refl refl
 
 moved_config : (row : Service) (told : Result Status ℕ) → (moved_by row told).config ≡ row.config
 moved_config row (Ok status) = refl
@@ -113,31 +79,10 @@ reported_number process report row =
 -- ## Needs
 
 pub started_needs : (number process : ℕ) (row : Service) → need_row (started_if number process row) ≡ need_row row
-started_needs number process row =
-    elim (row.number == number && row.status.state == 1) as (λ b. need_row
-    (cond b (record row {
-      status = record {
-        kind = row.status.kind;
-        state = 2;
-        accepted = 0;
-        win32 = 0;
-        specific = 0;
-        checkpoint = 0;
-        hint = 0;
-      };
-      process = process;
-    }) row) ≡ need_row row)
-    [ true ↦ refl | false ↦ refl ]
+started_needs number process row = started_or (λ new. need_row new ≡ need_row row) number process row (λ e. refl) refl
 
 pub fallen_needs : (process code : ℕ) (row : Service) → need_row (fallen_if process code row) ≡ need_row row
-fallen_needs process code row =
-    elim (row.process == process) as (λ b. need_row (cond b (record row {
-      status =
-          record { kind = row.status.kind; state = 1; accepted = 0; win32 = code; specific = 0; checkpoint = 0; hint = 0 };
-      process = 0;
-    })
-    row) ≡ need_row row)
-    [ true ↦ refl | false ↦ refl ]
+fallen_needs process code row = fallen_or (λ new. need_row new ≡ need_row row) process code row refl refl
 
 moved_needs : (row : Service) (told : Result Status ℕ) → need_row (moved_by row told) ≡ need_row row
 moved_needs row (Ok status) = refl

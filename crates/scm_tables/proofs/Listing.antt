@@ -1,6 +1,7 @@
 -- Changes of the processes, in both lists of the flat state.
 use Rattle.std.proofs.Common.{ℕ, ◌≡◌, ◌==◌, ◌&&◌, ◌++◌, true, false, not, nat_lt, cond, List, [], ◌∷◌, refl, sym, ap, subst, map, filter}
 use Rattle.std.proofs.Common.{drop, length}
+use Rattle.scm_model.specs.declared.flat.Order.{Order}
 use Rattle.scm_model.specs.declared.flat.Process.{Process}
 use Rattle.scm_model.specs.declared.flat.Wanted.{Wanted}
 use Rattle.scm_rules.specs.Controls.{controlled_if, dequeued_if}
@@ -100,17 +101,17 @@ wanted_alone change phase launch (row ∷ rows) =
       | false ↦ wanted_alone change phase launch rows
     ])
 
-pub wanted_controlled : (limit number code : ℕ) (rows : List ProcessRow)
-    → wanted_in (map (listed_as (controlled_if limit number code)) rows) ≡ wanted_in rows
-wanted_controlled limit number code rows =
-    wanted_alone (controlled_if limit number code)
+pub wanted_controlled : (limit number : ℕ) (order : Order) (rows : List ProcessRow)
+    → wanted_in (map (listed_as (controlled_if limit number order)) rows) ≡ wanted_in rows
+wanted_controlled limit number order rows =
+    wanted_alone (controlled_if limit number order)
     (λ row. elim (row.number == number && nat_lt (length row.controls) limit) as (λ b. is_wanted_row
-    (listed_as (λ p. cond b (record p { controls = p.controls ++ code ∷ [] }) p) row) ≡ is_wanted_row row) [
+    (listed_as (λ p. cond b (record p { controls = p.controls ++ order ∷ [] }) p) row) ≡ is_wanted_row row) [
       | true ↦ refl
       | false ↦ refl
     ])
     (λ row. elim (row.number == number && nat_lt (length row.controls) limit) as (λ b. wanted_of
-    (listed_as (λ p. cond b (record p { controls = p.controls ++ code ∷ [] }) p) row) ≡ wanted_of row) [ true ↦ refl | false ↦ refl ])
+    (listed_as (λ p. cond b (record p { controls = p.controls ++ order ∷ [] }) p) row) ≡ wanted_of row) [ true ↦ refl | false ↦ refl ])
     rows
 
 pub wanted_relieved : (number : ℕ) (rows : List ProcessRow) → wanted_in (map (listed_as (dequeued_if number)) rows) ≡ wanted_in rows

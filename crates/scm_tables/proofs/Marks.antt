@@ -1,5 +1,5 @@
 -- The marked services: what the changes keep of their numbers, and who leaves first.
-use Rattle.std.proofs.Common.{ℕ, ◌≡◌, ◌≢◌, ◌∙◌, ◌+◌, ◌<◌, ◌≤◌, ◌++◌, ◌==◌, ◌&&◌, length-append, ◌||◌, not, true, false, cond, suc, inl, inr}
+use Rattle.std.proofs.Common.{ℕ, ◌≡◌, ◌≢◌, ◌∙◌, ◌+◌, ◌<◌, ◌≤◌, ◌++◌, ◌==◌, length-append, ◌||◌, not, true, false, cond, suc, inl, inr}
 use Rattle.std.proofs.Common.{Bool, List, [], ◌∷◌, Option, None, Some, filter, map, get_or, length, find, ap, sym, refl, subst, arith}
 use Rattle.std.proofs.Common.{eq-eqb, eqb}
 use Rattle.std.specs.Prelude.{AllPairs, Result, Ok, Err, option_map}
@@ -19,11 +19,14 @@ use Rattle.scm_rules.specs.Launches.{fallen_if}
 use Rattle.scm_rules.specs.Opening.{services_from}
 use Rattle.scm_rules.specs.Reports.{moved_by, reported_if}
 use Rattle.start_plan.specs.Entered.{started_if}
+use Rattle.start_plan.proofs.Rows.{started_or}
 use Rattle.status_machine.specs.Moves.{take_report}
 use Rattle.number_lists.specs.Rising.{with_number, without_number}
-use Rattle.number_lists.specs.UnderName.{has}
 use Rattle.row_slab.specs.Rowed.{AreRisingBy}
-use Rattle.scm_tables.specs.Marked.{is_marked, marked_numbers, may_leave, number_leaves, without}
+use Rattle.scm_tables.proofs.Keeping.{fallen_or}
+use Rattle.scm_tables.specs.Marked.{has_mark, marked_numbers, may_leave, number_leaves}
+use Rattle.scm_text.specs.Numbers.{has}
+use Rattle.record_table.specs.Recorded.{without}
 
 abbrev pub number_of : Service → ℕ
 number_of row = row.number
@@ -49,9 +52,9 @@ pub marks_map : (change : Service → Service) → ((row : Service) → (change 
     → marked_numbers (map change rows) ≡ marked_numbers rows
 marks_map change number mark [] = refl
 marks_map change number mark (row ∷ rows) =
-    ap (λ b. map number_of (cond b (change row ∷ filter is_marked (map change rows)) (filter is_marked (map change rows)))) (mark row)
-    ∙ elim row.marked as (λ b. map number_of (cond b (change row ∷ filter is_marked (map change rows))
-    (filter is_marked (map change rows))) ≡ map number_of (cond b (row ∷ filter is_marked rows) (filter is_marked rows))) [
+    ap (λ b. map number_of (cond b (change row ∷ filter has_mark (map change rows)) (filter has_mark (map change rows)))) (mark row)
+    ∙ elim row.marked as (λ b. map number_of (cond b (change row ∷ filter has_mark (map change rows))
+    (filter has_mark (map change rows))) ≡ map number_of (cond b (row ∷ filter has_mark rows) (filter has_mark rows))) [
       | true ↦ ap (λ n. n ∷ marked_numbers (map change rows)) (number row) ∙ ap (λ ns. row.number ∷ ns) (marks_map change number mark rows)
       | false ↦ marks_map change number mark rows
     ]
@@ -59,8 +62,8 @@ marks_map change number mark (row ∷ rows) =
 marks_push : (rows : List Service) (new : Service) → new.marked ≡ false → marked_numbers (rows ++ new ∷ []) ≡ marked_numbers rows
 marks_push [] new unmarked = ap (λ b. map number_of (cond b (new ∷ []) [])) unmarked
 marks_push (row ∷ rows) new unmarked =
-    elim row.marked as (λ b. map number_of (cond b (row ∷ filter is_marked (rows ++ new ∷ [])) (filter is_marked (rows ++ new ∷ []))) ≡ map
-    number_of (cond b (row ∷ filter is_marked rows) (filter is_marked rows))) [
+    elim row.marked as (λ b. map number_of (cond b (row ∷ filter has_mark (rows ++ new ∷ [])) (filter has_mark (rows ++ new ∷ []))) ≡ map
+    number_of (cond b (row ∷ filter has_mark rows) (filter has_mark rows))) [
       | true ↦ ap (λ ns. row.number ∷ ns) (marks_push rows new unmarked)
       | false ↦ marks_push rows new unmarked
     ]
@@ -79,31 +82,10 @@ marks_without n (row ∷ rows) =
     ]
 
 pub started_mark : (number process : ℕ) (row : Service) → (started_if number process row).marked ≡ row.marked
-started_mark number process row =
-    elim (row.number == number && row.status.state == 1) as (λ b. (cond b
-    (record row {
-      status = record {
-        kind = row.status.kind;
-        state = 2;
-        accepted = 0;
-        win32 = 0;
-        specific = 0;
-        checkpoint = 0;
-        hint = 0;
-      };
-      process = process;
-    }) row).marked ≡ row.marked)
-    [ true ↦ refl | false ↦ refl ]
+started_mark number process row = started_or (λ new. new.marked ≡ row.marked) number process row (λ e. refl) refl
 
 pub fallen_mark : (process code : ℕ) (row : Service) → (fallen_if process code row).marked ≡ row.marked
-fallen_mark process code row =
-    elim (row.process == process) as (λ b. (cond b (record row {
-      status =
-          record { kind = row.status.kind; state = 1; accepted = 0; win32 = code; specific = 0; checkpoint = 0; hint = 0 };
-      process = 0;
-    })
-    row).marked ≡ row.marked)
-    [ true ↦ refl | false ↦ refl ]
+fallen_mark process code row = fallen_or (λ new. new.marked ≡ row.marked) process code row refl refl
 
 moved_mark : (row : Service) (told : Result Status ℕ) → (moved_by row told).marked ≡ row.marked
 moved_mark row (Ok status) = refl
@@ -142,7 +124,7 @@ numbers_above : (n : ℕ) (rows : List Service) → AllByRecursion (λ (row : Se
 numbers_above n [] all = tt
 numbers_above n (row ∷ rows) all =
     elim row.marked as (λ b. AllByRecursion (λ (x : ℕ). n < x) (map number_of
-    (cond b (row ∷ filter is_marked rows) (filter is_marked rows)))) [
+    (cond b (row ∷ filter has_mark rows) (filter has_mark rows)))) [
       | true ↦ (all.0, numbers_above n rows all.1)
       | false ↦ numbers_above n rows all.1
     ]
@@ -196,7 +178,7 @@ marks_with n (row ∷ rows) rising there =
 few_marks : (rows : List Service) → length (marked_numbers rows) ≤ length rows
 few_marks [] = omega arith
 few_marks (row ∷ rows) =
-    elim row.marked as (λ b. length (map number_of (cond b (row ∷ filter is_marked rows) (filter is_marked rows))) ≤ suc (length rows)) [
+    elim row.marked as (λ b. length (map number_of (cond b (row ∷ filter has_mark rows) (filter has_mark rows))) ≤ suc (length rows)) [
       | true ↦ omega (arith, few_marks rows)
       | false ↦ omega (arith, few_marks rows)
     ]
@@ -246,7 +228,7 @@ first_of handles all (row ∷ rows) tests =
     let ih = first_of handles all rows tests.1 in
     elim (cases_Bool row.marked) [
       | inl m ↦
-          ap (λ b. find (number_leaves handles all) (map number_of (cond b (row ∷ filter is_marked rows) (filter is_marked rows)))) m
+          ap (λ b. find (number_leaves handles all) (map number_of (cond b (row ∷ filter has_mark rows) (filter has_mark rows)))) m
           ∙ ap (λ b. cond b (Some row.number) (find (number_leaves handles all) (marked_numbers rows))) tests.0
           ∙ elim (leaves handles row) as (λ b. cond b (Some row.number)
           (find (number_leaves handles all) (marked_numbers rows)) ≡ option_map number_of

@@ -8,16 +8,17 @@ use Rattle.std.proofs.lemmas.List.Elements.{All-head, All-tail}
 use Rattle.scm_model.specs.declared.flat.Config.{Config}
 use Rattle.scm_model.specs.Changes.{configured_if}
 use Rattle.dependency_index.proofs.Once.{map_fresh}
-use Rattle.scm_rules.proofs.Needed.{rows_added}
+use Rattle.scm_rules.proofs.Needed.{instead_all, rows_added}
 use Rattle.scm_tables.specs.Needing.{changed_needs}
 use Rattle.std.proofs.lemmas.Bool.{eq-eqb, eqb-true, false≢true}
 use Rattle.scm_model.specs.declared.flat.Service.{Service}
 use Rattle.scm_model.specs.declared.flat.NeedRow.{NeedRow}
-use Rattle.scm_model.specs.Needs.{has, instead, needs_of, numbers_of, with_row}
+use Rattle.scm_model.specs.Needs.{instead, needs_of, numbers_of, with_row}
 use Rattle.scm_model.specs.Order.{is_cyclic}
 use Rattle.scm_model.specs.Walks.{IsAcyclic}
 use Rattle.dependency_index.proofs.Cycles.{acyclic_ends, ends_acyclic}
 use Rattle.scm_rules.specs.Needs.{need_row, need_row_of, need_rows}
+use Rattle.scm_text.specs.Numbers.{has}
 
 -- a service that is there has a row
 pub has_row : (rows : List Service) (n : ℕ) → IsSome (find (λ (row : Service). row.number == n) rows)
@@ -50,23 +51,6 @@ pub same_rows : (change : Service → Service) → ((row : Service) → need_row
 same_rows change same [] = refl
 same_rows change same (row ∷ rows) = ap (λ (r : NeedRow). r ∷ need_rows rows) (sym (same row))
     ∙ ap (λ (rs : List NeedRow). need_row (change row) ∷ rs) (same_rows change same rows)
-
-instead_is : (number : ℕ) (config : Config) (row : Service) → instead (need_row_of number config) (need_row row) ≡ need_row
-    (configured_if number config row)
-instead_is number config row =
-    elim (row.number == number) as (λ b. (row.number == number) ≡ b
-    → cond b (need_row_of number config) (need_row row) ≡ need_row (cond b
-    (record row { config = config; status = record row.status { kind = config.kind } }) row)) [
-      | true ↦ λ e. ap (λ (n : ℕ). need_row_of n config) (sym (eqb-true row.number number e))
-      | false ↦ λ e. refl
-    ] refl
-
-instead_all : (number : ℕ) (config : Config) (rows : List Service) → map (instead (need_row_of number config)) (need_rows rows) ≡ need_rows
-    (map (configured_if number config) rows)
-instead_all number config [] = refl
-instead_all number config (row ∷ rows) =
-    ap (λ (r : NeedRow). r ∷ map (instead (need_row_of number config)) (need_rows rows)) (instead_is number config row)
-    ∙ ap (λ (rs : List NeedRow). need_row (configured_if number config row) ∷ rs) (instead_all number config rows)
 
 -- another configuration
 pub rows_changed : (number : ℕ) (config : Config) (rows : List Service)

@@ -17,7 +17,7 @@ use Rattle.scm_rules.specs.Needs.{need_row, need_rows}
 use Rattle.record_table.specs.Recorded.{is_member, numbers_with}
 use Rattle.scm_tables.specs.Inside.{IsKept, tabled}
 use Rattle.scm_tables.specs.Tabled.{Tabled}
-use Rattle.scm_tables.specs.Tags.{tag_of}
+use Rattle.scm_tables.specs.Tags.{tag_in}
 use Rattle.scm_tables.specs.declared.tables.Tables.TheInside.{Inside}
 use Rattle.scm_tables.proofs.Bisecting.{found_here}
 
@@ -64,11 +64,11 @@ count_of q all (row ∷ some) found =
     [ true ↦ ap suc rest | false ↦ rest ])
 
 greatest_of : (before : ℕ) (all some : List Service) → All (IsFound all) some
-    → fold (λ greatest number. max greatest (tag_of (with_number all number))) before (map number_of some) ≡ fold
+    → fold (λ greatest number. max greatest (tag_in (with_number all number))) before (map number_of some) ≡ fold
     (λ greatest (row : Service). max greatest row.config.tag) before some
 greatest_of before all [] found = refl
 greatest_of before all (row ∷ some) found =
-    ap (λ o. fold (λ greatest number. max greatest (tag_of (with_number all number))) (max before (tag_of o)) (map number_of some))
+    ap (λ o. fold (λ greatest number. max greatest (tag_in (with_number all number))) (max before (tag_in o)) (map number_of some))
     (All-head (IsFound all) row some found)
     ∙ greatest_of (max before row.config.tag) all some (All-tail (IsFound all) row some found)
 
@@ -97,7 +97,7 @@ module _ (rows : List Service) (rising : AllPairs (λ (a b : Service). a.number 
       (passing_found (is_member group))
 
   -- the greatest tag of a group
-  pub group_tag : (group : List ℕ) → fold (λ greatest number. max greatest (tag_of (with_number rows number))) 0
+  pub group_tag : (group : List ℕ) → fold (λ greatest number. max greatest (tag_in (with_number rows number))) 0
       (numbers_with (is_member group) rows) ≡ greatest_tag (filter (is_member group) rows)
   group_tag group = greatest_of 0 rows (filter (is_member group) rows) (passing_found (is_member group))
 

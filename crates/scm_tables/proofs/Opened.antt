@@ -22,12 +22,12 @@ use Rattle.scm_model.specs.Changes.{new_service}
 use Rattle.scm_rules.specs.Create.{new_status}
 use Rattle.scm_rules.specs.Due.{is_due_of}
 use Rattle.scm_rules.specs.Opening.{automatic_at, services_from, starts_from}
-use Rattle.start_triggers.specs.Order.{auto_rows, in_order, is_automatic, put_in, start_of, starts_before}
+use Rattle.start_triggers.specs.Order.{auto_rows, in_order, is_automatic, insert, start_of, starts_before}
 use Rattle.scm_tables.specs.Firing.{one_if}
 use Rattle.scm_tables.specs.Places.{HasPlaces}
 use Rattle.scm_tables.specs.Started.{due_of, dues_from}
 use Rattle.scm_tables.proofs.Placed.{fewer, fewer_pass}
-use Rattle.scm_tables.specs.Tabled.{AreRising, HasShort, HasShortTexts}
+use Rattle.scm_tables.specs.Tabled.{AreByNumber, HasShort, HasShortTexts}
 
 -- a fact of the first row and each later one, and of each two of the later ones
 pairs_cons : {A : Type 0} (R : A → A → Type 0) (x : A) (xs : List A) → All (R x) xs → AllPairs R xs → (i j : ℕ) (d : A) → i < j
@@ -66,7 +66,7 @@ rising_from first (config ∷ configs) =
     (services_from (first + 1) configs) (from_first (first + 1) configs))
     (rising_from (first + 1) configs)
 
-pub opened_rising : (configs : List Config) → AreRising (length configs + 1) (services_from 1 configs)
+pub opened_rising : (configs : List Config) → AreByNumber (length configs + 1) (services_from 1 configs)
 opened_rising configs = record {
   below = All-weaker (λ (row : Service). row.number < 1 + length configs) (λ (row : Service). row.number < length configs + 1)
       (λ row h. omega (arith, h)) (services_from 1 configs) (below_last 1 configs);
@@ -88,13 +88,13 @@ count_cons q x xs = elim (q x) as (λ b. length (cond b (x ∷ filter q xs) (fil
 
 -- an order changes no count
 count_put : {X : Type 0} (before : X → X → Bool) (q : X → Bool) (x : X) (ys : List X)
-    → length (filter q (put_in before x ys)) ≡ length (filter q (x ∷ ys))
+    → length (filter q (insert before x ys)) ≡ length (filter q (x ∷ ys))
 count_put before q x [] = refl
 count_put before q x (y ∷ ys) =
-    elim (before y x) as (λ b. length (filter q (cond b (y ∷ put_in before x ys) (x ∷ y ∷ ys))) ≡ length (filter q (x ∷ y ∷ ys))) [
+    elim (before y x) as (λ b. length (filter q (cond b (y ∷ insert before x ys) (x ∷ y ∷ ys))) ≡ length (filter q (x ∷ y ∷ ys))) [
       | true ↦ omega (
         arith,
-        count_cons q y (put_in before x ys),
+        count_cons q y (insert before x ys),
         count_put before q x ys,
         count_cons q x ys,
         count_cons q x (y ∷ ys),
@@ -147,7 +147,8 @@ one_named : (number : ℕ) (rows : List Service) → AllPairs (λ (a b : Service
     → length (filter (λ (row : Service). row.number == number) rows) ≤ 1
 one_named number [] rising = omega arith
 one_named number (row ∷ rows) rising =
-    elim (row.number == number) as (λ b. row.number == number ≡ b → length (filter (λ (r : Service). r.number == number) (row ∷ rows)) ≤ 1) [
+    elim (row.number == number) as (λ b. row.number == number ≡ b
+    → length (filter (λ (r : Service). r.number == number) (row ∷ rows)) ≤ 1) [
       | true ↦ λ e.
           let this = eqb-true row.number number e in
           let none = none_named number rows (λ k d lt is. let r = rising 0 (suc k) d (omega arith) (omega (arith, lt)) in
@@ -177,7 +178,7 @@ one_start number first moment groups services rising =
 
 -- all find a place
 pub opened_places : (moment : ℕ) (groups : List (List ℕ)) {services : List Service} {rows : List Due} {capacity next : ℕ}
-    → AreRising next services → rows ≡ starts_from 1 moment (auto_rows services groups)
+    → AreByNumber next services → rows ≡ starts_from 1 moment (auto_rows services groups)
     → length rows + length services ≤ capacity → HasPlaces services rows capacity
 opened_places moment groups {services} {rows} {capacity} {next} rising is room = record {
   one = λ number. rw is (one_start number 1 moment groups services rising.rising);

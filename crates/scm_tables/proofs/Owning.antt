@@ -5,6 +5,7 @@ use Rattle.std.specs.Prelude.{All, IfSome, drop, nat_lt, not, option_map}
 use Rattle.std.proofs.lemmas.List.Elements.{All-cons, All-filter, All-head, All-map, All-nil, All-push, All-tail}
 use Rattle.scm_model.specs.declared.flat.Config.{Config}
 use Rattle.scm_model.specs.declared.flat.Phase.TheVariants as phases
+use Rattle.scm_model.specs.declared.flat.Order.{Order}
 use Rattle.scm_model.specs.declared.flat.Process.{Process}
 use Rattle.scm_model.specs.declared.flat.Service.{Service}
 use Rattle.scm_model.specs.declared.flat.Status.{Status}
@@ -19,7 +20,7 @@ use Rattle.scm_rules.specs.Reports.{moved_by, reported_if}
 use Rattle.start_plan.specs.Entered.{started_if, starting_in, wanted_process}
 use Rattle.status_machine.specs.Moves.{take_report}
 use Rattle.scm_tables.specs.Owned.{AreOwners, HaveOwn, NoOtherHas}
-use Rattle.scm_tables.proofs.Keeping.{started_number}
+use Rattle.scm_tables.proofs.Keeping.{fallen_or, started_number}
 
 -- ## What the changes keep
 
@@ -55,25 +56,7 @@ own_map next change keeps rows old = record {
 
 pub fallen_process : (process code : ℕ) (row : Service) → ((fallen_if process code row).process ≡ row.process)
     ⊎ ((fallen_if process code row).process ≡ 0)
-fallen_process process code row =
-    elim (row.process == process) as (λ b. ((cond b (record row {
-      status =
-          record { kind = row.status.kind; state = 1; accepted = 0; win32 = code; specific = 0; checkpoint = 0; hint = 0 };
-      process = 0;
-    })
-    row).process ≡ row.process) ⊎ ((cond b (record row {
-      status = record {
-        kind = row.status.kind;
-        state = 1;
-        accepted = 0;
-        win32 = code;
-        specific = 0;
-        checkpoint = 0;
-        hint = 0;
-      };
-      process = 0;
-    }) row).process ≡ 0))
-    [ true ↦ inr refl | false ↦ inl refl ]
+fallen_process process code row = fallen_or (λ new. (new.process ≡ row.process) ⊎ (new.process ≡ 0)) process code row (inr refl) (inl refl)
 
 pub configured_process : (n : ℕ) (config : Config) (row : Service) → (configured_if n config row).process ≡ row.process
 configured_process n config row =
@@ -175,10 +158,10 @@ pub launched_same : (n pid : ℕ) (p : Process) → owned_as (launched_if n pid 
 launched_same n pid p = elim (p.number == n) as (λ b. owned_as (cond b (record p { phase = phases.Launched; pid = pid }) p) ≡ owned_as p)
     [ true ↦ refl | false ↦ refl ]
 
-pub controlled_same : (limit n code : ℕ) (p : Process) → owned_as (controlled_if limit n code p) ≡ owned_as p
-controlled_same limit n code p =
+pub controlled_same : (limit n : ℕ) (order : Order) (p : Process) → owned_as (controlled_if limit n order p) ≡ owned_as p
+controlled_same limit n order p =
     elim (p.number == n && nat_lt (length p.controls) limit) as (λ b. owned_as
-    (cond b (record p { controls = p.controls ++ code ∷ [] }) p) ≡ owned_as p) [ true ↦ refl | false ↦ refl ]
+    (cond b (record p { controls = p.controls ++ order ∷ [] }) p) ≡ owned_as p) [ true ↦ refl | false ↦ refl ]
 
 pub relieved_same : (n : ℕ) (p : Process) → owned_as (dequeued_if n p) ≡ owned_as p
 relieved_same n p = elim (p.number == n) as (λ b. owned_as (cond b (record p { controls = drop 1 p.controls }) p) ≡ owned_as p)

@@ -12,7 +12,7 @@ use Rattle.scm_model.specs.declared.flat.DueKind.TheVariants as dues
 use Rattle.scm_model.specs.declared.flat.Service.{Service}
 use Rattle.scm_model.specs.Found.{if_found}
 use Rattle.scm_model.specs.declared.flat.Plan.{Plan}
-use Rattle.due_list.specs.Dues.{Dues, is_kept, keeping, without}
+use Rattle.due_list.specs.Dues.{Dues, is_kept, keeping, taken_out}
 use Rattle.start_plan.specs.Settle.{is_due_still, is_undecided}
 use Rattle.scm_rules.specs.Due.{beside, is_due_of, of_others}
 use Rattle.scm_tables.specs.Places.{HasPlaces, places, still_due, strays}
@@ -36,7 +36,8 @@ swapped : {X : Type 0} (p q : X → Bool) (xs : List X) → filter p (filter q x
 swapped p q [] = refl
 swapped p q (x ∷ xs) =
     let rest = swapped p q xs in
-    elim (q x) as (λ b. q x ≡ b → filter p (cond b (x ∷ filter q xs) (filter q xs)) ≡ filter q (cond (p x) (x ∷ filter p xs) (filter p xs))) [
+    elim (q x) as (λ b. q x ≡ b → filter p (cond b (x ∷ filter q xs) (filter q xs))
+    ≡ filter q (cond (p x) (x ∷ filter p xs) (filter p xs))) [
       | true ↦ λ e. elim (p x) as (λ b. cond b (x ∷ filter p (filter q xs)) (filter p (filter q xs)) ≡ filter q
           (cond b (x ∷ filter p xs) (filter p xs))) [
             | true ↦ ap (λ ys. x ∷ ys) rest ∙ sym (ap (λ b. cond b (x ∷ filter q (filter p xs)) (filter q (filter p xs))) e)
@@ -161,12 +162,12 @@ filter_keeps p {services} {rows} {capacity} has = record {
 }
 
 pub left_keeps_places : (found : Option Due) (services : List Service) (d : Dues) → HasPlaces services d.rows d.capacity
-    → HasPlaces services (if_found without found d).rows (if_found without found d).capacity
+    → HasPlaces services (if_found taken_out found d).rows (if_found taken_out found d).capacity
 left_keeps_places None services d has = has
 left_keeps_places (Some row) services d has = filter_keeps (λ (other : Due). not (other.number == row.number)) has
 
 pub left_free : (found : Option Due) (services : List Service) (d : Dues)
-    → d.capacity - places services d.rows ≤ (if_found without found d).capacity - places services (if_found without found d).rows
+    → d.capacity - places services d.rows ≤ (if_found taken_out found d).capacity - places services (if_found taken_out found d).rows
 left_free None services d = omega arith
 left_free (Some row) services d = omega (arith, fewer_places (λ (other : Due). not (other.number == row.number)) services d.rows)
 

@@ -11,8 +11,8 @@ use Rattle.scm_model.specs.declared.flat.Service.{Service}
 use Rattle.scm_model.specs.Changes.{configured_if, marked_if}
 use Rattle.scm_rules.specs.Failures.{counted_if}
 use Rattle.start_plan.specs.Entered.{started_if}
-use Rattle.scm_tables.specs.Tabled.{AreInOrder, AreRising}
-use Rattle.scm_tables.specs.Turned.{counted, marked, started}
+use Rattle.scm_tables.specs.Tabled.{AreInOrder, AreByNumber}
+use Rattle.scm_tables.specs.Turned.{failure_counted, marked, started}
 
 module _ {R : Type 0} (number_of : R → ℕ) where
   pub ordered_push : (next : ℕ) (rows : List R) (row : R) → AreInOrder number_of next rows → number_of row ≡ next
@@ -46,15 +46,15 @@ module _ {R : Type 0} (number_of : R → ℕ) where
 
 -- ## Services
 
-pub rising_push : (next : ℕ) (rows : List Service) (row : Service) → AreRising next rows → row.number ≡ next
-    → AreRising (next + 1) (rows ++ row ∷ [])
+pub rising_push : (next : ℕ) (rows : List Service) (row : Service) → AreByNumber next rows → row.number ≡ next
+    → AreByNumber (next + 1) (rows ++ row ∷ [])
 rising_push next rows row old new = ordered_push (λ (r : Service). r.number) next rows row old new
 
-pub rising_filter : (next : ℕ) (p : Service → Bool) (rows : List Service) → AreRising next rows → AreRising next (filter p rows)
+pub rising_filter : (next : ℕ) (p : Service → Bool) (rows : List Service) → AreByNumber next rows → AreByNumber next (filter p rows)
 rising_filter next p rows old = ordered_filter (λ (r : Service). r.number) next p rows old
 
 pub rising_map : (next : ℕ) (change : Service → Service) → ((row : Service) → (change row).number ≡ row.number) → (rows : List Service)
-    → AreRising next rows → AreRising next (map change rows)
+    → AreByNumber next rows → AreByNumber next (map change rows)
 rising_map next change same rows old = ordered_map (λ (r : Service). r.number) next change same rows old
 
 abbrev pub configured : Config → Service → Service
@@ -93,7 +93,7 @@ started_here n process row is = rw (eq-eqb row.number n is) refl
 pub started_elsewhere : (n process : ℕ) (row : Service) → row.number ≢ n → started_if n process row ≡ row
 started_elsewhere n process row other = rw (ne_eqb row.number n other) refl
 
-pub counted_here : (n moment : ℕ) (row : Service) → row.number ≡ n → counted_if n moment row ≡ counted moment row
+pub counted_here : (n moment : ℕ) (row : Service) → row.number ≡ n → counted_if n moment row ≡ failure_counted moment row
 counted_here n moment row is = rw (eq-eqb row.number n is) refl
 
 pub counted_elsewhere : (n moment : ℕ) (row : Service) → row.number ≢ n → counted_if n moment row ≡ row

@@ -18,10 +18,11 @@ use Rattle.scm_rules.specs.Reports.{reported_if}
 use Rattle.start_plan.specs.Asleep.{all_but, ArePending, IsPending}
 use Rattle.start_plan.specs.Moves.{is_pending}
 use Rattle.start_plan.proofs.Pending.{pending_by}
-use Rattle.scm_tables.specs.Marked.{may_leave, number_leaves, without}
+use Rattle.scm_tables.specs.Marked.{may_leave, number_leaves}
 use Rattle.scm_tables.specs.Owned.{NoOtherHas}
 use Rattle.scm_tables.specs.Woken.{AreWokenFor, IsChangeOf}
 use Rattle.scm_tables.proofs.Keeping.{fallen_number, reported_number}
+use Rattle.record_table.specs.Recorded.{without}
 
 abbrev state_at : List Service → ℕ → ℕ
 state_at rows n = state_in (find (λ (row : Service). row.number == n) rows)

@@ -14,6 +14,7 @@ use Rattle.scm_rules.specs.Reports.{moved_by, reported_if}
 use Rattle.start_plan.specs.Entered.{starting_in}
 use Rattle.status_machine.specs.Moves.{take_report}
 use Rattle.scm_tables.specs.Owned.{NoOtherHas}
+use Rattle.scm_tables.proofs.Keeping.{fallen_or}
 use Rattle.scm_tables.specs.Turned.{running_as, started}
 
 -- ## By number
@@ -77,25 +78,7 @@ altered_owner process service change some others (row ∷ rows) told =
     ∙ ap (λ (rs : List Service). change row ∷ rs) (altered_owner process service change some others rows (All-tail P row rows told))
 
 fallen_is : (process code : ℕ) (row : Service) → running_as (fallen_if process code row) row ≡ fallen_if process code row
-fallen_is process code row =
-    elim (row.process == process) as (λ b. running_as (cond b (record row {
-      status =
-          record { kind = row.status.kind; state = 1; accepted = 0; win32 = code; specific = 0; checkpoint = 0; hint = 0 };
-      process = 0;
-    })
-    row) row
-    ≡ cond b (record row {
-      status = record {
-        kind = row.status.kind;
-        state = 1;
-        accepted = 0;
-        win32 = code;
-        specific = 0;
-        checkpoint = 0;
-        hint = 0;
-      };
-      process = 0;
-    }) row) [ true ↦ refl | false ↦ refl ]
+fallen_is process code row = fallen_or (λ new. running_as new row ≡ new) process code row refl refl
 
 pub fallen_all : (process code : ℕ) (rows : List Service) → map (λ (row : Service). running_as (fallen_if process code row) row) rows ≡ map
     (fallen_if process code) rows

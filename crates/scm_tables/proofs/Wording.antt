@@ -16,7 +16,7 @@ use Rattle.scm_rules.specs.Launches.{head_word, line_of, path_in, service_of_pro
 use Rattle.scm_tables.specs.Lined.{emptied_line, words_told}
 use Rattle.scm_tables.specs.Lines.{first_line}
 use Rattle.scm_tables.specs.declared.process_rows.ProcessRow.{ProcessRow}
-use Rattle.scm_tables.specs.Listed.{is_wanted_row, process_shown, processes_in, wanted_in, wanted_of, without_words, words_in}
+use Rattle.scm_tables.specs.Listed.{is_wanted_row, process_shown, processes_in, wanted_in, wanted_of, without_words, next_words}
 use Rattle.scm_tables.specs.Tabled.{HasShort}
 
 -- a row without its words
@@ -40,12 +40,12 @@ next_first row rows i d f = record {
 }
 
 pub words_at : (rows : List ProcessRow) (i : ℕ) (d : ProcessRow) → IsFirst rows i d
-    → words_in (wanted_in rows) ≡ words_told (get_or rows i d).line
+    → next_words (wanted_in rows) ≡ words_told (get_or rows i d).line
 words_at [] i d f = absurd (let lt = f.within in omega arith)
-words_at (row ∷ rows) zero d f = ap (λ b. words_in (map wanted_of (cond b (row ∷ filter is_wanted_row rows) (filter is_wanted_row rows))))
+words_at (row ∷ rows) zero d f = ap (λ b. next_words (map wanted_of (cond b (row ∷ filter is_wanted_row rows) (filter is_wanted_row rows))))
     f.wanted
 words_at (row ∷ rows) (suc i) d f =
-    ap (λ b. words_in (map wanted_of (cond b (row ∷ filter is_wanted_row rows) (filter is_wanted_row rows)))) (f.none zero (omega arith))
+    ap (λ b. next_words (map wanted_of (cond b (row ∷ filter is_wanted_row rows) (filter is_wanted_row rows)))) (f.none zero (omega arith))
     ∙ words_at rows i d (next_first row rows i d f)
 
 pub without_at : (rows : List ProcessRow) (i : ℕ) (d : ProcessRow) → IsFirst rows i d
@@ -110,7 +110,7 @@ line_words f row =
     elim row.command as (λ b. cond b [] row.words ≡ (cond {A = List ℕ × List (List ℕ)} b (head_word row.words, [])
     (path_in (option_and_then (service_of f) (service_of_process f row.process)), row.words)).1) [ true ↦ refl | false ↦ refl ]
 
-pub first_words : (f : Flat) (rows : List Wanted) → words_in rows ≡ (first_line f rows).1
+pub first_words : (f : Flat) (rows : List Wanted) → next_words rows ≡ (first_line f rows).1
 first_words f [] = refl
 first_words f (row ∷ rows) = line_words f row
 

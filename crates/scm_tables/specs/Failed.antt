@@ -10,9 +10,9 @@ use Rattle.scm_rules.specs.Launches.{current_of}
 use Rattle.scm_rules.specs.Reports.{reported_if, reported_in, notified_of_report}
 use Rattle.scm_tables.specs.declared.failing.Failed.{Failed}
 
--- what a failure of a service at a moment comes to
-abbrev pub failure_of : ℕ → Service → Failed
-failure_of moment row = record { number = row.number; action = (on_failure row.config row.failures row.last_failure moment).action }
+-- what a failure of a service at a moment results in
+abbrev pub failed_at : ℕ → Service → Failed
+failed_at moment row = record { number = row.number; action = (on_failure row.config row.failures row.last_failure moment).action }
 
 -- a service that failed is counted so, and what is to be done becomes due
 abbrev pub with_failed : Failed → Flat → Flat

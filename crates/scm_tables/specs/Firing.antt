@@ -74,8 +74,8 @@ with_begun target f = with_plan f (new_plan f 0 target (start_order f target) []
 -- ## Rows that take place
 
 -- a row that is due has left
-abbrev pub without_row : Due → Flat → Flat
-without_row row f = without_due row.number f
+abbrev pub without_fired : Due → Flat → Flat
+without_fired row f = without_due row.number f
 
 -- all rows can take place: there is room and there are numbers
 pub record CanFire (t : Tabled) : Type 0 where

@@ -11,7 +11,7 @@ use Rattle.scm_tables.specs.Marked.{marked_numbers}
 use Rattle.scm_tables.specs.Places.{HasPlaces, places}
 use Rattle.scm_tables.specs.Rooms.{AreRooms}
 use Rattle.scm_tables.specs.Owned.{AreOwners, HaveOwn}
-use Rattle.scm_tables.specs.Tabled.{AreRising, HasShort, Tabled}
+use Rattle.scm_tables.specs.Tabled.{AreByNumber, HasShort, Tabled}
 use Rattle.scm_tables.specs.declared.tables.Numbers.{Numbers}
 use Rattle.scm_tables.specs.declared.tables.Tables.TheInside.{Inside}
 
@@ -71,7 +71,7 @@ IsBelow next plan = plan.number < next
 -- processes as may be listed find room; plans have numbers below
 -- the next one, and sleep only for services whose state is about to change; what becomes due of a service finds a place
 pub record IsKept (t : Inside) : Type 0 where
-  pub rising : AreRising t.next.service t.services.services
+  pub rising : AreByNumber t.next.service t.services.services
   pub owns : HaveOwn t.processes.next t.services.services
   pub listed : AreOwners t.processes.processes t.services.services
   pub texts : All HasShort t.services.services

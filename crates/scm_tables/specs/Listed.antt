@@ -1,18 +1,19 @@
 -- The processes, each with the words that its launch is to have: two lists of the flat state in one.
-use Rattle.std.specs.Prelude.{ℕ, Bool, true, false, List, [], ◌∷◌, map, filter, if◌then◌else◌}
+use Rattle.std.specs.Prelude.{ℕ, Bool, List, [], ◌∷◌, map, filter, if◌then◌else◌}
 use Rattle.scm_model.specs.declared.flat.Process.{Process}
-use Rattle.scm_model.specs.declared.flat.Phase.{Phase}
-use Rattle.scm_model.specs.declared.flat.Phase.TheVariants as phases
 use Rattle.scm_model.specs.declared.flat.Wanted.{Wanted}
 use Rattle.scm_tables.specs.declared.process_rows.ProcessRow.{ProcessRow}
+use Rattle.scm_rules.specs.Valid.{is_wanted_phase}
 
 abbrev pub process_shown : ProcessRow → Process
-process_shown row = record { number = row.number; service = row.service; phase = row.phase; pid = row.pid; controls = row.controls }
-
-abbrev pub is_wanted_phase : Phase → Bool
-is_wanted_phase phases.Wanted = true
-is_wanted_phase phases.Taken = false
-is_wanted_phase phases.Launched = false
+process_shown row = record {
+  number = row.number;
+  service = row.service;
+  shared = row.shared;
+  phase = row.phase;
+  pid = row.pid;
+  controls = row.controls;
+}
 
 -- whether a process is still to be launched
 abbrev pub is_wanted_row : ProcessRow → Bool
@@ -28,9 +29,9 @@ abbrev pub wanted_in : List ProcessRow → List Wanted
 wanted_in rows = map wanted_of (filter is_wanted_row rows)
 
 -- the words of the launch that is wanted first, which has none where it is a command's
-abbrev pub words_in : List Wanted → List (List ℕ)
-words_in [] = []
-words_in (row ∷ rows) = if row.command then [] else row.words
+abbrev pub next_words : List Wanted → List (List ℕ)
+next_words [] = []
+next_words (row ∷ rows) = if row.command then [] else row.words
 
 -- they are taken out of it
 abbrev pub without_words : List Wanted → List Wanted
@@ -41,4 +42,11 @@ without_words (row ∷ rows) = record row { words = [] } ∷ rows
 abbrev pub listed_as : (Process → Process) → ProcessRow → ProcessRow
 listed_as change row =
     let process = change (process_shown row) in
-    record row { number = process.number; service = process.service; phase = process.phase; pid = process.pid; controls = process.controls }
+    record row {
+      number = process.number;
+      service = process.service;
+      shared = process.shared;
+      phase = process.phase;
+      pid = process.pid;
+      controls = process.controls;
+    }

@@ -1,19 +1,15 @@
 -- The services that are marked, by their numbers.
-use Rattle.std.specs.Prelude.{ℕ, Bool, false, not, ◌==◌, List, Option, None, Some, filter, find, map}
+use Rattle.std.specs.Prelude.{ℕ, Bool, false, ◌==◌, List, Option, None, Some, filter, find, map}
 use Rattle.scm_model.specs.declared.flat.HandleRow.{HandleRow}
 use Rattle.scm_model.specs.declared.flat.Service.{Service}
 use Rattle.scm_model.specs.Purge.{leaves}
 
-abbrev pub is_marked : Service → Bool
-is_marked row = row.marked
+abbrev pub has_mark : Service → Bool
+has_mark row = row.marked
 
 -- their numbers, in list order
 abbrev pub marked_numbers : List Service → List ℕ
-marked_numbers rows = map (λ (row : Service). row.number) (filter is_marked rows)
-
--- the services but for one
-abbrev pub without : ℕ → List Service → List Service
-without number rows = filter (λ (row : Service). not (row.number == number)) rows
+marked_numbers rows = map (λ (row : Service). row.number) (filter has_mark rows)
 
 abbrev pub may_leave : List HandleRow → Option Service → Bool
 may_leave handles None = false

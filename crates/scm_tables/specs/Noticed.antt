@@ -1,4 +1,4 @@
--- The states that a change makes of which registrations are told.
+-- The states after changes of which registrations are notified.
 use Rattle.std.specs.Prelude.{ℕ}
 use Rattle.scm_model.specs.declared.flat.Flat.{Flat}
 use Rattle.scm_model.specs.Notices.{new_registration, with_registration}

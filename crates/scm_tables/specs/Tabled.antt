@@ -1,7 +1,7 @@
 -- The manager's lists, and for how many rows more there is room in them.
 use Rattle.std.specs.Prelude.{ℕ, ◌≡◌, ◌<◌, ◌≤◌, List, Option, Some, All, AllPairs, length}
 use Rattle.dependency_index.specs.declared.keeping.Spare.{Spare as NeedSpare}
-use Rattle.dependency_index.specs.Indexed.{spare_of}
+use Rattle.dependency_index.specs.Indexed.{as_spare}
 use Rattle.record_table.specs.declared.texts.Spare.{Spare as RowSpare}
 use Rattle.record_table.specs.Recorded.{spare_of as texts_of}
 use Rattle.scm_model.specs.declared.flat.Config.{Config}
@@ -38,8 +38,8 @@ pub record AreInOrder {R : Type 0} (number_of : R → ℕ) (next : ℕ) (rows : 
   pub below : All (λ (row : R). number_of row < next) rows
   pub rising : AllPairs (λ (a b : R). number_of a < number_of b) rows
 
-abbrev pub AreRising : ℕ → List Service → Type 0
-AreRising next rows = AreInOrder (λ (row : Service). row.number) next rows
+abbrev pub AreByNumber : ℕ → List Service → Type 0
+AreByNumber next rows = AreInOrder (λ (row : Service). row.number) next rows
 
 -- a path and a command that can be launched, and a name that registrations can be told
 pub record HasShortTexts (config : Config) : Type 0 where
@@ -50,7 +50,7 @@ pub record HasShortTexts (config : Config) : Type 0 where
 -- the room for a service that gets this configuration
 abbrev pub need_room : Config → NeedRoom
 need_room config = record {
-  index = Some (spare_of config.name config.group config.needs);
+  index = Some (as_spare config.name config.group config.needs);
   rows = Some (texts_of config);
 }
 

@@ -21,8 +21,8 @@ abbrev pub running_as : Service → Service → Service
 running_as other row = record row { status = other.status; process = other.process }
 
 -- a failure at a moment is counted
-abbrev pub counted : ℕ → Service → Service
-counted moment row = record row {
+abbrev pub failure_counted : ℕ → Service → Service
+failure_counted moment row = record row {
   failures = (on_failure row.config row.failures row.last_failure moment).failures;
   last_failure = moment;
 }

@@ -9,7 +9,7 @@ ghost use Rattle.scm_rules.specs.Failures.{counted_if, failed_by, is_failure, wi
 ghost use Rattle.scm_rules.specs.Failures.{with_due_after};
 ghost use Rattle.scm_rules.specs.Reports.{with_report, with_report_of};
 ghost use Rattle.scm_rules.specs.Launches.{with_fallen};
-ghost use Rattle.scm_tables.specs.Failed.{failure_of, taken_by, taken_by_service, with_failed};
+ghost use Rattle.scm_tables.specs.Failed.{failed_at, taken_by, taken_by_service, with_failed};
 
 use super::noticing::{note_fall, note_report};
 use super::service_rows::{count_in, current_in, fall_in, report_in, wake_in};
@@ -26,9 +26,9 @@ pub struct Failed {
     pub action: Option<Action>,
 }
 
-/// What a failure of a service comes to, if it is there.
+/// What a failure of a service results in, if it is there.
 fn failure_of(service: Option<&Service>, moment: u64) -> Option<Failed>
-    ensures { result ≡ option_map (failure_of moment) (option_copied service.entry) }
+    ensures { result ≡ option_map (failed_at moment) (option_copied service.entry) }
 {
     match service {
         Some(row) => Some(Failed {
@@ -122,7 +122,7 @@ impl Tables {
         }
     }
 
-    /// The service falls whose current process this is; its registrations are told.
+    /// The service falls whose current process this is; its registrations are notified.
     pub fn fall(&mut self, process: u64, code: u32)
         ensures flat { self.new.flat ≡ with_fallen self.old.flat process code }
         ensures limits { self.new.limits ≡ self.old.limits }
@@ -150,7 +150,7 @@ impl Tables {
         self.fail(failed);
     }
 
-    /// A service takes a report whose current process this is; its registrations are told of
+    /// A service takes a report whose current process this is; its registrations are notified of
     /// another state.
     fn take_report(&mut self, process: u64, report: &Status)
         ensures flat { self.new.flat ≡ taken_by self.old.flat process report.now }
@@ -168,7 +168,7 @@ impl Tables {
     }
 
     /// The service takes a report whose current process this is, which may be a failure of it; its
-    /// registrations are told of another state. It takes no memory.
+    /// registrations are notified of another state. It takes no memory.
     pub fn report(&mut self, process: u64, report: &Status)
         requires { self.old.flat.next.due < 2 ^ 63 }
         ensures flat { self.new.flat ≡ with_report self.old.flat process report.now }
@@ -180,7 +180,7 @@ impl Tables {
     }
 
     /// A service takes a report as if its current process had made it, if it is there; its
-    /// registrations are told of another state.
+    /// registrations are notified of another state.
     fn take_report_of(&mut self, service: u64, report: &Status)
         ensures flat { self.new.flat ≡ taken_by_service self.old.flat
             (service_of self.old.flat service) report.now }
@@ -197,7 +197,7 @@ impl Tables {
     }
 
     /// A service takes a report as if its current process had made it, if it is there, which may be
-    /// a failure of it; its registrations are told of another state. It takes no memory.
+    /// a failure of it; its registrations are notified of another state. It takes no memory.
     pub fn report_of(&mut self, service: u64, report: &Status)
         requires { self.old.flat.next.due < 2 ^ 63 }
         ensures flat { self.new.flat ≡ with_report_of self.old.flat

@@ -7,7 +7,7 @@ ghost use Rattle.scm_rules.specs.Ticks.{can_start, fire, first_run, ticked, with
 ghost use Rattle.scm_rules.specs.Ticks.{with_restart};
 ghost use Rattle.scm_tables.specs.Firing.{CanFire, CanFireOne, HasFires, HasPlanNumbers, HasStarts};
 ghost use Rattle.scm_tables.specs.Firing.{commands_in, runs, startable, starts_in, with_begun};
-ghost use Rattle.scm_tables.specs.Firing.{without_row};
+ghost use Rattle.scm_tables.specs.Firing.{without_fired};
 ghost use Rattle.scm_tables.specs.Promised.{KeepsRooms};
 ghost use Rattle.start_plan.specs.Entered.{HasNumbers};
 ghost use Rattle.scm_tables.specs.Rooms.{IsCommandRoom, IsStartRoom};
@@ -275,7 +275,7 @@ impl Tables {
     /// The row that is due first leaves, if one is due.
     fn take_due(&mut self) -> Option<Due>
         ensures row { result ≡ next_due self.old.flat }
-        ensures flat { self.new.flat ≡ if_found without_row result self.old.flat }
+        ensures flat { self.new.flat ≡ if_found without_fired result self.old.flat }
         ensures limits { self.new.limits ≡ self.old.limits }
         ensures spare { self.new.spare ≡ record self.old.spare {
           services = self.new.spare.services;

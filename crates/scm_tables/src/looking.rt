@@ -3,7 +3,7 @@ ghost use Rattle.std.specs.List.{list_any};
 ghost use Rattle.scm_model.specs.Ready.{state_of};
 ghost use Rattle.scm_model.specs.Rows.{service_of};
 ghost use Rattle.scm_model.specs.declared.codes.TheConstants.{SERVICE_RUNNING, SERVICE_STOPPED};
-ghost use Rattle.scm_tables.specs.Tags.{tag_of};
+ghost use Rattle.scm_tables.specs.Tags.{tag_in};
 
 use super::tables::Tables;
 use scm_model::Service;
@@ -11,7 +11,7 @@ use scm_model::codes::{SERVICE_RUNNING, SERVICE_STOPPED};
 
 /// The tag of a service, or 0 where there is none.
 fn tag_of(service: Option<&Service>) -> u32
-    ensures { result ≡ tag_of (option_copied service.entry) }
+    ensures { result ≡ tag_in (option_copied service.entry) }
 {
     match service {
         Some(row) => row.config.tag,
@@ -44,7 +44,7 @@ impl Tables {
     /// The greatest tag of some services, or 0.
     pub(crate) fn greatest_tag(&self, numbers: &[u64]) -> u32
         ensures { result ≡ fold (λ greatest number. max greatest
-            (tag_of (service_of self.now.flat number))) 0 numbers.now }
+            (tag_in (service_of self.now.flat number))) 0 numbers.now }
     {
         numbers.iter().fold(0, |greatest, number| {
             greatest.max(tag_of(self.service(*number)))

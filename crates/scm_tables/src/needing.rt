@@ -1,5 +1,5 @@
 ghost use Rattle.std.specs.Prelude.{◌≡◌, ◌+◌, ◌<◌, ◌^◌, AllPairs, IfOk, IsTrue, OnErr, OnOk, Some};
-ghost use Rattle.dependency_index.specs.Indexed.{spare_of};
+ghost use Rattle.dependency_index.specs.Indexed.{as_spare};
 ghost use Rattle.dependency_index.specs.Needs.{new_need_row};
 ghost use Rattle.record_table.specs.Recorded.{spare_of as texts_of};
 ghost use Rattle.scm_model.specs.Needs.{needs_of, with_row};
@@ -60,7 +60,7 @@ pub fn reserve_both(
     ensures needs { index.new.rows ≡ index.old.rows }
     ensures services { services.new.services ≡ services.old.services }
     ensures index { OnOk result (index.new.spare
-        ≡ Some (spare_of config.now.name config.now.group config.now.needs)) }
+        ≡ Some (as_spare config.now.name config.now.group config.now.needs)) }
     ensures texts { OnOk result (services.new.spare ≡ Some (texts_of config.now)) }
     ensures err { OnErr result ((index.new.spare ≡ index.old.spare)
         × (services.new.spare ≡ services.old.spare)) }
@@ -76,7 +76,7 @@ pub fn reserve_both(
 
 /// A service that is there gets the needs of this configuration.
 pub fn change_needs(index: &mut DependencyIndex, number: u64, config: &Config)
-    requires { index.old.spare ≡ Some (spare_of config.now.name config.now.group config.now.needs) }
+    requires { index.old.spare ≡ Some (as_spare config.now.name config.now.group config.now.needs) }
     ensures { index.new.rows ≡ changed_needs index.old.rows number config.now }
 {
     if index.is_listed(number) {

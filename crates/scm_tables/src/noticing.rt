@@ -172,7 +172,7 @@ pub fn note_leaving(queue: &mut NotifyQueue, service: Option<&Service>)
     }
 }
 
-/// Adds a registration, which is told of the state of the service where its mask has it.
+/// Adds a registration, and notifies it of the state of the service if its mask has that.
 pub fn register_in(
     queue: &mut NotifyQueue,
     present: Option<&Service>,

@@ -31,7 +31,7 @@ pub fn new_status(kind: u32) -> Status
 }
 
 /// A service that has no process.
-pub fn new_service(number: u64, config: Config, status: Status) -> Service
+pub fn new_service(alloc: Global, number: u64, config: Config, status: Status) -> Service
     ensures { result ≡ new_service number config status }
 {
     Service {
@@ -42,15 +42,17 @@ pub fn new_service(number: u64, config: Config, status: Status) -> Service
         process: 0,
         failures: 0,
         last_failure: 0,
+        asked: false,
+        security: Items::new(alloc),
     }
 }
 
 /// A service that never ran.
-fn never_run(number: u64, config: Config) -> Service
+fn never_run(alloc: Global, number: u64, config: Config) -> Service
     ensures { result ≡ new_service number config (new_status config.kind) }
 {
     let status = new_status(config.kind);
-    new_service(number, config, status)
+    new_service(alloc, number, config, status)
 }
 
 /// A service for each configuration, in order, with numbers from 1 on.
@@ -60,7 +62,7 @@ pub fn services_of(alloc: Global, configs: Items<Config>) -> Result<Vec<Service>
     let mut rows = Vec::new(alloc);
     for config in configs.into_vec() {
         let number = rows.len() as u64 + 1;
-        if rows.push(never_run(number, config)).is_err() {
+        if rows.push(never_run(alloc, number, config)).is_err() {
             return Err(OutOfMemory);
         }
     }

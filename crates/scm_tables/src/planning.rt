@@ -40,7 +40,7 @@ impl Tables {
         self.processes.is_any_wanted()
     }
 
-    /// Whether the launch of a process is taken in hand.
+    /// Whether the launch of a process is taken.
     pub fn is_taken(&self, process: u64) -> bool
         ensures { result ≡ is_taken (process_of self.now.flat process) }
     {
@@ -54,7 +54,7 @@ impl Tables {
         self.processes.service_of(process)
     }
 
-    /// The launch of a process is taken in hand.
+    /// The launch of a process is taken.
     pub fn take_launch(&mut self, process: u64)
         ensures flat { self.new.flat ≡ with_taken self.old.flat process }
         ensures limits { self.new.limits ≡ self.old.limits }

@@ -8,12 +8,12 @@ ghost use Rattle.scm_rules.specs.Launches.{first_wanted, launched_if, taken_if};
 ghost use Rattle.scm_rules.specs.Owed.{owed_in_phase};
 ghost use Rattle.scm_rules.specs.Steps.{wants_launch as is_any_wanted};
 ghost use Rattle.scm_tables.specs.Listed.{is_wanted_row, listed_as, processes_in, wanted_in};
-ghost use Rattle.scm_tables.specs.Listed.{without_words, words_in};
+ghost use Rattle.scm_tables.specs.Listed.{without_words, next_words};
 ghost use Rattle.scm_tables.specs.Processed.{owed_in};
 
 use super::lines::Line;
 use control_dispatch::Controls;
-use scm_model::Phase;
+use scm_model::{Order, Phase};
 use scm_text::{Items, WText};
 use std::alloc::Global;
 
@@ -23,10 +23,12 @@ pub struct ProcessRow {
     pub number: u64,
     /// 0 for a command.
     pub service: u64,
+    /// Whether other services may live in it too.
+    pub shared: bool,
     pub phase: Phase,
     /// The system's number of it, or 0.
     pub pid: u32,
-    /// The controls that wait.
+    /// The orders that wait.
     pub controls: Controls,
     pub line: Line,
 }
@@ -63,14 +65,14 @@ pub fn owed_in_phase(phase: Phase) -> u128
     }
 }
 
-/// The launch of a process is taken in hand.
+/// The launch of a process is taken.
 fn take_row(row: &mut ProcessRow)
     ensures { row.new ≡ record row.old { phase = phases.Taken } }
 {
     row.phase = Phase::Taken;
 }
 
-/// The launch of a process is taken in hand. Gives what all owe then, who owed so much before.
+/// The launch of a process is taken. Returns what all owe then, if they owed so much before.
 pub fn take_in(rows: &mut Vec<ProcessRow>, number: u64, owed: u128) -> u128
     requires rising { AllPairs (λ a b. a.number < b.number) rows.old.items }
     requires owed { owed ≡ owed_in rows.old.items }
@@ -131,37 +133,38 @@ pub fn drop_process(rows: &mut Vec<ProcessRow>, number: u64, owed: u128) -> u128
     }
 }
 
-/// A control more waits for a process, as long as fewer do than may.
-fn control_row(row: &mut ProcessRow, limit: u32, code: u32)
+/// An order more waits for a process, as long as fewer do than may.
+fn control_row(row: &mut ProcessRow, limit: u32, order: Order)
     requires { limit ≤ 16 }
     ensures { row.new ≡ (if nat_lt (length row.old.controls) limit
-        then record row.old { controls = row.old.controls ++ code ∷ [] } else row.old) }
+        then record row.old { controls = row.old.controls ++ order ∷ [] } else row.old) }
 {
     if row.controls.len() < limit {
-        row.controls.enqueue(code);
+        row.controls.enqueue(order);
     }
 }
 
-/// A control more waits for a process, as long as fewer do than may.
-pub fn control_in(rows: &mut Vec<ProcessRow>, limit: u32, number: u64, code: u32)
+/// An order more waits for a process, as long as fewer do than may.
+pub fn control_in(rows: &mut Vec<ProcessRow>, limit: u32, number: u64, order: Order)
     requires limit { limit ≤ 16 }
     requires rising { AllPairs (λ a b. a.number < b.number) rows.old.items }
-    ensures rows { rows.new.items ≡ map (listed_as (controlled_if limit number code)) rows.old.items }
+    ensures rows { rows.new.items ≡ map (listed_as (controlled_if limit number order))
+        rows.old.items }
     ensures capacity { vec_capacity rows.new ≡ vec_capacity rows.old }
 {
     if let Some(place) = place_of(rows.as_slice(), number) {
-        control_row(&mut rows[place], limit, code);
+        control_row(&mut rows[place], limit, order);
     }
 }
 
-/// The control that waits first for a process waits no longer.
+/// The order that waits first for a process waits no longer.
 fn relieve_row(row: &mut ProcessRow)
     ensures { row.new ≡ record row.old { controls = drop 1 row.old.controls } }
 {
-    let _code = row.controls.take_next();
+    let _order = row.controls.take_next();
 }
 
-/// The control that waits first for a process waits no longer.
+/// The order that waits first for a process waits no longer.
 pub fn relieve_in(rows: &mut Vec<ProcessRow>, number: u64)
     requires { AllPairs (λ a b. a.number < b.number) rows.old.items }
     ensures rows { rows.new.items ≡ map (listed_as (dequeued_if number)) rows.old.items }
@@ -213,7 +216,7 @@ fn place_of_wanted(rows: &[ProcessRow]) -> Option<usize>
 
 /// Takes the words of the launch that is wanted first out of its row. It takes no memory.
 pub fn take_words(rows: &mut Vec<ProcessRow>, alloc: Global) -> Items<WText>
-    ensures words { result ≡ words_in (wanted_in rows.old.items) }
+    ensures words { result ≡ next_words (wanted_in rows.old.items) }
     ensures wanted { wanted_in rows.new.items ≡ without_words (wanted_in rows.old.items) }
     ensures processes { processes_in rows.new.items ≡ processes_in rows.old.items }
     ensures capacity { vec_capacity rows.new ≡ vec_capacity rows.old }

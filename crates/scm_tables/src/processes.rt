@@ -7,8 +7,9 @@ ghost use Rattle.scm_rules.specs.Launches.{taken_if};
 ghost use Rattle.scm_rules.specs.Owed.{owed_by_process};
 ghost use Rattle.scm_rules.specs.Steps.{wants_launch};
 ghost use Rattle.start_plan.specs.Owed.{total};
-ghost use Rattle.scm_tables.specs.Listed.{process_shown, wanted_of, without_words, words_in};
-ghost use Rattle.scm_tables.specs.Processed.{with_changed, with_listed, without_launch, without_one};
+ghost use Rattle.scm_tables.specs.Listed.{process_shown, wanted_of, without_words, next_words};
+ghost use Rattle.scm_tables.specs.Processed.{with_changed, with_listed, without_launch};
+ghost use Rattle.scm_tables.specs.Processed.{without_one};
 
 use super::lines::Line;
 use super::process_rows::{
@@ -16,7 +17,7 @@ use super::process_rows::{
     process_with, relieve_in, take_in, take_words, wanted_first,
 };
 use control_dispatch::Controls;
-use scm_model::Phase;
+use scm_model::{Order, Phase};
 use scm_text::{Items, OutOfMemory, WText};
 use std::alloc::Global;
 use std::marker::Model;
@@ -110,7 +111,7 @@ impl Processes {
         }
     }
 
-    /// Whether a process is listed and its launch is taken in hand.
+    /// Whether a process is listed and its launch is taken.
     pub fn is_taken(&self, number: u64) -> bool
         ensures { result ≡ is_taken (find (λ row. row.number == number) self.now.processes) }
     {
@@ -130,7 +131,7 @@ impl Processes {
         }
     }
 
-    /// How many controls wait for a process; none where it isn't listed.
+    /// How many orders wait for a process; none where it isn't listed.
     pub fn waiting(&self, number: u64) -> Option<u32>
         ensures { result ≡ option_map (λ row. length row.controls)
             (find (λ row. row.number == number) self.now.processes) }
@@ -141,8 +142,8 @@ impl Processes {
         }
     }
 
-    /// The control that waits first for a process.
-    pub fn first_control(&self, number: u64) -> Option<u32>
+    /// The order that waits first for a process.
+    pub fn first_control(&self, number: u64) -> Option<Order>
         ensures { result ≡ first_control (controls_in
             (find (λ row. row.number == number) self.now.processes)) }
     {
@@ -182,6 +183,7 @@ impl Processes {
         self.rows.push_reserved(ProcessRow {
             number: self.next,
             service,
+            shared: false,
             phase: Phase::Wanted,
             pid: 0,
             controls: Controls::new(),
@@ -191,7 +193,7 @@ impl Processes {
         self.owed += owed_in_phase(Phase::Wanted);
     }
 
-    /// The launch of a process is taken in hand.
+    /// The launch of a process is taken.
     pub fn take(&mut self, number: u64)
         ensures { self.new ≡ without_launch number (taken_if number) self.old }
     {
@@ -212,15 +214,15 @@ impl Processes {
         self.owed = drop_process(&mut self.rows, number, self.owed);
     }
 
-    /// A control more waits for a process, as long as fewer do than may. It takes no memory.
-    pub fn control(&mut self, limit: u32, number: u64, code: u32)
+    /// An order more waits for a process, as long as fewer do than may. It takes no memory.
+    pub fn control(&mut self, limit: u32, number: u64, order: Order)
         requires { limit ≤ 16 }
-        ensures { self.new ≡ with_changed (controlled_if limit number code) self.old }
+        ensures { self.new ≡ with_changed (controlled_if limit number order) self.old }
     {
-        control_in(&mut self.rows, limit, number, code);
+        control_in(&mut self.rows, limit, number, order);
     }
 
-    /// The control that waits first for a process waits no longer.
+    /// The order that waits first for a process waits no longer.
     pub fn dequeue_control(&mut self, number: u64)
         ensures { self.new ≡ with_changed (dequeued_if number) self.old }
     {
@@ -229,7 +231,7 @@ impl Processes {
 
     /// Takes the words of the launch that is wanted first. It takes no memory.
     pub fn take_words(&mut self, alloc: Global) -> Items<WText>
-        ensures words { result ≡ words_in self.old.wanted }
+        ensures words { result ≡ next_words self.old.wanted }
         ensures left { self.new ≡ record self.old { wanted = without_words self.old.wanted } }
     {
         take_words(&mut self.rows, alloc)

@@ -34,8 +34,8 @@ impl Tables {
     }
 
     /// Registers a caller for events of a service, or of the manager as 0, and answers the number.
-    /// The service that the handle is of may be in one of the states already, which is told at
-    /// once. It takes no memory.
+    /// The service that the handle is of may be in one of the states already; then the
+    /// registration is notified at once. It takes no memory.
     pub fn add_registration(&mut self, caller: u64, handle: u64, service: u64, mask: u32) -> u64
         requires room { 1 ≤ self.old.spare.registrations }
         requires next { self.old.flat.next.registration < 2 ^ 63 }

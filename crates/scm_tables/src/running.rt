@@ -6,7 +6,7 @@ ghost use Rattle.scm_rules.specs.Launches.{current_of, is_launched, process_of};
 
 use super::service_rows::current_in;
 use super::tables::Tables;
-use scm_model::{Service, Status, zero_status};
+use scm_model::{Order, Service, Status, zero_status};
 
 /// The status of a service, or zeros where there is none.
 pub fn status_in(service: Option<&Service>) -> Status
@@ -46,31 +46,31 @@ impl Tables {
         }
     }
 
-    /// How many controls wait for a process; none where it isn't listed.
+    /// How many orders wait for a process; none where it isn't listed.
     pub fn waiting(&self, process: u64) -> Option<u32>
         ensures { result ≡ waiting self.now.flat process }
     {
         self.processes.waiting(process)
     }
 
-    /// The control that waits first for a process.
-    pub fn first_control(&self, process: u64) -> Option<u32>
+    /// The order that waits first for a process.
+    pub fn first_control(&self, process: u64) -> Option<Order>
         ensures { result ≡ first_control (controls_of self.now.flat process) }
     {
         self.processes.first_control(process)
     }
 
-    /// A control more waits for a process, as long as fewer do than may. It takes no memory.
-    pub fn control(&mut self, process: u64, code: u32)
+    /// An order more waits for a process, as long as fewer do than may. It takes no memory.
+    pub fn control(&mut self, process: u64, order: Order)
         requires { self.old.limits.controls ≤ 16 }
-        ensures flat { self.new.flat ≡ with_control self.old.limits self.old.flat process code }
+        ensures flat { self.new.flat ≡ with_control self.old.limits self.old.flat process order }
         ensures limits { self.new.limits ≡ self.old.limits }
         ensures spare { self.new.spare ≡ self.old.spare }
     {
-        self.processes.control(self.limits.controls, process, code);
+        self.processes.control(self.limits.controls, process, order);
     }
 
-    /// The control that waits first for a process waits no longer.
+    /// The order that waits first for a process waits no longer.
     pub fn take_control(&mut self, process: u64)
         ensures flat { self.new.flat ≡ with_control_taken self.old.flat process }
         ensures limits { self.new.limits ≡ self.old.limits }

@@ -1,7 +1,7 @@
 ghost use Rattle.std.specs.Prelude.{◌≡◌, ◌+◌, ◌^◌, ◌<◌, ◌≤◌, ◌==◌, filter, IfOk, OnOk, length};
 ghost use Rattle.std.specs.Prelude.{option_copied, slice_get, All, IsFalse, IsTrue, OnErr, []};
 ghost use Rattle.scm_model.specs.Changes.{with_handle, without_handle, without_handles_of};
-ghost use Rattle.scm_model.specs.Changes.{with_caller, without_caller, with_config, with_moment};
+ghost use Rattle.scm_model.specs.Changes.{with_caller, without_caller, reconfigured, with_moment};
 ghost use Rattle.scm_model.specs.Changes.{without_lock_of};
 ghost use Rattle.scm_model.specs.Purge.{purged};
 ghost use Rattle.scm_model.specs.Rows.{caller_of, displayed, handle_of, held_by, held_service};
@@ -142,7 +142,7 @@ impl Model for Tables {
     ghost invariant = { IsKept };
 }
 
-/// The numbers that are given first, behind those of so many services.
+/// The numbers that are given first, after those of so many services.
 fn first_numbers(services: u64) -> Numbers
     requires { services < 2 ^ 63 }
     ensures { all_numbers result 1 1 1 ≡ record (empty_at 0).next { service = services + 1 } }
@@ -436,7 +436,7 @@ impl Tables {
         drop_caller_row(&mut self.callers, number);
     }
 
-    /// Moves on to a moment, which may lie behind.
+    /// Moves on to a moment. One in the past changes nothing.
     pub fn move_to(&mut self, moment: u64)
         ensures flat { self.new.flat ≡ with_moment self.old.flat moment }
         ensures spare { self.new.spare ≡ self.old.spare }
@@ -549,8 +549,8 @@ impl Tables {
         reserve_both(&mut self.index, &mut self.services, self.alloc, config)
     }
 
-    /// Adds a service, and answers its number; the manager's registrations are told. It takes no
-    /// memory.
+    /// Adds a service, and answers its number; the manager's registrations are notified. It takes
+    /// no memory.
     pub fn add_service(&mut self, config: Config, status: Status) -> u64
         requires room { 1 ≤ self.old.spare.services }
         requires next { self.old.flat.next.service < 2 ^ 63 }
@@ -565,7 +565,7 @@ impl Tables {
         self.put_service(config, status)
     }
 
-    /// Adds a service, of which nobody is told, and answers its number.
+    /// Adds a service without notifying any registration, and answers its number.
     fn put_service(&mut self, config: Config, status: Status) -> u64
         requires room { 1 ≤ self.old.spare.services }
         requires next { self.old.flat.next.service < 2 ^ 63 }
@@ -586,6 +586,7 @@ impl Tables {
         );
         self.index
             .set_needs(number, &config.name, &config.group, &config.needs);
+        let security = Items::new(self.alloc);
         self.services.insert(Service {
             number,
             config,
@@ -594,6 +595,8 @@ impl Tables {
             process: 0,
             failures: 0,
             last_failure: 0,
+            asked: false,
+            security,
         });
         self.next.service += 1;
         number
@@ -603,7 +606,7 @@ impl Tables {
     pub fn configure(&mut self, number: u64, config: Config)
         requires texts { HasShortTexts config }
         requires needs { HasNeedRoom self.old.spare config }
-        ensures flat { self.new.flat ≡ with_config self.old.flat number config }
+        ensures flat { self.new.flat ≡ reconfigured self.old.flat number config }
         ensures limits { self.new.limits ≡ self.old.limits }
     {
         self.acyclic = stays_acyclic(
@@ -617,7 +620,7 @@ impl Tables {
         configure_in(&mut self.services, number, config);
     }
 
-    /// Marks a service, if it is there; its registrations are told.
+    /// Marks a service, if it is there; its registrations are notified.
     pub fn mark(&mut self, service: u64)
         ensures flat { self.new.flat ≡ with_marked self.old.flat service }
         ensures limits { self.new.limits ≡ self.old.limits }
@@ -632,7 +635,7 @@ impl Tables {
     }
 
     /// Lets the first service go that is marked, STOPPED and named by no handle; the manager's
-    /// registrations are told. False where there is none.
+    /// registrations are notified. False if there is none.
     fn let_one_go(&mut self) -> bool
         ensures rest { purged self.new.flat ≡ purged self.old.flat }
         ensures none { IsFalse result → self.new.flat ≡ purged self.old.flat }
@@ -654,7 +657,7 @@ impl Tables {
     }
 
     /// Lets each service go that is marked, STOPPED and named by no handle; the manager's
-    /// registrations are told. It looks at marked services alone.
+    /// registrations are notified. It looks at marked services alone.
     pub fn purge(&mut self)
         ensures flat { self.new.flat ≡ purged self.old.flat }
         ensures limits { self.new.limits ≡ self.old.limits }

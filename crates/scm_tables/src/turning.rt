@@ -2,7 +2,7 @@ ghost use Rattle.std.specs.Prelude.{◌≡◌};
 ghost use Rattle.std.proofs.Common.{refl};
 ghost use Rattle.scm_rules.specs.Launches.{fallen_if};
 ghost use Rattle.scm_rules.specs.Reports.{reported_if};
-ghost use Rattle.scm_tables.specs.Turned.{counted, marked, running_as, started, typed};
+ghost use Rattle.scm_tables.specs.Turned.{failure_counted, marked, running_as, started, typed};
 
 use failure_actions::on_failure;
 use row_slab::Change;
@@ -134,7 +134,7 @@ pub struct Count {
 }
 
 impl Change<Service> for Count {
-    ghost changed = { λ change. counted change.moment };
+    ghost changed = { λ change. failure_counted change.moment };
 
     ghost keeps = { λ change row. refl };
 

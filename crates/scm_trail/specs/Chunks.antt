@@ -25,7 +25,7 @@ pub record IsKept (chunks : List Chunk) (len room text text_room : ℕ) : Type 0
   pub counted : text ≡ text_in (all_entries chunks)
   pub text_fits : text + text_room < 2 ^ 64
 
--- empty chunks stand behind those that were there
+-- empty chunks stand after those that were there
 pub record AddsChunks (old new : List Chunk) : Type 0 where
   pub same : all_entries new ≡ all_entries old
   pub filled : (count : ℕ) → count ≤ 4096 * length old → AreFilled old count → AreFilled new count

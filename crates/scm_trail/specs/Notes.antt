@@ -39,6 +39,6 @@ step_by (writes.Whole step) = step.value
 -- a step that takes no memory to write, whatever it holds
 abbrev pub is_brief : Step → Bool
 is_brief (steps.Call caller asked append) = false
-is_brief (steps.Report process status) = false
+is_brief (steps.Report process service status) = false
 is_brief (steps.Raised caller subtype) = false
 is_brief step = true

@@ -1,7 +1,7 @@
 use Rattle.std.specs.Prelude.{ℕ, List}
 use Rattle.scm_model.specs.Entries.{Entry}
 
--- the entries of a history, and what finds room behind them
+-- the entries of a history, and what there is room for after them
 pub record Trailed : Type 0 where
   pub entries : List Entry
   pub room : ℕ  -- how many entries more

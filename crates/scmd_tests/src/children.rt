@@ -1,5 +1,5 @@
-//! Children that obey: each says that it is RUNNING, and once it is told to stop that it is
-//! STOPPED. One ends at once and says nothing.
+//! Children that obey: each reports that it is RUNNING, and once it got the control to stop that it
+//! is STOPPED. One ends at once and reports nothing.
 use crate::sc_rows::{CHILDREN, Child, STOP};
 use child_link::{Feed, Link};
 use outside::{Failed, Sink, SliceSource, Source};

@@ -1,6 +1,6 @@
-//! What is asked and what is told. After `=` stand the status at the end, the words of the run and
-//! the matter. A row has what it shows, the question and the answer; a word alone stands for the
-//! rows of that name. All were written from the formats, and none by this program.
+//! What is asked and what is answered. After `=` stand the status at the end, the arguments of the
+//! run and the matter. A row has what it shows, the question and the answer; a word alone stands
+//! for the rows of that name. All were written from the formats, and none by this program.
 //!
 //! A question is the name of a call and the items of its body, an answer the items of the reply's.
 //! `pdu` begins a PDU by its kind, its flags and its call id, with its items after them, `hex` one
@@ -17,29 +17,29 @@
 //! are the items, with the names of `svcctl_words`. Their order is that of MS-SCMR:
 //!
 //! - `create`: manager, name, display name, rights, type, start, error, path, group, tag, needs and
-//!   their size, account, password and its size; it is told a tag, a handle, a code
+//!   their size, account, password and its size; it returns a tag, a handle, a code
 //! - `change`: service, type, start, error, path, group, tag, needs and their size, account,
-//!   password and its size, display name; it is told a tag, a code
-//! - `config`: service, size; it is told type, start, error, pointers to path and group, tag,
+//!   password and its size, display name; it returns a tag, a code
+//! - `config`: service, size; it returns type, start, error, pointers to path and group, tag,
 //!   pointers to needs, account and display name, these five texts, the size that is needed, a code
-//! - `status`, `control`: service, and the control; they are told type, state, accepted controls,
+//! - `status`, `control`: service, and the control; they return type, state, accepted controls,
 //!   exit code, the service's own, checkpoint, wait hint, a code
-//! - `locked`: manager, size; it is told whether, the owner, how long, the size needed, a code
-//! - `manager`: machine, database, rights. `open`: manager, name, rights. Both are told a handle
-//!   and a code
-//! - `display`, `key`: manager, name, size; they are told the other name, its size, a code
-//! - `start`: service, count of words, words; it is told a code, as are `delete` and `set`
-//! - `services`: manager, types, states, size, and where it begins; it is told a count of bytes and
+//! - `locked`: manager, size; it returns whether, the owner, how long, the size needed, a code
+//! - `manager`: machine, database, rights. `open`: manager, name, rights. Both return a handle and
+//!   a code
+//! - `display`, `key`: manager, name, size; they return the other name, its size, a code
+//! - `start`: service, count of words, words; it returns a code, as do `delete` and `set`
+//! - `services`: manager, types, states, size, and where it begins; it returns a count of bytes and
 //!   the bytes, the size that is needed, how many services these are, where the next page begins, a
-//!   code. `dependents`: service, states, size; it is told the same without the beginning. In the
+//!   code. `dependents`: service, states, size; it returns the same without the beginning. In the
 //!   bytes a service is where its name and its display name stand, and its status
-//! - `process`: service, level, size; it is told a count of bytes and the bytes, the size that is
+//! - `process`: service, level, size; it returns a count of bytes and the bytes, the size that is
 //!   needed, a code. The bytes are a status, the system's number of the process, and flags
-//! - `level`: service, level, the same again, a pointer and what it leads to; it is told a code.
-//!   `leveled`: service, level, size; it is told a count of bytes and the bytes, the size that is
+//! - `level`: service, level, the same again, a pointer and what it leads to; it returns a code.
+//!   `leveled`: service, level, size; it returns a count of bytes and the bytes, the size that is
 //!   needed, a code. The bytes are laid out as `service_listing` says of each level
-//! - `watch`: manager or service, events; it is told a handle and a code. `event`: this handle; it
-//!   is told the event, a status as in `process`, a name, a code
+//! - `watch`: manager or service, events; it returns a handle and a code. `event`: this handle; it
+//!   returns the event, a status as in `process`, a name, a code
 
 use svcctl_words::Table;
 

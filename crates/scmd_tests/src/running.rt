@@ -19,7 +19,7 @@ pub fn put_words(alloc: Global, all: &mut Vec<Text>, words: &str, between: char)
     Some(())
 }
 
-/// Who comes to a listener, and which of its calls fail, the last one first.
+/// The peers that connect to a listener, and which of its calls fail, the last one first.
 #[derive(Drop)]
 pub struct Coming {
     pub peers: VecDeque<MemoryPeer>,

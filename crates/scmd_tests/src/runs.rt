@@ -59,7 +59,7 @@ pub const PIPE: Run<'static> = Run {
     kept: None,
 };
 
-/// Lets come whoever is to come to a listener.
+/// Adds the peer that is to connect to a listener, if any.
 fn let_come(alloc: Global, coming: &mut Coming, port: Port) -> Option<()> {
     let Port::Comes { fails, .. } = port else {
         return Some(());
@@ -90,7 +90,7 @@ fn prepare(alloc: Global, sheet: &mut Sheet, run: &Run, outside: &mut Outside) -
     let_come(alloc, &mut outside.user, run.user)
 }
 
-/// Whether no more was written than what all that was asked is told.
+/// Whether no more was written than the answers to all that was asked.
 fn is_no_more(sheet: &mut Sheet, run: &Run, written: &[u8]) -> bool {
     sheet.put(run.words, run.asked, Side::Tells).is_some() && sheet.bytes().starts_with(written)
 }

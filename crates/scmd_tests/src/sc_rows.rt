@@ -17,8 +17,8 @@ impl Row {
     }
 }
 
-/// A journal of services that start by themselves: X without a group, Y with the second tag of G1, Z
-/// with its first, and V with the first tag of G2.
+/// A journal of services that start by themselves: X without a group, Y with the second tag of G1,
+/// Z with its first, and V with the first tag of G2.
 pub const JOURNAL: &[u8] = &[
     0x53, 0x43, 0x4d, 0x4a, 1, 0, 0, 0, 1, 0x45, 0, 0, 0, 1, 0, 0, 0, 0x58, 0, 1, 0, 0, 0, 0x58, 0,
     0x10, 0, 0, 0, 2, 0, 0, 0, 1, 0, 0, 0, 6, 0, 0, 0, 0x2f, 0, 0x73, 0, 0x72, 0, 0x76, 0, 0x2f, 0,
@@ -93,7 +93,7 @@ pub const CHILDREN: &[Child] = &[
     },
 ];
 
-/// How a child is told to stop.
+/// The line that a child gets to stop.
 pub const STOP: &[u8] = b"CONTROL 1\n";
 
 const LAST_RUNNING: &str = "SERVICE_NAME: X\nTYPE: 16\nSTATE: 4 RUNNING\nACCEPTED: 1\n\

@@ -1,4 +1,4 @@
-//! Whole talks with the program: what is asked stands beside what is told, in the tables of `rows`.
+//! Whole talks with the program: the requests stand beside their answers, in the tables of `rows`.
 use crate::rows::*;
 use crate::runs::{PIPE, Run, holds};
 use std::alloc::Global;

@@ -19,7 +19,7 @@ use Rattle.rpc_session.specs.Items.{StreamEnd, AtRest, Unfinished, BadPdu, TooLo
 use Rattle.conn_desk.specs.Connection.{IsServedFor}
 use Rattle.conn_desk.specs.declared.served.Served.{Served}
 use Rattle.conn_desk.specs.declared.served.Served.TheVariants as served
-use Rattle.conn_worker.specs.Complete.{IsComplete as EndsAsItsInput, EndsAs as EndsSo, FindsRoom, IsOrLacks as IsDue, end_of}
+use Rattle.conn_worker.specs.Complete.{IsComplete as EndsAsItsInput, EndsAs as EndsSo, FindsRoom, EndsOrLacks as IsDue, end_as}
 use Rattle.scm_pipe.specs.declared.alone.Piped.{Piped}
 use Rattle.scm_pipe.specs.Piping.{HasRoomForAll, IsEnd, IsKept, IsUnjoined, begun_with}
 use Rattle.scm_restored.specs.declared.Opened.{Opened}
@@ -69,6 +69,20 @@ module _ {K : Type 0} (told : K → Option (List ℕ)) (faulted : K → ℕ) whe
 
   -- ## The connection
 
+  -- nobody joined
+  not_come : (path : Bool) (moment : ℕ) (o : Opened) (a b : Side) (keeper mid : K) (end : Piped K)
+      (h : HasOpened path [] (side told faulted keeper mid) moment o) → end.how ≡ served.OutOfMemory → a.told_now ≡ a.told
+      → b.told_now ≡ b.told → KeepsJournal h.replay.kept [] 0 (side told faulted keeper end.keeper)
+      → HasNotJoined path end.how (record { input = a; output = b; keeper = side told faulted keeper end.keeper })
+  not_come path moment o a b keeper mid end h lacks unread unwritten kept = record {
+    replay = h.replay;
+    stood = openable path [] (side told faulted keeper mid) moment o h;
+    how_is = lacks;
+    unread = unread;
+    unwritten = unwritten;
+    kept = kept;
+  }
+
   came : (tells : ℕ → Type 0) (path : Bool) (principal : Principal) (moment : ℕ) (o : Opened) (a b : Side) (keeper mid : K) (end : Piped K)
       → tells moment → (h : HasOpened path [] (side told faulted keeper mid) moment o)
       → IsEnd told faulted tells principal program_limits (program_opening [] h.replay.configs moment) a.told a.told_now b.told b.told_now
@@ -88,24 +102,14 @@ module _ {K : Type 0} (told : K → Option (List ℕ)) (faulted : K → ℕ) whe
         (keeps h.replay.kept program_limits (program_opening [] h.replay.configs moment) j.history keeper mid end.keeper h.cut h.faults
         j.kept);
   })
-  came tells path principal moment o a b keeper mid end at h (inl (inr u)) = inr (record {
-    replay = h.replay;
-    stood = openable path [] (side told faulted keeper mid) moment o h;
-    how_is = u.0.lacks;
-    unread = u.0.unread;
-    unwritten = u.0.unwritten;
-    kept = subst (λ (changes : List Change). KeepsJournal h.replay.kept changes 0 (side told faulted keeper end.keeper))
-        (law_of_kept program_limits (program_opening [] h.replay.configs moment)).none
-        (keeps h.replay.kept program_limits (program_opening [] h.replay.configs moment) [] keeper mid end.keeper h.cut h.faults u.1);
-  })
-  came tells path principal moment o a b keeper mid end at h (inr u) = inr (record {
-    replay = h.replay;
-    stood = openable path [] (side told faulted keeper mid) moment o h;
-    how_is = u.0.lacks;
-    unread = u.0.unread;
-    unwritten = u.0.unwritten;
-    kept = rests h.replay.kept o.journal keeper mid end.keeper h.cut h.faults h.bears u.1;
-  })
+  came tells path principal moment o a b keeper mid end at h (inl (inr u)) =
+      inr (not_come path moment o a b keeper mid end h u.0.lacks u.0.unread u.0.unwritten
+      (subst (λ (changes : List Change). KeepsJournal h.replay.kept changes 0 (side told faulted keeper end.keeper))
+      (law_of_kept program_limits (program_opening [] h.replay.configs moment)).none
+      (keeps h.replay.kept program_limits (program_opening [] h.replay.configs moment) [] keeper mid end.keeper h.cut h.faults u.1)))
+  came tells path principal moment o a b keeper mid end at h (inr u) =
+      inr (not_come path moment o a b keeper mid end h u.0.lacks u.0.unread u.0.unwritten
+      (rests h.replay.kept o.journal keeper mid end.keeper h.cut h.faults h.bears u.1))
 
   pub come : (tells : ℕ → Type 0) (path : Bool) (principal : Principal) (moment : ℕ) (o : Opened) (a b : Side) (keeper mid : K)
       (end : Piped K)
@@ -132,7 +136,7 @@ room_always path principal moment o keeper (Some bytes) how h finds =
     (subst (λ (f : Flat). HasRoomForAll principal program_limits f bytes) (sym h.new.flat)
     (always moment h.replay (openable path [] keeper moment o h))))
 
-status_end : (ending : StreamEnd) → status_of (end_of ending) ≡ pipe_status ending
+status_end : (ending : StreamEnd) → status_of (end_as ending) ≡ pipe_status ending
 status_end AtRest = refl
 status_end Unfinished = refl
 status_end (BadPdu place _) = refl
@@ -145,7 +149,7 @@ due path keeper by how status e (inr is) = inl (inr (ap status_of is))
 
 ends_so : (path : Bool) (keeper : Side) (bytes : List ℕ) (how : Served) → EndsSo bytes how → EndsAs path keeper bytes (status_of how)
 ends_so path keeper bytes how h = record {
-  whole = λ small. due path keeper (end_of (items bytes).ending) how (pipe_status (items bytes).ending) (status_end (items bytes).ending)
+  whole = λ small. due path keeper (end_as (items bytes).ending) how (pipe_status (items bytes).ending) (status_end (items bytes).ending)
       (h.whole small);
   worn = λ front begins long goes_on. due path keeper served.Worn how 12 refl (h.worn front begins long goes_on);
 }

@@ -14,7 +14,7 @@ use Rattle.scmd_top.specs.Pipe.{status_of}
 use Rattle.scmd_top.proofs.Openings.{not_of_fault}
 use Rattle.scm_serving.specs.declared.serving.BookEnd.{BookEnd}
 use Rattle.scm_serving.specs.declared.serving.BookEnd.TheVariants.{Ended, ListenFault, OutOfMemory}
-use Rattle.scmd_top.specs.Serving.{HasWritten}
+use Rattle.scmd_top.specs.Serving.{HasSummary}
 use Rattle.scmd_top.specs.Sides.{Ports, Side, Sides}
 
 not_of_pipe : (how : Served) → status_of how ≢ 5
@@ -45,7 +45,7 @@ not_of_generate printed.OutOfMemory = λ e. cc
 not_10 : (status : ℕ) → status ≡ 10 → status ≢ 5
 not_10 status is = λ e. cc
 
-not_of_serve : (end : BookEnd) (output : Side) (status : ℕ) → HasWritten end output status → status ≢ 5
+not_of_serve : (end : BookEnd) (output : Side) (status : ℕ) → HasSummary end output status → status ≢ 5
 not_of_serve (Ended text) output status (inl h) = λ e. absurd (cc (h.0, e))
 not_of_serve (Ended text) output status (inr h) = λ e. absurd (cc (h.0, e))
 not_of_serve OutOfMemory output status h = λ e. absurd (cc (h.0, e))

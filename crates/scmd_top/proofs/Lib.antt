@@ -1,5 +1,4 @@
 mod Ends
-mod Fronts
 mod Openings
 mod Again
 mod Replays

@@ -14,14 +14,14 @@ use Rattle.scm_kept.specs.Replayed.{unmarked}
 use Rattle.scm_kept.proofs.Opened.{of_opening}
 use Rattle.record_journal.specs.Bearing.{Bears}
 use Rattle.record_journal.specs.Keepers.{IsEmptied}
-use Rattle.record_journal.specs.Opening.{Answers, Leaves, LeavesAll}
+use Rattle.record_journal.specs.Opening.{Restores, LeavesAt, LeavesAll}
 use Rattle.record_journal.specs.declared.journal.Journal.{Journal}
 use Rattle.record_journal.specs.declared.opening.JournalFault.{JournalFault}
 use Rattle.record_journal.specs.declared.opening.JournalFault.TheVariants as faults
 use Rattle.record_journal.specs.declared.opening.Restored.{Restored}
 use Rattle.scm_restored.specs.Restored.{Comes, IsUnmoved, Manages}
 use Rattle.scm_restored.specs.declared.Opened.{Opened}
-use Rattle.scmd_top.specs.Opening.{FailsToOpen, HasOpened, IsCut, IsDamaged, IsLeft, IsNew, IsOpenable, IsUnopened, Opens}
+use Rattle.scmd_top.specs.Opening.{FailsToOpen, HasOpened, IsCut, IsDamaged, IsJournalLeft, IsNew, IsOpenable, IsUnopened, OpensJournal}
 use Rattle.scmd_top.specs.Opening.{program_opening, status_of_fault}
 use Rattle.scmd_top.specs.Sides.{Side}
 use Rattle.scmd_top.specs.Statuses.{program_limits}
@@ -65,7 +65,7 @@ begins_empty m groups moment new =
 
 pub opens_empty_at : (keeper : Side) (groups : List (List ℕ)) (moment : ℕ) (m : Managed) (j : Journal) → j ≡ empty_journal
     → IsEmptied keeper.told keeper.told_now → keeper.faults_now ≡ keeper.faults → IsNew groups [] moment m
-    → Opens false groups keeper moment (Ok (record { manager = m; journal = j }))
+    → OpensJournal false groups keeper moment (Ok (record { manager = m; journal = j }))
 opens_empty_at keeper groups moment m j is e same new = record {
   replay = record { configs = []; kept = 0 };
   read = refl;
@@ -83,7 +83,7 @@ cut_so None now r h = tt
 cut_so (Some bytes) None r h = absurd h
 cut_so (Some bytes) (Some now) r h = ap Some h
 
-left_cut : (old now : Option (List ℕ)) (r : Restored) → IfSome old (λ bytes. Answers bytes (Ok r)) → LeavesAll old now (Ok r)
+left_cut : (old now : Option (List ℕ)) (r : Restored) → IfSome old (λ bytes. Restores bytes (Ok r)) → LeavesAll old now (Ok r)
     → LeavesAll old now (Err faults.Failed)
 left_cut None now r a h = tt
 left_cut (Some bytes) None r a h = absurd h
@@ -100,8 +100,8 @@ keeps_so (Some bytes) None place h = absurd h
 keeps_so (Some bytes) (Some now) place h = h
 
 opened_so : (keeper : Side) (groups : List (List ℕ)) (moment : ℕ) (o : Opened) (restored : Result Restored JournalFault)
-    → IfSome keeper.told (λ bytes. Answers bytes restored)
-    → Leaves true keeper.told keeper.told_now restored → Manages program_limits groups moment restored (Ok o)
+    → IfSome keeper.told (λ bytes. Restores bytes restored)
+    → LeavesAt true keeper.told keeper.told_now restored → Manages program_limits groups moment restored (Ok o)
     → IsOpening program_limits o.manager.flat
     → IsUnmoved program_limits o.manager → Bears keeper.told_now o.journal keeper.told_now → keeper.faults_now ≡ keeper.faults
     → HasOpened true groups keeper moment o
@@ -116,7 +116,7 @@ opened_so keeper groups moment o (Ok r) a l m begins u b same = record {
   faults = same;
 }
 
-unopened_as : (keeper : Side) (fault : JournalFault) → IfSome keeper.told (λ bytes. Answers bytes (Err fault))
+unopened_as : (keeper : Side) (fault : JournalFault) → IfSome keeper.told (λ bytes. Restores bytes (Err fault))
     → LeavesAll keeper.told keeper.told_now (Err fault)
     → (fault ≡ faults.Failed → Rose keeper.faults keeper.faults_now) → IsUnopened true keeper fault
 unopened_as keeper faults.Failed a l c = (l, c refl)
@@ -124,8 +124,8 @@ unopened_as keeper faults.OutOfMemory a l c = left_so keeper.told keeper.told_no
 unopened_as keeper (faults.Damaged place) a l c = (a, keeps_so keeper.told keeper.told_now place l)
 
 unopened_so : (keeper : Side) (groups : List (List ℕ)) (moment : ℕ) (fault : JournalFault) (restored : Result Restored JournalFault)
-    → IfSome keeper.told (λ bytes. Answers bytes restored)
-    → Leaves true keeper.told keeper.told_now restored → Manages program_limits groups moment restored (Err fault)
+    → IfSome keeper.told (λ bytes. Restores bytes restored)
+    → LeavesAt true keeper.told keeper.told_now restored → Manages program_limits groups moment restored (Err fault)
     → (fault ≡ faults.Failed → Rose keeper.faults keeper.faults_now) → IsUnopened true keeper fault
 unopened_so keeper groups moment fault (Err told) a l m c =
     subst (IsUnopened true keeper) (sym m) (unopened_as keeper told a l (λ e. c (m ∙ e)))
@@ -138,7 +138,7 @@ pub opens_so : (keeper : Side) (groups : List (List ℕ)) (moment : ℕ) (result
     → IfOk result (λ o. IsOpening program_limits o.manager.flat) → IfOk result (λ o. IsUnmoved program_limits o.manager)
     → IfOk result (λ o. Bears keeper.told_now o.journal keeper.told_now)
     → (IsErrOf result faults.Failed → Rose keeper.faults keeper.faults_now)
-    → OnOk result (keeper.faults_now ≡ keeper.faults) → Opens true groups keeper moment result
+    → OnOk result (keeper.faults_now ≡ keeper.faults) → OpensJournal true groups keeper moment result
 opens_so keeper groups moment (Ok o) h begins u b c same = opened_so keeper groups moment o h.restored h.answer h.leaves h.manages begins u
     b same
 opens_so keeper groups moment (Err fault) h begins u b c same = unopened_so keeper groups moment fault h.restored h.answer h.leaves
@@ -174,13 +174,13 @@ left_untouched None = tt
 left_untouched (Some bytes) = inl refl
 
 pub untouched_so : (keeper : Side) (groups : List (List ℕ)) (moment : ℕ) → keeper.told_now ≡ keeper.told
-    → Opens true groups keeper moment (Err faults.OutOfMemory)
+    → OpensJournal true groups keeper moment (Err faults.OutOfMemory)
 untouched_so keeper groups moment same = subst (λ (now : Option (List ℕ)). LeavesAll keeper.told now (Err faults.Failed)) (sym same)
     (left_untouched keeper.told)
 
 -- ## A run without one
 
-damaged_so : (told : Option (List ℕ)) (place : ℕ) → IfSome told (λ bytes. Answers bytes (Err (faults.Damaged place))) → IsDamaged true told
+damaged_so : (told : Option (List ℕ)) (place : ℕ) → IfSome told (λ bytes. Restores bytes (Err (faults.Damaged place))) → IsDamaged true told
 damaged_so None place h = tt
 damaged_so (Some bytes) place h = (place, h)
 

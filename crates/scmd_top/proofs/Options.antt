@@ -7,7 +7,7 @@ use Rattle.std.specs.List.{after_first, before_first, position_or_len}
 use Rattle.std.specs.Option.{MatchOption}
 use Rattle.std.proofs.lemmas.Str.Pattern.{IsSplitOnceResult, split_once_first}
 use Rattle.scmd_top.specs.Parts.{IsParts}
-use Rattle.scmd_top.specs.Settings.{is_equals, named_value, settings_from}
+use Rattle.scmd_top.specs.Settings.{is_equals, named_value, options_from}
 use Rattle.scmd_top.specs.declared.settings.Settings.{Settings}
 
 not_below : (n : ℕ) → nat_lt n n ≡ false

@@ -11,7 +11,7 @@ use Rattle.record_journal.specs.declared.replaying.Replay.{Replay}
 use Rattle.scm_restored.specs.declared.Opened.{Opened}
 use Rattle.scm_replay.specs.Outcomes.{Standing, standing}
 use Rattle.scm_replay.specs.Replay.{TextEnd, AtRest, Unfinished, BadLine, EndsBad, Told as Text, IsOpenText as IsOpen, IsReplayed}
-use Rattle.scm_replay.specs.Replay.{IsReplayCaused, replayed}
+use Rattle.scm_replay.specs.Replay.{IsReplayCaused, replay_told}
 use Rattle.scm_replay.specs.declared.replayed.Replayed.{Replayed}
 use Rattle.scm_replay.specs.declared.replayed.Replayed.TheVariants as answered
 use Rattle.scmd_top.specs.Jobs.{EndsAsLines, EndsOver, HasAllReplayed, HasAnswered, HasReplayed, LeavesReplayed, program_start}
@@ -20,11 +20,11 @@ use Rattle.scmd_top.specs.Opening.{FailsToOpen, HasNotOpened, HasOpened, IsNew, 
 use Rattle.scmd_top.specs.Sides.{IsUntouched, Side, Sides}
 use Rattle.scmd_top.specs.Statuses.{program_limits}
 use Rattle.scmd_top.proofs.Openings.{fails, openable}
-use Rattle.scmd_top.proofs.Fronts.{all_of, rest_of, shorter, too_long}
+use Rattle.conn_worker.proofs.Complete.{all_of, rest_of, shorter, too_long}
 
 module _ (configs : List Config) where
   abbrev here : List ℕ → Text
-  here bytes = replayed program_limits (program_start configs) bytes
+  here bytes = replay_told program_limits (program_start configs) bytes
 
   -- what was read ends so, and it was all
   lines_so : (bytes read written : List ℕ) (ending : TextEnd) (now : Standing) → bytes ≡ read → length read < 2 ^ 40

@@ -15,7 +15,7 @@ use Rattle.scm_serving.specs.Serving.{ServesBook}
 use Rattle.scm_serving.specs.declared.serving.BookEnd.{BookEnd}
 use Rattle.scm_serving.specs.declared.serving.BookEnd.TheVariants.{Ended, ListenFault, OutOfMemory}
 use Rattle.scmd_top.specs.Opening.{FailsToOpen, HasNotOpened, HasOpened, IsUnopened, program_opening, status_of_fault}
-use Rattle.scmd_top.specs.Serving.{HasListened, HasNotListened, HasServed, HasServedOver, HasWritten, IsComplete}
+use Rattle.scmd_top.specs.Serving.{HasListened, HasNotListened, HasServed, HasServedOver, HasSummary, IsServingComplete}
 use Rattle.scmd_top.specs.Sides.{IsUntouched, Ports, Side, Sides, side}
 use Rattle.scmd_top.specs.Statuses.{IsOrLacks, program_limits}
 use Rattle.scmd_top.proofs.Again.{opens_again}
@@ -73,7 +73,7 @@ module _ {K : Type 0} (told : K → Option (List ℕ)) (faulted : K → ℕ) whe
       (status moment : ℕ) (o : Opened) (keeper mid now : K) (a u : Told)
       (end : BookEnd) → tells moment → HasOpened path groups (side told faulted keeper mid) moment o → a ≡ listening_at p.admin admin
       → u ≡ listening_at p.user user
-      → ServesBook told faulted tells o.manager.limits o.manager.flat a p.admin_now u p.user_now mid now end → HasWritten end output status
+      → ServesBook told faulted tells o.manager.limits o.manager.flat a p.admin_now u p.user_now mid now end → HasSummary end output status
       → HasServed tells path groups admin user (record { input = input; output = output; keeper = side told faulted keeper now }) p status
   has_listened tells path groups admin user input output p status moment o keeper mid now a u end at h at_admin at_user s wrote =
       inl (record {
@@ -82,8 +82,8 @@ module _ {K : Type 0} (told : K → Option (List ℕ)) (faulted : K → ℕ) whe
             (listening_at p.user user) p.user_now end at h
             (subst (λ (l : Told). ServesBook told faulted tells o.manager.limits o.manager.flat l p.admin_now
             (listening_at p.user user) p.user_now mid now end) at_admin
-            (subst (λ (l : Told). ServesBook told faulted tells o.manager.limits o.manager.flat a p.admin_now l p.user_now mid now end) at_user
-            s));
+            (subst (λ (l : Told). ServesBook told faulted tells o.manager.limits o.manager.flat a p.admin_now l p.user_now mid now end)
+            at_user s));
         written = wrote;
       })
 
@@ -118,7 +118,7 @@ not_opened tells path groups admin user s p fault h input output a u =
 written_complete : (tells : ℕ → Type 0) (path : Bool) (groups : List (List ℕ)) (admin user : Listening) (s : Sides) (p : Ports) (status : ℕ)
     (end : BookEnd)
     → HasServedOver tells path groups s.keeper (listening_at p.admin admin) p.admin_now (listening_at p.user user) p.user_now end
-    → HasWritten end s.output status → IsComplete path s p status
+    → HasSummary end s.output status → IsServingComplete path s p status
 written_complete tells path groups admin user s p status (Ended text) over (inl w) = λ output a u. inl (inl w.0)
 written_complete tells path groups admin user s p status (Ended text) over (inr w) = λ output a u. absurd (output w.2)
 written_complete tells path groups admin user s p status OutOfMemory over w = λ output a u. inl (inr w.0)
@@ -127,17 +127,17 @@ written_complete tells path groups admin user s p status ListenFault (inl h) w =
 written_complete tells path groups admin user s p status ListenFault (inr h) w = absurd cc
 
 unopened_complete : (path : Bool) (s : Sides) (p : Ports) (status : ℕ) → (status ≡ 8) ⊎ FailsToOpen path s.keeper status
-    → IsComplete path s p status
+    → IsServingComplete path s p status
 unopened_complete path s p status (inl is) = λ output a u. inl (inr is)
 unopened_complete path s p status (inr h) = λ output a u. inr h
 
-not_opened_complete : (path : Bool) (s : Sides) (p : Ports) (status : ℕ) → HasNotOpened path s status → IsComplete path s p status
+not_opened_complete : (path : Bool) (s : Sides) (p : Ports) (status : ℕ) → HasNotOpened path s status → IsServingComplete path s p status
 not_opened_complete path s p status h =
     unopened_complete path s p status
     (subst (λ (n : ℕ). (n ≡ 8) ⊎ FailsToOpen path s.keeper n) (sym h.status_is) (fails path s.keeper h.fault h.unopened))
 
 pub complete : (tells : ℕ → Type 0) (path : Bool) (groups : List (List ℕ)) (admin user : Listening) (s : Sides) (p : Ports) (status : ℕ)
-    → HasServed tells path groups admin user s p status → IsComplete path s p status
+    → HasServed tells path groups admin user s p status → IsServingComplete path s p status
 complete tells path groups admin user s p status (inl h) = written_complete tells path groups admin user s p status h.end h.served h.written
 complete tells path groups admin user s p status (inr (inl h)) = λ output a u. ⊎_elim (λ r. absurd (a r))
     (λ r. absurd (u r)) h.cause

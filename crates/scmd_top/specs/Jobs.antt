@@ -1,30 +1,29 @@
--- What each job comes to, and with which status.
-use Rattle.std.specs.Prelude.{ℕ, ◌≡◌, ◌<◌, ◌^◌, ◌↔◌, Bool, true, false, ◌⊎◌, List, [], length, Option, IfSome, IsNone}
+-- The outcome of each job, and its status.
+use Rattle.std.specs.Prelude.{ℕ, ◌≡◌, ◌<◌, ◌^◌, ◌↔◌, Bool, true, false, ◌⊎◌, List, [], length, Option, IfSome, IsNone, is_some}
 use Rattle.outside.specs.Causes.{Rose}
 use Rattle.outside.specs.Written.{Begins}
 use Rattle.scm_generate.specs.Listed.{generated}
 use Rattle.scm_generate.specs.Printed.{Prints, IfMade, IsPrintCaused}
 use Rattle.scm_generate.specs.Progress.{CanBeMade}
-use Rattle.scm_generate.specs.Summary.{summary}
+use Rattle.scm_generate.specs.Summary.{generated_summary}
 use Rattle.scm_generate.specs.declared.generated.Generated.{Generated}
 use Rattle.scm_generate.specs.declared.generated.Generated.TheVariants as printed
 use Rattle.scm_replay.specs.Outcomes.{Standing}
-use Rattle.scm_replay.specs.Replay.{TextEnd, AtRest, Unfinished, BadLine, IsOpenText, IsReplayed, replayed, IsReplayCaused}
+use Rattle.scm_replay.specs.Replay.{TextEnd, AtRest, Unfinished, BadLine, IsOpenText, IsReplayed, replay_told, IsReplayCaused}
 use Rattle.scm_replay.specs.declared.replayed.Replayed.{Replayed}
 use Rattle.scm_replay.specs.declared.replayed.Replayed.TheVariants as answered
 use Rattle.scm_model.specs.declared.flat.Config.{Config}
 use Rattle.record_journal.specs.declared.replaying.Replay.{Replay as Restoring}
-use Rattle.record_journal.specs.Keepers.{has_path}
 use Rattle.scmd_top.specs.Groups.{groups_in}
 use Rattle.scmd_top.specs.Opening.{FailsToOpen, HasNotOpened, IsCut, IsOpenable, program_opening}
 use Rattle.scmd_top.specs.declared.words.Job.{Job}
 use Rattle.scmd_top.specs.declared.words.Job.TheVariants.{Pipe, Replay, Generate, Serve}
 use Rattle.scmd_top.specs.Pipe.{HasPiped, IsComplete}
-use Rattle.scmd_top.specs.Serving.{HasServed, IsComplete as IsServed}
+use Rattle.scmd_top.specs.Serving.{HasServed, IsServingComplete as IsServed}
 use Rattle.scmd_top.specs.Sides.{IsUntouched, LeavesPorts, Ports, Side, Sides}
 use Rattle.scmd_top.specs.declared.world.World.{World}
 use Rattle.scmd_top.specs.Statuses.{IsOrLacks, program_limits}
-use Rattle.scmd_top.specs.Words.{job_of, list_of, path_of}
+use Rattle.scmd_top.specs.Words.{job_of, listed_groups, path_of}
 
 -- ## Statuses
 
@@ -42,13 +41,13 @@ status_of_generate printed.Ended = 0
 status_of_generate printed.WriteFault = 2
 status_of_generate printed.OutOfMemory = 8
 
--- ## What a job comes to
+-- ## The outcome of a job
 
 -- where the manager of a replay stands at first, at moment 0: it made no steps
 abbrev pub program_start : List Config → Standing
 program_start configs = record { flat = program_opening [] configs 0; steps = 0; text = 0 }
 
--- the input's lines were answered, and the manager stands somewhere behind them
+-- the input's lines were answered, and the manager stands somewhere after them
 pub record LeavesReplayed (configs : List Config) (left left_now held held_now : Option (List ℕ)) (how : Replayed) : Type 0 where
   pub now : Standing
   pub replayed : IsReplayed program_limits (program_start configs) now left left_now held held_now how
@@ -77,7 +76,7 @@ HasReplayed true s status = HasAnswered true s status ⊎ HasNotOpened true s st
 pub record HasPrinted (services : ℕ) (output : Side) (status : ℕ) : Type 0 where
   pub how : Generated
   pub status_is : status ≡ status_of_generate how
-  pub prints : Prints (summary program_limits (program_opening [] [] 0) (generated services)) output.told output.told_now how
+  pub prints : Prints (generated_summary program_limits (program_opening [] [] 0) (generated services)) output.told output.told_now how
   pub can : IfMade how (CanBeMade program_limits (program_opening [] [] 0) (generated services))
   pub cause : IsPrintCaused how output.faults output.faults_now
 
@@ -110,9 +109,9 @@ status_behind BadLine = 11
 
 -- Each end of the lines has its status; where more comes than an input may have and no bad line before that, it is 12.
 pub record EndsAsLines (configs : List Config) (bytes : List ℕ) (status : ℕ) : Type 0 where
-  pub whole : length bytes < 2 ^ 40 → IsOrLacks (status_behind (replayed program_limits (program_start configs) bytes).ending) status
+  pub whole : length bytes < 2 ^ 40 → IsOrLacks (status_behind (replay_told program_limits (program_start configs) bytes).ending) status
   pub worn : (front : List ℕ) → Begins front bytes → length front ≡ 2 ^ 40
-      → IsOpenText (replayed program_limits (program_start configs) front).ending → IsOrLacks 12 status
+      → IsOpenText (replay_told program_limits (program_start configs) front).ending → IsOrLacks 12 status
 
 -- over what stood under the path, unless memory ran out or the journal was not opened
 abbrev pub EndsOver : (path : Bool) → (keeper : Side) → List ℕ → (status : ℕ) → Type 0
@@ -121,7 +120,7 @@ EndsOver true keeper bytes status =
     (status ≡ 8) ⊎ FailsToOpen true keeper status ⊎ ((replay : Restoring) × IsOpenable true keeper.told replay
     × EndsAsLines replay.configs bytes status)
 
--- where no count of the input's and the output's rose and the input is told, the status is that of the lines' end
+-- if the input is known and neither its count nor the output's rose, the status is that of the lines' end
 abbrev pub HasAllReplayed : (path : Bool) → Sides → (status : ℕ) → Type 0
 HasAllReplayed path s status =
     IfSome s.input.told (λ bytes. (Rose s.input.faults s.input.faults_now → ⊥) → (Rose s.output.faults s.output.faults_now → ⊥)
@@ -142,11 +141,11 @@ HasAllDone path (Serve admin user) s p status = IsServed path s p status
 
 -- whether these words name a file
 abbrev pub names_file : List (List ℕ) → Bool
-names_file words = has_path (path_of words)
+names_file words = is_some (path_of words)
 
 -- the groups that they list
 abbrev pub groups_listed : List (List ℕ) → List (List ℕ)
-groups_listed words = groups_in (list_of words)
+groups_listed words = groups_in (listed_groups words)
 
 -- what words came to: 5 exactly where they are no job, and else what the job came to
 pub record HasEnded (tells : ℕ → Type 0) (words : List (List ℕ)) (s : Sides) (p : Ports) (status : ℕ) : Type 0 where

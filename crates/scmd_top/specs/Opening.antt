@@ -19,12 +19,12 @@ use Rattle.scmd_top.specs.Statuses.{program_limits}
 
 -- ## What stood
 
--- What stood under the path comes to these configurations, and so many of its bytes are kept. Without a path there are none.
+-- What stood under the path amounts to these configurations, and so many of its bytes are kept. Without a path there are none.
 abbrev pub IsRead : (path : Bool) → (told : Option (List ℕ)) → Replay → Type 0
 IsRead false told replay = replay ≡ record { configs = []; kept = 0 }
 IsRead true told replay = IfSome told (λ bytes. read_journal bytes ≡ Ok replay)
 
--- it comes to configurations that a manager can begin with
+-- it amounts to configurations that a manager can begin with
 pub record IsOpenable (path : Bool) (told : Option (List ℕ)) (replay : Replay) : Type 0 where
   pub read : IsRead path told replay
   pub can : CanOpen program_limits replay.configs
@@ -68,8 +68,8 @@ pub record HasOpened (path : Bool) (groups : List (List ℕ)) (keeper : Side) (m
   pub faults : keeper.faults_now ≡ keeper.faults
 
 -- what stood is left, or what is kept of it
-abbrev pub IsLeft : Side → Type 0
-IsLeft keeper = LeavesAll keeper.told keeper.told_now (Err faults.Failed)
+abbrev pub IsJournalLeft : Side → Type 0
+IsJournalLeft keeper = LeavesAll keeper.told keeper.told_now (Err faults.Failed)
 
 -- Why there is no manager, and what is left of what stood. What is damaged is never written to. Without a path a keeper that failed holds
 -- what it held.
@@ -77,14 +77,14 @@ abbrev pub IsUnopened : (path : Bool) → (keeper : Side) → JournalFault → T
 IsUnopened false keeper faults.Failed = Keeps keeper.told keeper.told_now × Rose keeper.faults keeper.faults_now
 IsUnopened false keeper faults.OutOfMemory = IsEmptied keeper.told keeper.told_now
 IsUnopened false keeper (faults.Damaged place) = ⊥
-IsUnopened true keeper faults.Failed = IsLeft keeper × Rose keeper.faults keeper.faults_now
-IsUnopened true keeper faults.OutOfMemory = IsLeft keeper
+IsUnopened true keeper faults.Failed = IsJournalLeft keeper × Rose keeper.faults keeper.faults_now
+IsUnopened true keeper faults.OutOfMemory = IsJournalLeft keeper
 IsUnopened true keeper (faults.Damaged place) =
     IfSome keeper.told (λ bytes. read_journal bytes ≡ Err place) × Keeps keeper.told keeper.told_now
 
-abbrev pub Opens : (path : Bool) → (groups : List (List ℕ)) → (keeper : Side) → (moment : ℕ) → Result Opened JournalFault → Type 0
-Opens path groups keeper moment (Ok opened) = HasOpened path groups keeper moment opened
-Opens path groups keeper moment (Err fault) = IsUnopened path keeper fault
+abbrev pub OpensJournal : (path : Bool) → (groups : List (List ℕ)) → (keeper : Side) → (moment : ℕ) → Result Opened JournalFault → Type 0
+OpensJournal path groups keeper moment (Ok opened) = HasOpened path groups keeper moment opened
+OpensJournal path groups keeper moment (Err fault) = IsUnopened path keeper fault
 
 -- ## A run without one
 

@@ -1,4 +1,4 @@
--- Texts that are told as borrowed ones.
+-- Texts that are returned as borrowed ones.
 use Rattle.std.specs.Prelude.{ℕ, ◌≡◌, List, Option, None, Some}
 use Rattle.std.specs.Borrow.{Bor}
 use Rattle.std.specs.Option.{MatchOption}

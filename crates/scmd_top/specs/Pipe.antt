@@ -36,7 +36,7 @@ status_of served.Worn = 12
 
 -- ## The journal
 
--- behind so many bytes of what stood the keeper bears these changes, and so many failed appends raised its count
+-- after so many bytes of what stood the keeper bears these changes, and so many failed appends raised its count
 pub record KeepsJournal (kept : ℕ) (changes : List Change) (failed : ℕ) (keeper : Side) : Type 0 where
   pub journal : Journal
   pub bears : Bears (and_changes (kept_front kept keeper.told) changes) journal keeper.told_now
@@ -53,8 +53,8 @@ OpensAgain replay changes keeper =
 
 -- ## The connection
 
--- One history from a moment of the clock on, over what stood under the path: what the output holds more is what it answers to what was read
--- of the input, and its kept changes stand in the journal behind that.
+-- One history from a moment of the clock on, over what stood under the path: what was added to the output is its answer to what was read of
+-- the input, and its kept changes stand in the journal after what stood.
 pub record HasServed (tells : ℕ → Type 0) (path : Bool) (principal : Principal) (how : Served) (s : Sides) : Type 0 where
   pub replay : Replay
   pub stood : IsOpenable path s.keeper.told replay
@@ -107,15 +107,15 @@ pub record EndsAs (path : Bool) (keeper : Side) (bytes : List ℕ) (status : ℕ
   pub worn : (front : List ℕ) → Begins front bytes → length front ≡ 2 ^ 40 → IsOpenEnd (items front).ending
       → IsOrFails path keeper 12 status
 
--- whenever the history begins over what stood under the path, where a manager can begin with it, the limits have room for each request of
--- these bytes behind whatever serves those before it
+-- whenever the history begins over what stood under the path, if a manager can begin with it, the limits have room for each request of
+-- these bytes after any history that serves those before it
 abbrev pub HasRoomAlways : (path : Bool) → (held : Option (List ℕ)) → Principal → List ℕ → Type 0
 HasRoomAlways path held principal bytes =
     (opened : ℕ) (replay : Replay) → IsOpenable path held replay → HasRoomForAll principal program_limits
     (program_opening [] replay.configs opened) bytes
 
--- Where the input is told and neither its count nor the output's rose, the status is that of its end, unless a request found no room; where
--- there is room for each request, none found none.
+-- If the input is known and neither its count nor the output's rose, the status is that of its end, unless a request found no room. If the
+-- input is known and there is room for each request, the status isn't 9.
 pub record IsComplete (path : Bool) (principal : Principal) (s : Sides) (status : ℕ) : Type 0 where
   pub ends : IfSome s.input.told (λ bytes. (Rose s.input.faults s.input.faults_now → ⊥) → (Rose s.output.faults s.output.faults_now → ⊥)
       → status ≢ 9 → EndsAs path s.keeper bytes status)

@@ -26,12 +26,12 @@ use Rattle.scmd_top.specs.Statuses.{program_limits}
 -- ## What is written
 
 -- the whole summary, or a front of it where the output failed; at another end nothing
-abbrev pub HasWritten : BookEnd → (output : Side) → (status : ℕ) → Type 0
-HasWritten (Ended text) output status =
+abbrev pub HasSummary : BookEnd → (output : Side) → (status : ℕ) → Type 0
+HasSummary (Ended text) output status =
     ((status ≡ 0) × Appends output.told output.told_now text)
     ⊎ ((status ≡ 2) × AppendsFront output.told output.told_now text × Rose output.faults output.faults_now)
-HasWritten OutOfMemory output status = (status ≡ 8) × IsUntouched output
-HasWritten ListenFault output status = (status ≡ 10) × IsUntouched output
+HasSummary OutOfMemory output status = (status ≡ 8) × IsUntouched output
+HasSummary ListenFault output status = (status ≡ 10) × IsUntouched output
 
 -- ## The book
 
@@ -41,8 +41,7 @@ pub record IsProgramOpening (groups : List (List ℕ)) (configs : List Config) (
   pub first : o.first ≡ program_opening groups configs opened
 
 -- One history from a moment of the clock on, over what stood under the path: the connections of both listeners stand in it, its kept
--- changes
--- stand in the journal behind that, and it is what is summed up.
+-- changes stand in the journal after what stood, and it is what is summed up.
 pub record HasHistory (tells : ℕ → Type 0) (path : Bool) (groups : List (List ℕ)) (keeper : Side) (a a' u u' : Told)
     (end : BookEnd) : Type 0 where
   pub replay : Replay
@@ -80,7 +79,7 @@ pub record HasListened (tells : ℕ → Type 0) (path : Bool) (groups : List (Li
     (status : ℕ) : Type 0 where
   pub end : BookEnd
   pub served : HasServedOver tells path groups s.keeper (listening_at p.admin admin) p.admin_now (listening_at p.user user) p.user_now end
-  pub written : HasWritten end s.output status
+  pub written : HasSummary end s.output status
 
 -- one failed to listen: nothing was handed out, no change is kept, and nothing is written
 pub record HasNotListened (path : Bool) (s : Sides) (p : Ports) (status : ℕ) : Type 0 where
@@ -101,7 +100,7 @@ HasServed tells path groups admin user s p status =
     ⊎ (HasNotOpened path s status × (p.admin_now ≡ p.admin) × (p.user_now ≡ p.user))
 
 -- where neither the output's count nor a listener's rose the status is 0, unless memory ran out, or the journal was not opened
-abbrev pub IsComplete : (path : Bool) → Sides → Ports → (status : ℕ) → Type 0
-IsComplete path s p status =
+abbrev pub IsServingComplete : (path : Bool) → Sides → Ports → (status : ℕ) → Type 0
+IsServingComplete path s p status =
     (Rose s.output.faults s.output.faults_now → ⊥) → (Rose p.admin.faults p.admin_now.faults → ⊥)
     → (Rose p.user.faults p.user_now.faults → ⊥) → IsOrFails path s.keeper 0 status

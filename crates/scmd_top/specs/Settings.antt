@@ -39,8 +39,8 @@ named_value word =
 abbrev pub port_of : ℕ → Option ℕ
 port_of number = if nat_le 1 number && nat_le number 65535 then Some number else None
 
-abbrev pub count_of : ℕ → Option ℕ
-count_of number = if nat_le number 4294967295 then Some number else None
+abbrev pub count_in : ℕ → Option ℕ
+count_in number = if nat_le number 4294967295 then Some number else None
 
 abbrev pub principal_named : List ℕ → Option Principal
 principal_named value =
@@ -57,24 +57,24 @@ abbrev pub once : {A : Type 0} → (before : Option A) → (value : Option A) �
 once None value = value
 once (Some before) value = None
 
-abbrev pub with_value : Settings → Setting → List ℕ → Option Settings
-with_value s AdminPort value = option_map (λ (n : ℕ). record s { admin = Some n; waits = None })
+abbrev pub with_option : Settings → Setting → List ℕ → Option Settings
+with_option s AdminPort value = option_map (λ (n : ℕ). record s { admin = Some n; waits = None })
     (once s.admin (option_and_then port_of (decimal_at value)))
-with_value s UserPort value = option_map (λ (n : ℕ). record s { user = Some n; waits = None })
+with_option s UserPort value = option_map (λ (n : ℕ). record s { user = Some n; waits = None })
     (once s.user (option_and_then port_of (decimal_at value)))
-with_value s AdminTake value = option_map (λ (n : ℕ). record s { take_admin = Some n; waits = None })
-    (once s.take_admin (option_and_then count_of (decimal_at value)))
-with_value s UserTake value = option_map (λ (n : ℕ). record s { take_user = Some n; waits = None })
-    (once s.take_user (option_and_then count_of (decimal_at value)))
-with_value s As value = option_map (λ (p : Principal). record s { principal = Some p; waits = None })
+with_option s AdminTake value = option_map (λ (n : ℕ). record s { take_admin = Some n; waits = None })
+    (once s.take_admin (option_and_then count_in (decimal_at value)))
+with_option s UserTake value = option_map (λ (n : ℕ). record s { take_user = Some n; waits = None })
+    (once s.take_user (option_and_then count_in (decimal_at value)))
+with_option s As value = option_map (λ (p : Principal). record s { principal = Some p; waits = None })
     (once s.principal (principal_named value))
-with_value s File value = if not s.file && is_plain value then Some (record s { file = true; waits = None }) else None
-with_value s Groups value = if not s.groups && is_plain value then Some (record s { groups = true; waits = None }) else None
+with_option s File value = if not s.file && is_plain value then Some (record s { file = true; waits = None }) else None
+with_option s Groups value = if not s.groups && is_plain value then Some (record s { groups = true; waits = None }) else None
 
 -- ## Words
 
-abbrev pub no_settings : Settings
-no_settings = record {
+abbrev pub no_options : Settings
+no_options = record {
   admin = None;
   user = None;
   take_admin = None;
@@ -88,16 +88,16 @@ no_settings = record {
 -- a name, with its value or before it
 abbrev pub with_name : Settings → (word : List ℕ) → Option (List ℕ × List ℕ) → Option Settings
 with_name s word None = option_map (λ (name : Setting). record s { waits = Some name }) (setting_named word)
-with_name s word (Some pair) = setting_named pair.0 >>= λ name. with_value s name pair.1
+with_name s word (Some pair) = setting_named pair.0 >>= λ name. with_option s name pair.1
 
 -- one word further
 abbrev pub with_word : Settings → Option Setting → List ℕ → Option Settings
 with_word s None word = with_name s word (named_value word)
-with_word s (Some name) word = with_value s name word
+with_word s (Some name) word = with_option s name word
 
-abbrev pub settings_from : Settings → List (List ℕ) → Option Settings
-settings_from s [] = Some s
-settings_from s (word ∷ words) = with_word s s.waits word >>= λ now. settings_from now words
+abbrev pub options_from : Settings → List (List ℕ) → Option Settings
+options_from s [] = Some s
+options_from s (word ∷ words) = with_word s s.waits word >>= λ now. options_from now words
 
 -- ## Values that are texts
 

@@ -1,4 +1,4 @@
--- What a run did to the world: what its objects tell of their bytes, and their counts of faults, before it and behind it.
+-- What a run did to the world: what its objects tell of their bytes, and their counts of faults, before and after the run.
 use Rattle.std.specs.Prelude.{ℕ, ◌≡◌, List, Option}
 use Rattle.scm_listener.specs.Connections.{PastConnection}
 use Rattle.scm_listener.specs.declared.listener.Listening.{Listening}
@@ -33,7 +33,7 @@ sides_of left source held sink bytes keeper w w' = record {
   keeper = side bytes keeper w.keeper w'.keeper;
 }
 
--- what the listeners tell, before it and behind it
+-- what the listeners tell, before and after the run
 pub record Ports : Type 0 where
   pub admin : Told
   pub admin_now : Told

@@ -6,7 +6,7 @@ use Rattle.scm_model.specs.declared.flat.Principal.TheVariants.{Admin}
 use Rattle.scmd_top.specs.declared.words.Job.{Job}
 use Rattle.scm_replay.specs.Words.{decimal_at}
 use Rattle.scmd_top.specs.declared.words.Job.TheVariants.{Pipe, Replay, Generate, Serve}
-use Rattle.scmd_top.specs.Settings.{is_word, no_settings, settings_from, value_from}
+use Rattle.scmd_top.specs.Settings.{is_word, no_options, options_from, value_from}
 use Rattle.scmd_top.specs.declared.settings.Setting.{Setting}
 use Rattle.scmd_top.specs.declared.settings.Settings.{Settings}
 
@@ -27,22 +27,22 @@ replay_with None None None None None false None = Some Replay
 replay_with waits admin user take_admin take_user groups principal = None
 
 -- a replay has no option but its file
-abbrev pub replay_of : Settings → Option Job
-replay_of s = replay_with s.waits s.admin s.user s.take_admin s.take_user s.groups s.principal
+abbrev pub replay_job : Settings → Option Job
+replay_job s = replay_with s.waits s.admin s.user s.take_admin s.take_user s.groups s.principal
 
 -- where two ports are listened at, and how many connections each takes
-abbrev pub served_at : Option Setting → Option Principal → (admin user : Option ℕ) → (take_admin take_user : Option ℕ) → Option Job
-served_at None None (Some admin) (Some user) take_admin take_user =
+abbrev pub serve_job : Option Setting → Option Principal → (admin user : Option ℕ) → (take_admin take_user : Option ℕ) → Option Job
+serve_job None None (Some admin) (Some user) take_admin take_user =
     Some (Serve (record { port = admin; take = take_admin }) (record { port = user; take = take_user }))
-served_at waits principal admin user take_admin take_user = None
+serve_job waits principal admin user take_admin take_user = None
 
 -- both ports have to be given, and each value that was begun
 abbrev pub serving_of : Settings → Option Job
-serving_of s = served_at s.waits s.principal s.admin s.user s.take_admin s.take_user
+serving_of s = serve_job s.waits s.principal s.admin s.user s.take_admin s.take_user
 
 -- what options say of a job
 abbrev pub with_options : (Settings → Option Job) → List (List ℕ) → Option Job
-with_options job words = option_and_then job (settings_from no_settings words)
+with_options job words = option_and_then job (options_from no_options words)
 
 -- ## The job
 
@@ -68,7 +68,7 @@ abbrev pub job_of : List (List ℕ) → Option Job
 job_of [] = None
 job_of (word ∷ words) =
     if is_word word (codes "pipe") then with_options pipe_of words
-    else if is_word word (codes "replay") then with_options replay_of words
+    else if is_word word (codes "replay") then with_options replay_job words
     else if is_word word (codes "generate") then generate_with words
     else if is_word word (codes "serve") then with_options serving_of words
     else None
@@ -78,5 +78,5 @@ abbrev pub path_of : List (List ℕ) → Option (List ℕ)
 path_of words = value_from (codes "--db") false words
 
 -- which groups they list, where they are a job
-abbrev pub list_of : List (List ℕ) → Option (List ℕ)
-list_of words = value_from (codes "--groups") false words
+abbrev pub listed_groups : List (List ℕ) → Option (List ℕ)
+listed_groups words = value_from (codes "--groups") false words

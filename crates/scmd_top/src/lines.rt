@@ -1,6 +1,5 @@
 //! `scmd replay`, which may not wait: it returns.
-ghost use Rattle.std.specs.Prelude.{◌≡◌, ◌≤◌, [], true};
-ghost use Rattle.record_journal.specs.Keepers.{has_path};
+ghost use Rattle.std.specs.Prelude.{◌≡◌, ◌≤◌, [], true, is_some};
 ghost use Rattle.scm_replay.specs.Replay.{IsReplayCaused};
 ghost use Rattle.scmd_top.specs.Jobs.{HasAllReplayed, HasReplayed, LeavesKeeper, LeavesReplayed};
 ghost use Rattle.scmd_top.specs.Jobs.{status_of_replay};
@@ -94,15 +93,15 @@ fn answer<I: Source, O: Sink, K: Keeper>(
     input: &mut I,
     output: &mut O,
 ) -> u8
-    ensures keeper { LeavesKeeper (has_path path.entry) jobs.Replay keeper.old keeper.new }
+    ensures keeper { LeavesKeeper (is_some path.entry) jobs.Replay keeper.old keeper.new }
     ensures input { I.faults input.old ≤ I.faults input.new }
     ensures output { O.faults output.old ≤ O.faults output.new }
-    ensures run { HasReplayed (has_path path.entry) (record {
+    ensures run { HasReplayed (is_some path.entry) (record {
       input = side I.left I.faults input.old input.new;
       output = side O.held O.faults output.old output.new;
       keeper = side K.held K.faults keeper.old keeper.new;
     }) result }
-    ensures complete { HasAllReplayed (has_path path.entry) (record {
+    ensures complete { HasAllReplayed (is_some path.entry) (record {
       input = side I.left I.faults input.old input.new;
       output = side O.held O.faults output.old output.new;
       keeper = side K.held K.faults keeper.old keeper.new;
@@ -121,36 +120,25 @@ pub fn replay_main<I: Source, O: Sink, K: Keeper, N: Listener, P: Spawner, C: Cl
     path: Option<&str>,
     world: World<I, O, K, N, P, C>,
 ) -> (u8, World<I, O, K, N, P, C>)
-    ensures keeper { LeavesKeeper (has_path path.entry) jobs.Replay world.keeper result.1.keeper }
+    ensures keeper { LeavesKeeper (is_some path.entry) jobs.Replay world.keeper result.1.keeper }
     ensures clock { result.1.clock ≡ world.clock }
     ensures ports { LeavesPorts world result.1 }
     ensures input { I.faults world.input ≤ I.faults result.1.input }
     ensures output { O.faults world.output ≤ O.faults result.1.output }
     // What was read, answered and written, and why the run ended.
-    ensures run { HasReplayed (has_path path.entry)
+    ensures run { HasReplayed (is_some path.entry)
         (sides_of I.left I.faults O.held O.faults K.held K.faults world result.1) result.0 }
     // Nothing else ends a run without faults.
-    ensures complete { HasAllReplayed (has_path path.entry)
+    ensures complete { HasAllReplayed (is_some path.entry)
         (sides_of I.left I.faults O.held O.faults K.held K.faults world result.1) result.0 }
 {
-    let World {
-        mut input,
-        mut output,
-        mut keeper,
-        admin,
-        user,
-        spawner,
-        clock,
-    } = world;
-    let status = answer(alloc, path, &mut keeper, &mut input, &mut output);
-    let world = World {
-        input,
-        output,
-        keeper,
-        admin,
-        user,
-        spawner,
-        clock,
-    };
+    let mut world = world;
+    let status = answer(
+        alloc,
+        path,
+        &mut world.keeper,
+        &mut world.input,
+        &mut world.output,
+    );
     (status, world)
 }

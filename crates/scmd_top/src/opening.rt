@@ -1,7 +1,6 @@
-ghost use Rattle.std.specs.Prelude.{◌≡◌, [], false, true, IfOk};
-ghost use Rattle.record_journal.specs.Keepers.{has_path};
+ghost use Rattle.std.specs.Prelude.{◌≡◌, [], false, true, IfOk, is_some};
 ghost use Rattle.scmd_top.specs.Groups.{groups_in};
-ghost use Rattle.scmd_top.specs.Opening.{IsNew, Opens, status_of_fault};
+ghost use Rattle.scmd_top.specs.Opening.{IsNew, OpensJournal, status_of_fault};
 ghost use Rattle.scmd_top.specs.Parts.{lent};
 ghost use Rattle.scmd_top.specs.Sides.{side};
 
@@ -39,7 +38,7 @@ fn open_empty<K: Keeper>(
     names: Option<&str>,
     moment: u64,
 ) -> Result<Opened, JournalFault>
-    ensures { Opens false (groups_in (lent names.entry))
+    ensures { OpensJournal false (groups_in (lent names.entry))
         (side K.held K.faults keeper.old keeper.new) moment result }
 {
     let Ok(()) = keeper.open_at(None) else {
@@ -62,7 +61,7 @@ pub fn open_stored<K: Keeper>(
     names: Option<&str>,
     moment: u64,
 ) -> Result<Opened, JournalFault>
-    ensures { Opens true (groups_in (lent names.entry))
+    ensures { OpensJournal true (groups_in (lent names.entry))
         (side K.held K.faults keeper.old keeper.new) moment result }
 {
     let Ok(groups) = groups_in(alloc, names) else {
@@ -80,7 +79,7 @@ pub fn open_at<K: Keeper>(
     names: Option<&str>,
     moment: u64,
 ) -> Result<Opened, JournalFault>
-    ensures { Opens (has_path path.entry) (groups_in (lent names.entry))
+    ensures { OpensJournal (is_some path.entry) (groups_in (lent names.entry))
         (side K.held K.faults keeper.old keeper.new) moment result }
 {
     match path {

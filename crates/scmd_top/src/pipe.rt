@@ -1,6 +1,5 @@
 //! `scmd pipe`.
-ghost use Rattle.std.specs.Prelude.{◌≡◌, ◌≤◌};
-ghost use Rattle.record_journal.specs.Keepers.{has_path};
+ghost use Rattle.std.specs.Prelude.{◌≡◌, ◌≤◌, is_some};
 ghost use Rattle.scmd_top.specs.Pipe.{HasPiped, IsComplete, status_of};
 ghost use Rattle.scmd_top.specs.Sides.{LeavesPorts, sides_of};
 
@@ -46,25 +45,17 @@ pub fn pipe_main<R: Wait, I: Source, O: Sink, K: Keeper, N: Listener, P: Spawner
     ensures input { I.faults world.input ≤ I.faults result.1.input }
     ensures output { O.faults world.output ≤ O.faults result.1.output }
     // What was read, answered, written and kept, and why the run ended.
-    ensures run { HasPiped (C.tells world.clock) (has_path path.entry) principal
+    ensures run { HasPiped (C.tells world.clock) (is_some path.entry) principal
         (sides_of I.left I.faults O.held O.faults K.held K.faults world result.1) result.0 }
     // Nothing else ends a run without faults.
-    ensures complete { IsComplete (has_path path.entry) principal
+    ensures complete { IsComplete (is_some path.entry) principal
         (sides_of I.left I.faults O.held O.faults K.held K.faults world result.1) result.0 }
 {
     let mut world = world;
     let moment = world.clock.now();
     match open_at(alloc, &mut world.keeper, path, None, moment) {
         Ok(Opened { manager, journal }) => {
-            let World {
-                mut input,
-                mut output,
-                keeper,
-                admin,
-                user,
-                spawner,
-                clock,
-            } = world;
+            let keeper = world.keeper;
             let Piped { how, keeper } = serve_alone(
                 rt,
                 alloc,
@@ -72,19 +63,11 @@ pub fn pipe_main<R: Wait, I: Source, O: Sink, K: Keeper, N: Listener, P: Spawner
                 journal,
                 keeper,
                 principal,
-                &mut input,
-                &mut output,
-                &clock,
+                &mut world.input,
+                &mut world.output,
+                &world.clock,
             );
-            let world = World {
-                input,
-                output,
-                keeper,
-                admin,
-                user,
-                spawner,
-                clock,
-            };
+            world.keeper = keeper;
             (status_of(how), world)
         }
         Err(fault) => (status_of_fault(fault), world),

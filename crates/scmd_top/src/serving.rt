@@ -1,9 +1,8 @@
 //! `scmd serve`.
-ghost use Rattle.std.specs.Prelude.{◌≡◌, ◌≤◌};
-ghost use Rattle.record_journal.specs.Keepers.{has_path};
+ghost use Rattle.std.specs.Prelude.{◌≡◌, ◌≤◌, is_some};
 ghost use Rattle.scmd_top.specs.Groups.{groups_in};
 ghost use Rattle.scmd_top.specs.Parts.{lent};
-ghost use Rattle.scmd_top.specs.Serving.{HasServed, HasWritten, IsComplete};
+ghost use Rattle.scmd_top.specs.Serving.{HasServed, HasSummary, IsServingComplete};
 ghost use Rattle.scmd_top.specs.Sides.{ports_of, side, sides_of};
 
 use crate::opening::{open_at, status_of_fault};
@@ -22,7 +21,7 @@ use std::time;
 
 /// Writes the summary of a server that ended, and answers the status of the program.
 fn written<O: Sink>(end: BookEnd, output: &mut O) -> u8
-    ensures written { HasWritten end (side O.held O.faults output.old output.new) result }
+    ensures written { HasSummary end (side O.held O.faults output.old output.new) result }
     ensures output { O.faults output.old ≤ O.faults output.new }
 {
     match end {
@@ -69,11 +68,11 @@ where
     ensures output { O.faults world.output ≤ O.faults result.1.output }
     // Which history the connections and the keeper are of, what was written, and why it ended.
     ensures run { HasServed (C.tells world.clock)
-        (has_path path.entry) (groups_in (lent names.entry)) admin_at user_at
+        (is_some path.entry) (groups_in (lent names.entry)) admin_at user_at
         (sides_of I.left I.faults O.held O.faults K.held K.faults world result.1)
         (ports_of N.left N.accepted N.noted N.listened N.faults world result.1) result.0 }
     // Nothing else ends a server without faults.
-    ensures complete { IsComplete (has_path path.entry)
+    ensures complete { IsServingComplete (is_some path.entry)
         (sides_of I.left I.faults O.held O.faults K.held K.faults world result.1)
         (ports_of N.left N.accepted N.noted N.listened N.faults world result.1) result.0 }
 {

@@ -1,9 +1,9 @@
 // The options of jobs.
 ghost use Rattle.std.specs.Prelude.{◌≡◌, codes, false, option_and_then};
-ghost use Rattle.decimal_words.specs.Numbers.{number_at};
+ghost use Rattle.decimal_words.specs.Numbers.{decimal_number};
 ghost use Rattle.scmd_top.specs.Parts.{IsParts, IsText};
-ghost use Rattle.scmd_top.specs.Settings.{count_of, no_settings, once, port_of, setting_named};
-ghost use Rattle.scmd_top.specs.Settings.{settings_from, with_name, with_value, with_word};
+ghost use Rattle.scmd_top.specs.Settings.{count_in, no_options, once, port_of, setting_named};
+ghost use Rattle.scmd_top.specs.Settings.{options_from, with_name, with_option, with_word};
 ghost use Rattle.scmd_top.specs.Settings.{is_plain, named_value, principal_named};
 ghost use Rattle.scmd_top.specs.Settings.{value_from, value_in};
 
@@ -77,14 +77,14 @@ fn port_of(number: u64) -> Option<u16>
 }
 
 fn port_at(value: &str) -> Option<u16>
-    ensures { result ≡ option_and_then port_of (number_at value.now) }
+    ensures { result ≡ option_and_then port_of (decimal_number value.now) }
 {
     port_of(number_at(value.as_bytes())?)
 }
 
 /// A count of connections, of 32 bits.
 fn count_of(number: u64) -> Option<u64>
-    ensures { result ≡ count_of number }
+    ensures { result ≡ count_in number }
 {
     if number <= 4_294_967_295 {
         Some(number)
@@ -94,7 +94,7 @@ fn count_of(number: u64) -> Option<u64>
 }
 
 fn count_at(value: &str) -> Option<u64>
-    ensures { result ≡ option_and_then count_of (number_at value.now) }
+    ensures { result ≡ option_and_then count_in (decimal_number value.now) }
 {
     count_of(number_at(value.as_bytes())?)
 }
@@ -141,7 +141,7 @@ impl Settings {
     };
 
     fn with_value(self, name: Setting, value: &str) -> Option<Settings>
-        ensures { result ≡ with_value self name value.now }
+        ensures { result ≡ with_option self name value.now }
     {
         let settings = Settings {
             waits: None,
@@ -205,7 +205,7 @@ impl Settings {
 
     /// What these words say, if each is an option or a value.
     pub fn of(words: &[Text]) -> Option<Settings>
-        ensures { result ≡ settings_from no_settings words.now }
+        ensures { result ≡ options_from no_options words.now }
     {
         let mut settings = Settings::NONE;
         for word in words {

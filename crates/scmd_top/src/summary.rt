@@ -41,24 +41,7 @@ pub fn generate_main<I: Source, O: Sink, K: Keeper, N: Listener, P: Spawner, C: 
     // Nothing else ends a run without faults.
     ensures complete { HasSummedUp (side O.held O.faults world.output result.1.output) result.0 }
 {
-    let World {
-        input,
-        mut output,
-        keeper,
-        admin,
-        user,
-        spawner,
-        clock,
-    } = world;
-    let how = generate(alloc, LIMITS, services, &mut output);
-    let world = World {
-        input,
-        output,
-        keeper,
-        admin,
-        user,
-        spawner,
-        clock,
-    };
+    let mut world = world;
+    let how = generate(alloc, LIMITS, services, &mut world.output);
     (status_of_generate(how), world)
 }

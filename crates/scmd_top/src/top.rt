@@ -1,5 +1,4 @@
-ghost use Rattle.std.specs.Prelude.{◌≡◌, ◌≤◌, ◌↔◌, IfOk, IfSome, IsErrOf, IsNone};
-ghost use Rattle.record_journal.specs.Keepers.{has_path};
+ghost use Rattle.std.specs.Prelude.{◌≡◌, ◌≤◌, ◌↔◌, IfOk, IfSome, IsErrOf, IsNone, is_some};
 ghost use Rattle.scmd_top.specs.Jobs.{HasAllDone, HasEnded, HasRun, LeavesKeeper, LeavesOthers};
 ghost use Rattle.scmd_top.specs.Jobs.{groups_listed, names_file};
 ghost use Rattle.scmd_top.specs.Groups.{groups_in};
@@ -48,15 +47,15 @@ where
     C: Clock + Sync,
     requires { IsFew job }
     ensures run { HasRun (C.tells world.clock)
-        (has_path path.entry) (groups_in (lent names.entry)) job
+        (is_some path.entry) (groups_in (lent names.entry)) job
         (sides_of I.left I.faults O.held O.faults K.held K.faults world result.1)
         (ports_of N.left N.accepted N.noted N.listened N.faults world result.1) result.0 }
     ensures clock { result.1.clock ≡ world.clock }
     ensures input { I.faults world.input ≤ I.faults result.1.input }
     ensures output { O.faults world.output ≤ O.faults result.1.output }
-    ensures keeper { LeavesKeeper (has_path path.entry) job world.keeper result.1.keeper }
+    ensures keeper { LeavesKeeper (is_some path.entry) job world.keeper result.1.keeper }
     ensures ports { LeavesOthers job world result.1 }
-    ensures complete { HasAllDone (has_path path.entry) job
+    ensures complete { HasAllDone (is_some path.entry) job
         (sides_of I.left I.faults O.held O.faults K.held K.faults world result.1)
         (ports_of N.left N.accepted N.noted N.listened N.faults world result.1) result.0 }
 {
@@ -68,11 +67,12 @@ where
     }
 }
 
-/// Does what the words ask for, and answers the status of the program: 0 done, 1 the input failed,
-/// 2 the output failed, 3 the keeper failed when the journal was opened, 4 that is damaged, 5 words
-/// that are no job, 6 an input that ends within a PDU, a request or a line, 7 a bad PDU or a
-/// request that is too long, 8 want of memory, 9 no room for a request by the limits, 10 a listener
-/// failed, 11 a bad line, 12 as many bytes of input as are read at most, 2^40.
+/// Does what the arguments `words` ask for, and returns the status of the program: 0 done, 1 the
+/// input failed, 2 the output failed, 3 the keeper failed when the journal was opened, 4 the
+/// journal is damaged, 5 arguments that are no job, 6 an input that ends within a PDU, a request or
+/// a line, 7 a bad PDU or a request that is too long, 8 out of memory, 9 no room for a request by
+/// the limits, 10 a listener failed, 11 a bad line, 12 as many bytes of input as are read at most,
+/// 2^40.
 pub fn scmd_main<R, I, O, K, N, NI, NO, A, P, L, F, C>(
     rt: &R,
     alloc: Global,

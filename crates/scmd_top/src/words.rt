@@ -1,8 +1,8 @@
 ghost use Rattle.std.specs.Prelude.{◌≡◌, ◌≤◌, IfSome, option_and_then};
 ghost use Rattle.scm_replay.specs.Words.{decimal_at};
 ghost use Rattle.scmd_top.specs.Parts.{IsText};
-ghost use Rattle.scmd_top.specs.Words.{IsFew, generate_with, job_of, list_of, path_of};
-ghost use Rattle.scmd_top.specs.Words.{pipe_of, replay_of, serving_of, with_options, within};
+ghost use Rattle.scmd_top.specs.Words.{IsFew, generate_with, job_of, listed_groups, path_of};
+ghost use Rattle.scmd_top.specs.Words.{pipe_of, replay_job, serving_of, with_options, within};
 
 use crate::settings::{Settings, file_of, groups_text};
 use scm_listener::Listening;
@@ -43,7 +43,7 @@ fn within(number: u64) -> Option<u32>
     }
 }
 
-/// For how many services steps are generated, by the words behind `generate`.
+/// For how many services steps are generated, by the arguments after `generate`.
 fn generate_with(words: &[Text]) -> Option<Job>
     ensures job { result ≡ generate_with words.now }
     ensures few { IfSome result IsFew }
@@ -79,7 +79,7 @@ fn pipe_of(said: Settings) -> Option<Job>
 
 /// A replay has no option but its file.
 fn replay_of(said: Settings) -> Option<Job>
-    ensures { result ≡ replay_of said }
+    ensures { result ≡ replay_job said }
 {
     match pipe_of(said) {
         Some(_) if said.principal.is_none() => Some(Job::Replay),
@@ -115,7 +115,7 @@ fn with_pipe(words: &[Text]) -> Option<Job>
 }
 
 fn with_replay(words: &[Text]) -> Option<Job>
-    ensures job { result ≡ with_options replay_of words.now }
+    ensures job { result ≡ with_options replay_job words.now }
     ensures few { IfSome result IsFew }
 {
     replay_of(Settings::of(words)?)
@@ -154,7 +154,7 @@ pub fn path_of(words: &Items<Text>) -> Option<&str>
 
 /// The groups that the words list, where they are a job.
 pub fn list_of(words: &Items<Text>) -> Option<&str>
-    ensures { IsText (list_of words.now) result }
+    ensures { IsText (listed_groups words.now) result }
 {
     groups_text(words.as_slice())
 }

@@ -7,42 +7,44 @@ use Rattle.std.proofs.lemmas.Nat.Bits.{bit_at_or, bit_at-lt, bit_at-zero, same_f
 use Rattle.scm_model.specs.declared.flat.Principal.{Principal}
 use Rattle.sec_desc.specs.declared.value.Ace.{Ace}
 use Rattle.sec_check.specs.declared.checking.Decided.{Decided}
-use Rattle.sec_check.specs.Allowed.{after, counts, maximum, with_ace, without}
+use Rattle.sec_check.specs.Allowed.{decided_after, counts, maximum, with_ace}
 use Rattle.sec_check.specs.Laws.{AreSmall}
 use Rattle.sec_check.proofs.Masking.{fewer, small, without_at}
+use Rattle.scm_text.specs.Numbers.{without_bits}
 
 -- what the entries so far and those that are left allow together
 abbrev pub merged : Decided → ℕ → ℕ
-merged so_far rest = bit_or so_far.given (without rest so_far.known)
+merged so_far rest = bit_or so_far.given (without_bits rest so_far.known)
 
 denied : (rest mask known : ℕ) → rest < 2 ^ 32 → mask < 2 ^ 32 → known < 2 ^ 32
-    → without rest (bit_or known mask) ≡ without (without rest mask) known
+    → without_bits rest (bit_or known mask) ≡ without_bits (without_bits rest mask) known
 denied rest mask known r m k =
-    same_from_bits (without rest (bit_or known mask)) (without (without rest mask) known) (λ i. (
+    same_from_bits (without_bits rest (bit_or known mask)) (without_bits (without_bits rest mask) known) (λ i. (
     let a = without_at rest (bit_or known mask) r (or_lt 32 known mask k m) i in
-    let b = without_at (without rest mask) known (fewer rest mask r) k i in
+    let b = without_at (without_bits rest mask) known (fewer rest mask r) k i in
     let c = without_at rest mask r m i in
     let d = bit_at_or known mask i in
     let e = bit_at-lt rest i in let f = bit_at-lt mask i in let g = bit_at-lt known i in omega (arith, a, b, c, d, e, f, g)))
 
 allowed : (given rest mask known : ℕ) → rest < 2 ^ 32 → mask < 2 ^ 32 → known < 2 ^ 32
-    → bit_or (bit_or given (without mask known)) (without rest (bit_or known mask)) ≡ bit_or given (without (bit_or mask rest) known)
+    → bit_or (bit_or given (without_bits mask known)) (without_bits rest (bit_or known mask))
+    ≡ bit_or given (without_bits (bit_or mask rest) known)
 allowed given rest mask known r m k =
-    same_from_bits (bit_or (bit_or given (without mask known)) (without rest (bit_or known mask)))
-    (bit_or given (without (bit_or mask rest) known)) (λ i. (
-    let a = bit_at_or (bit_or given (without mask known)) (without rest (bit_or known mask)) i in
-    let b = bit_at_or given (without mask known) i in
+    same_from_bits (bit_or (bit_or given (without_bits mask known)) (without_bits rest (bit_or known mask)))
+    (bit_or given (without_bits (bit_or mask rest) known)) (λ i. (
+    let a = bit_at_or (bit_or given (without_bits mask known)) (without_bits rest (bit_or known mask)) i in
+    let b = bit_at_or given (without_bits mask known) i in
     let c = without_at mask known m k i in
     let d = without_at rest (bit_or known mask) r (or_lt 32 known mask k m) i in
     let e = bit_at_or known mask i in
-    let f = bit_at_or given (without (bit_or mask rest) known) i in
+    let f = bit_at_or given (without_bits (bit_or mask rest) known) i in
     let g = without_at (bit_or mask rest) known (or_lt 32 mask rest m r) k i in
     let h = bit_at_or mask rest i in
     let l = bit_at-lt rest i in let n = bit_at-lt mask i in let o = bit_at-lt known i in omega (arith, a, b, c, d, e, f, g, h, l, n, o)))
 
 -- an entry that counts
 decides : (so_far : Decided) (ace : Ace) (aces : List Ace) → AreSmall (ace ∷ aces) → so_far.known < 2 ^ 32
-    → merged (after so_far ace.deny ace.mask) (maximum aces) ≡ merged so_far (maximum (ace ∷ aces))
+    → merged (decided_after so_far ace.deny ace.mask) (maximum aces) ≡ merged so_far (maximum (ace ∷ aces))
 unfolding maximum
 decides so_far ace aces all k =
     let r = small aces all.1 in
@@ -68,11 +70,11 @@ goes_on principal so_far ace aces all k =
     ]
 
 pub begins : (rest : ℕ) → rest < 2 ^ 32 → merged (record { given = 0; known = 0 }) rest ≡ rest
-begins rest r = same_from_bits (bit_or 0 (without rest 0)) rest (λ i. (
-    let a = bit_at_or 0 (without rest 0) i in let b = without_at rest 0 r (omega arith) i in let z = bit_at-zero i in
+begins rest r = same_from_bits (bit_or 0 (without_bits rest 0)) rest (λ i. (
+    let a = bit_at_or 0 (without_bits rest 0) i in let b = without_at rest 0 r (omega arith) i in let z = bit_at-zero i in
     omega (arith, a, b, z)))
 
 pub ends : (so_far : Decided) → so_far.known < 2 ^ 32 → merged so_far 0 ≡ so_far.given
-ends so_far k = same_from_bits (bit_or so_far.given (without 0 so_far.known)) so_far.given (λ i. (
-    let a = bit_at_or so_far.given (without 0 so_far.known) i in let b = without_at 0 so_far.known (omega arith) k i in
+ends so_far k = same_from_bits (bit_or so_far.given (without_bits 0 so_far.known)) so_far.given (λ i. (
+    let a = bit_at_or so_far.given (without_bits 0 so_far.known) i in let b = without_at 0 so_far.known (omega arith) k i in
     let z = bit_at-zero i in omega (arith, a, b, z)))

@@ -7,9 +7,9 @@ use Rattle.std.proofs.lemmas.Bool.{cases_Bool, cases_lt, cases_order, and_from, 
 use Rattle.std.proofs.lemmas.Nat.{and_le_l, or_lt}
 use Rattle.std.proofs.lemmas.Nat.Bits.{bit_at_above, bit_at_and, bit_at_not, bit_at_ones, bit_at_or, bit_at-lt, bit_at-zero, same_from_bits}
 use Rattle.sec_desc.specs.declared.value.Ace.{Ace}
-use Rattle.sec_desc.specs.Numbers.{has_bits}
-use Rattle.sec_check.specs.Allowed.{maximum, passes, without}
+use Rattle.sec_check.specs.Allowed.{maximum, passes}
 use Rattle.sec_check.specs.Laws.{AreSmall, bit_of, has_bit}
+use Rattle.scm_text.specs.Numbers.{has_bits, without_bits}
 
 -- each bit of these is one of the mask's
 abbrev IsWithin : ℕ → ℕ → Type 0
@@ -27,7 +27,7 @@ to_has mask bits within =
     (same_from_bits (bit_and mask bits) bits (λ i. (let m = bit_at_and mask bits i in let w = within i in omega (arith, m, w))))
 
 -- what is left without a mask, bit by bit
-pub without_at : (left m : ℕ) → left < 2 ^ 32 → m < 2 ^ 32 → (i : ℕ) → bit_at (without left m) i ≡ bit_at left i - bit_at m i
+pub without_at : (left m : ℕ) → left < 2 ^ 32 → m < 2 ^ 32 → (i : ℕ) → bit_at (without_bits left m) i ≡ bit_at left i - bit_at m i
 without_at left m p q i =
     let a = bit_at_and left (2 ^ 32 - 1 - m) i in
     let la = bit_at-lt left i in
@@ -45,33 +45,33 @@ both_ways true b go back = sym (go refl)
 both_ways false true go back = back refl
 both_ways false false go back = refl
 
-allow_bits : (m r left : ℕ) → m < 2 ^ 32 → left < 2 ^ 32 → has_bits r (without left m) ≡ has_bits (bit_or m r) left
+allow_bits : (m r left : ℕ) → m < 2 ^ 32 → left < 2 ^ 32 → has_bits r (without_bits left m) ≡ has_bits (bit_or m r) left
 allow_bits m r left p s =
-    both_ways (has_bits r (without left m)) (has_bits (bit_or m r) left)
+    both_ways (has_bits r (without_bits left m)) (has_bits (bit_or m r) left)
     (λ has. to_has (bit_or m r) left
-    (λ i. (let w = of_has r (without left m) has i in let e = without_at left m s p i in let o = bit_at_or m r i in
+    (λ i. (let w = of_has r (without_bits left m) has i in let e = without_at left m s p i in let o = bit_at_or m r i in
     let a = bit_at-lt left i in let b = bit_at-lt m i in omega (arith, w, e, o, a, b))))
-    (λ has. to_has r (without left m)
+    (λ has. to_has r (without_bits left m)
     (λ i. (let w = of_has (bit_or m r) left has i in let e = without_at left m s p i in let o = bit_at_or m r i in
     let a = bit_at-lt left i in let b = bit_at-lt m i in let c = bit_at-lt r i in omega (arith, w, e, o, a, b, c))))
 
 deny_bits : (m r left : ℕ) → m < 2 ^ 32 → r < 2 ^ 32 → left < 2 ^ 32
-    → (bit_and left m == 0) && has_bits r left ≡ has_bits (without r m) left
+    → (bit_and left m == 0) && has_bits r left ≡ has_bits (without_bits r m) left
 deny_bits m r left p q s =
-    both_ways ((bit_and left m == 0) && has_bits r left) (has_bits (without r m) left)
+    both_ways ((bit_and left m == 0) && has_bits r left) (has_bits (without_bits r m) left)
     (λ is. (let two = and_parts (bit_and left m == 0) (has_bits r left) is in
-    to_has (without r m) left (λ i.
+    to_has (without_bits r m) left (λ i.
     (let none : bit_at (bit_and left m) i ≡ 0 = ap (λ n. bit_at n i) (eqb-true (bit_and left m) 0 two.0) ∙ bit_at-zero i in
     let d = bit_at_and left m i in let w = of_has r left two.1 i in let e = without_at r m q p i in
     let a = bit_at-lt left i in let b = bit_at-lt m i in let c = bit_at-lt r i in omega (arith, none, d, w, e, a, b, c)))))
     (λ has. and_from (bit_and left m == 0) (has_bits r left)
     (eq-eqb (bit_and left m) 0 (same_from_bits (bit_and left m) 0
-    (λ i. (let d = bit_at_and left m i in let w = of_has (without r m) left has i in
+    (λ i. (let d = bit_at_and left m i in let w = of_has (without_bits r m) left has i in
     let e = without_at r m q p i in let z = bit_at-zero i in
     let a = bit_at-lt left i in let b = bit_at-lt m i in let c = bit_at-lt r i in omega (arith, d, w, e, z, a, b, c)))))
-    (to_has r left (λ i. (let w = of_has (without r m) left has i in let e = without_at r m q p i in omega (arith, w, e)))))
+    (to_has r left (λ i. (let w = of_has (without_bits r m) left has i in let e = without_at r m q p i in omega (arith, w, e)))))
 
-pub fewer : (a b : ℕ) → a < 2 ^ 32 → without a b < 2 ^ 32
+pub fewer : (a b : ℕ) → a < 2 ^ 32 → without_bits a b < 2 ^ 32
 fewer a b p = (let le = and_le_l a (2 ^ 32 - 1 - b) in omega (arith, le, p))
 
 pub small : (aces : List Ace) → AreSmall aces → maximum aces < 2 ^ 32
@@ -99,7 +99,7 @@ passes_by_bits (ace ∷ aces) left all s =
     elim (cases_Bool ace.deny) [
       | inl is ↦ rw is (ap (λ b. (bit_and left ace.mask == 0) && b) (passes_by_bits aces left all.1 s)
           ∙ deny_bits ace.mask (maximum aces) left all.0 (small aces all.1) s)
-      | inr is ↦ rw is (passes_by_bits aces (without left ace.mask) all.1 (fewer left ace.mask s)
+      | inr is ↦ rw is (passes_by_bits aces (without_bits left ace.mask) all.1 (fewer left ace.mask s)
           ∙ allow_bits ace.mask (maximum aces) left all.0 s)
     ]
 

@@ -11,10 +11,9 @@ use Rattle.sec_desc.specs.declared.value.Ace.{Ace}
 use Rattle.sec_desc.specs.declared.value.Descriptor.{Descriptor}
 use Rattle.sec_desc.specs.declared.layout.Header.{Header}
 use Rattle.sec_desc.specs.declared.layout.AclHeader.{AclHeader}
-use Rattle.sec_desc.specs.Numbers.{has_bits}
-use Rattle.sec_desc.specs.Layout.{acl_body, acl_count, acl_header_of, header_of, is_acl, is_header}
+use Rattle.sec_desc.specs.Layout.{acl_body, acl_count, acl_header_of, descriptor_header, is_acl, is_header}
 use Rattle.sec_desc.specs.Reading.{◌>>=◌, aces_in, acl_at, described, part_at, parts_of, sid_at}
-use Rattle.sec_desc.specs.Writing.{IsAceValue, IsWritten, asked}
+use Rattle.sec_desc.specs.Writing.{IsAceValue, IsWritten, parts_asked}
 use Rattle.sec_desc.proofs.Back.{read_back}
 use Rattle.sec_desc.proofs.Bytes.{IsBytes, bytes_drop, bytes_take}
 use Rattle.sec_desc.proofs.Descriptors.{by_parts, is_described}
@@ -25,6 +24,7 @@ use Rattle.sec_check.proofs.Deciding.{still_small}
 use Rattle.sec_check.proofs.Forward.{anywhere, values_small}
 use Rattle.sec_check.specs.Laws.{AreSmall}
 use Rattle.sec_check.proofs.Masking.{all_bits, passes_by_bits}
+use Rattle.scm_text.specs.Numbers.{has_bits}
 
 -- ## Reading
 
@@ -37,9 +37,9 @@ untold : {A : Type 0} (b : Bool) (y : A) → None ≡ cond b (Some y) None → b
 untold true y e = absurd cc
 untold false y e = refl
 
-pub header_told : (bytes : List ℕ) (header : Header) → Some header ≡ cond (is_header bytes) (Some (header_of bytes)) None
-    → (is_header bytes ≡ true) × (header ≡ header_of bytes)
-header_told bytes header e = told (is_header bytes) header (header_of bytes) e
+pub header_told : (bytes : List ℕ) (header : Header) → Some header ≡ cond (is_header bytes) (Some (descriptor_header bytes)) None
+    → (is_header bytes ≡ true) × (header ≡ descriptor_header bytes)
+header_told bytes header e = told (is_header bytes) header (descriptor_header bytes) e
 
 pub acl_told : (bytes : List ℕ) (header : AclHeader) → Some header ≡ cond (is_acl bytes) (Some (acl_header_of bytes)) None
     → (is_acl bytes ≡ true) × (header ≡ acl_header_of bytes)
@@ -53,7 +53,7 @@ nothing_set (byte ∷ bytes) principal e = absurd (omega (arith, e))
 -- what is written is nothing, or is read
 readable : (bytes : List ℕ) → IsWritten bytes → (bytes ≡ []) ⊎ ((d : Descriptor) × (described bytes ≡ Ok d))
 readable bytes (inl e) = inl e
-readable bytes (inr w) = inr (asked w.0 w.1, ap described w.2 ∙ read_back w.0 w.1 w.3 w.4)
+readable bytes (inr w) = inr (parts_asked w.0 w.1, ap described w.2 ∙ read_back w.0 w.1 w.3 w.4)
 
 -- bytes that are written have a header
 headed : (bytes : List ℕ) → 0 < length bytes → (bytes ≡ []) ⊎ ((d : Descriptor) × (described bytes ≡ Ok d)) → is_header bytes ≡ true
@@ -61,12 +61,12 @@ headed bytes lt (inl e) = absurd (omega (arith, lt, ap length e))
 headed bytes lt (inr read) = (by_parts bytes read.0 read.1).0
 
 pub header_there : (bytes : List ℕ) → IsWritten bytes → false ≡ eqb (length bytes) 0
-    → None ≡ cond (is_header bytes) (Some (header_of bytes)) None → ⊥
+    → None ≡ cond (is_header bytes) (Some (descriptor_header bytes)) None → ⊥
 header_there bytes w some none =
     let apart : length bytes ≡ 0 → ⊥ = eqb-false (length bytes) 0 (sym some) in
     let lt : 0 < length bytes = omega (arith, apart) in
-    let wrong : None ≡ Some (header_of bytes) =
-    none ∙ ap (λ b. cond b (Some (header_of bytes)) None) (headed bytes lt (readable bytes w)) in
+    let wrong : None ≡ Some (descriptor_header bytes) =
+    none ∙ ap (λ b. cond b (Some (descriptor_header bytes)) None) (headed bytes lt (readable bytes w)) in
     absurd cc
 
 with_header : (bytes : List ℕ) → is_header bytes ≡ true → (bytes ≡ []) ⊎ ((d : Descriptor) × (described bytes ≡ Ok d))
@@ -74,11 +74,11 @@ with_header : (bytes : List ℕ) → is_header bytes ≡ true → (bytes ≡ [])
 with_header bytes is (inl e) = let wrong : is_header [] ≡ true = ap is_header (sym e) ∙ is in absurd cc
 with_header bytes is (inr read) = read
 
-list_part : (bytes : List ℕ) (d : Descriptor) → parts_of bytes (header_of bytes) ≡ Ok d
-    → part_at acl_at bytes (header_of bytes).list ≡ Ok d.list
+list_part : (bytes : List ℕ) (d : Descriptor) → parts_of bytes (descriptor_header bytes) ≡ Ok d
+    → part_at acl_at bytes (descriptor_header bytes).list ≡ Ok d.list
 unfolding parts_of
 list_part bytes d e =
-    let header = header_of bytes in
+    let header = descriptor_header bytes in
     let list = part_at acl_at bytes header.list in
     let owner = bind_ok (part_at sid_at bytes header.owner)
     (λ owner. part_at sid_at bytes header.group >>= λ group. list >>= λ list. Ok
@@ -99,7 +99,7 @@ pub record Listed (bytes : List ℕ) (offset : Option ℕ) : Type 0 where
   pub is : list_of bytes ≡ list
   pub read : part_at acl_at bytes offset ≡ Ok list
 
-pub listed : (bytes : List ℕ) (header : Header) → IsWritten bytes → is_header bytes ≡ true → header ≡ header_of bytes
+pub listed : (bytes : List ℕ) (header : Header) → IsWritten bytes → is_header bytes ≡ true → header ≡ descriptor_header bytes
     → Listed bytes header.list
 listed bytes header w is e =
     let read = with_header bytes is (readable bytes w) in
@@ -157,14 +157,14 @@ is_ok (Err place) aces e = absurd cc
 -- ## What the code has at hand
 
 pub without_list : (bytes : List ℕ) (header : Header) (principal : Principal) → IsWritten bytes
-    → Some header ≡ cond (is_header bytes) (Some (header_of bytes)) None → header.list ≡ None
+    → Some header ≡ cond (is_header bytes) (Some (descriptor_header bytes)) None → header.list ≡ None
     → 0xFFFFFFFF ≡ maximum_by (list_of bytes) principal
 without_list bytes header principal w e none =
     let h = header_told bytes header e in
     no_list bytes principal (subst (Listed bytes) none (listed bytes header w h.0 h.1))
 
 pub with_list : (bytes : List ℕ) (header : Header) (place : ℕ) → IsWritten bytes
-    → Some header ≡ cond (is_header bytes) (Some (header_of bytes)) None → header.list ≡ Some place → Entries bytes place
+    → Some header ≡ cond (is_header bytes) (Some (descriptor_header bytes)) None → header.list ≡ Some place → Entries bytes place
 with_list bytes header place w e some =
     let h = header_told bytes header e in
     entries_of bytes place (subst (Listed bytes) some (listed bytes header w h.0 h.1))

@@ -1,5 +1,5 @@
 -- What a list of entries allows a principal.
-use Rattle.std.specs.Prelude.{ℕ, Bool, ◌==◌, ◌&&◌, ◌||◌, ◌-◌, ◌^◌, List, [], ◌∷◌, Option, None, Some, Result, Ok, Err, bit_and, bit_or}
+use Rattle.std.specs.Prelude.{ℕ, Bool, ◌==◌, ◌&&◌, ◌||◌, List, [], ◌∷◌, Option, None, Some, Result, Ok, Err, bit_and, bit_or}
 use Rattle.std.specs.Prelude.{bytes_eq, filter, if◌then◌else◌}
 use Rattle.scm_model.specs.declared.codes.TheConstants.{MAXIMUM_ALLOWED}
 use Rattle.scm_model.specs.declared.flat.Principal.{Principal}
@@ -8,9 +8,9 @@ use Rattle.sec_desc.specs.declared.codes.TheConstants.{INHERIT_ONLY_ACE}
 use Rattle.sec_desc.specs.declared.value.Ace.{Ace}
 use Rattle.sec_desc.specs.declared.value.Descriptor.{Descriptor}
 use Rattle.sec_desc.specs.declared.value.Sid.{Sid}
-use Rattle.sec_desc.specs.Numbers.{has_bits}
 use Rattle.sec_desc.specs.Reading.{described}
 use Rattle.sec_check.specs.declared.checking.Decided.{Decided}
+use Rattle.scm_text.specs.Numbers.{has_bits, without_bits}
 
 -- ## Identities
 
@@ -43,18 +43,15 @@ counts principal ace = bit_and ace.flags INHERIT_ONLY_ACE == 0 && has_sid princi
 
 -- ## Entries that count, in order
 
-abbrev pub without : ℕ → ℕ → ℕ
-without mask bits = bit_and mask (2 ^ 32 - 1 - bits)
-
 -- the bits whose first entry is an allow
 unfoldable pub maximum : List Ace → ℕ
 maximum [] = 0
-maximum (ace ∷ aces) = if ace.deny then without (maximum aces) ace.mask else bit_or ace.mask (maximum aces)
+maximum (ace ∷ aces) = if ace.deny then without_bits (maximum aces) ace.mask else bit_or ace.mask (maximum aces)
 
 -- refused at the first deny that has a bit which no earlier allow gave, and if no allow gives a bit
 unfoldable pub passes : ℕ → List Ace → Bool
 passes left [] = left == 0
-passes left (ace ∷ aces) = if ace.deny then bit_and left ace.mask == 0 && passes left aces else passes (without left ace.mask) aces
+passes left (ace ∷ aces) = if ace.deny then bit_and left ace.mask == 0 && passes left aces else passes (without_bits left ace.mask) aces
 
 -- the bits that the entries allow the principal
 abbrev pub maximum_for : Principal → List Ace → ℕ
@@ -95,12 +92,12 @@ aces_of (Err place) = []
 -- ## How far entries have decided
 
 -- with an entry more, which decides those of its bits that no earlier entry had
-abbrev pub after : Decided → Bool → ℕ → Decided
-after so_far deny mask = record {
-  given = if deny then so_far.given else bit_or so_far.given (without mask so_far.known);
+abbrev pub decided_after : Decided → Bool → ℕ → Decided
+decided_after so_far deny mask = record {
+  given = if deny then so_far.given else bit_or so_far.given (without_bits mask so_far.known);
   known = bit_or so_far.known mask;
 }
 
 -- with an entry more, if it counts
 abbrev pub with_ace : Principal → Decided → Ace → Decided
-with_ace principal so_far ace = if counts principal ace then after so_far ace.deny ace.mask else so_far
+with_ace principal so_far ace = if counts principal ace then decided_after so_far ace.deny ace.mask else so_far

@@ -3,8 +3,8 @@ use Rattle.std.specs.Prelude.{ℕ, ◌≡◌, ◌==◌, ◌<◌, ◌^◌, Bool, 
 use Rattle.std.specs.Int.{bit_at}
 use Rattle.std.specs.List.{AllByRecursion}
 use Rattle.sec_desc.specs.declared.value.Ace.{Ace}
-use Rattle.sec_desc.specs.Numbers.{has_bits}
 use Rattle.sec_check.specs.Allowed.{maximum, passes}
+use Rattle.scm_text.specs.Numbers.{has_bits}
 
 -- the entries' masks have 32 bits
 abbrev pub AreSmall : List Ace → Type 0

@@ -2,7 +2,8 @@ ghost use Rattle.std.specs.Prelude.{◌≡◌, true, IsOk};
 ghost use Rattle.sec_desc.specs.Layout.{ace_header_of, ace_of, is_ace};
 ghost use Rattle.sec_desc.specs.Reading.{aces_in};
 ghost use Rattle.sec_desc.specs.Writing.{IsWritten};
-ghost use Rattle.sec_check.specs.Allowed.{aces_of, after, allowed_by, counts as ace_counts, list_of};
+ghost use Rattle.sec_check.specs.Allowed.{aces_of, decided_after, allowed_by, counts as ace_counts};
+ghost use Rattle.sec_check.specs.Allowed.{list_of};
 ghost use Rattle.sec_check.specs.Allowed.{maximum_by as maximum_of_list, maximum_for, with_ace};
 
 use crate::identities::has_sid;
@@ -23,7 +24,7 @@ struct Decided {
 impl Decided {
     /// With an entry more, which decides those of its bits that no earlier entry had.
     fn after(self, entry: &AceHeader) -> Decided
-        ensures { result ≡ after self entry.now.deny entry.now.mask }
+        ensures { result ≡ decided_after self entry.now.deny entry.now.mask }
     {
         let given = if entry.deny {
             self.given

@@ -8,17 +8,19 @@ use Rattle.std.proofs.lemmas.List.Elements.{recursion_from_All}
 use Rattle.sec_desc.specs.declared.value.Ace.{Ace}
 use Rattle.sec_desc.specs.declared.value.Sid.{Sid}
 use Rattle.sec_desc.specs.declared.value.Descriptor.{Descriptor}
-use Rattle.sec_desc.specs.Numbers.{bytes_16, bytes_32, has_bits}
+use Rattle.sec_desc.specs.Numbers.{bytes_16, bytes_32}
 use Rattle.sec_desc.specs.Reading.{described}
 use Rattle.sec_desc.specs.Writing.{IsAceValue, IsShort, IsSidValue, IsValue, IsWritable, IsWritableAcl, ace_bytes, ace_front, acl_bytes}
-use Rattle.sec_desc.specs.Writing.{acl_front, asked, control_for, descriptor_bytes, group_place, header_bytes, header_for, list_place}
+use Rattle.sec_desc.specs.Writing.{acl_front, parts_asked, control_for, descriptor_bytes, place_of_group, header_bytes, header_for}
+use Rattle.sec_desc.specs.Writing.{list_place}
 use Rattle.sec_desc.specs.Writing.{offset_of, part_bytes, part_if, part_size, sid_bytes, size_of_ace, size_of_aces, size_of_acl}
-use Rattle.sec_desc.specs.Writing.{size_of_sid, written}
+use Rattle.sec_desc.specs.Writing.{size_of_sid, packed}
 use Rattle.sec_desc.specs.Described.{AreAces, BeginsAcl, Describes, IsAce, IsAcl, IsPart, IsSid}
 use Rattle.sec_desc.proofs.Aces.{front_length}
 use Rattle.sec_desc.proofs.Descriptors.{described_again}
 use Rattle.sec_desc.proofs.Identities.{length_sid}
 use Rattle.sec_desc.proofs.Sizes.{few_aces}
+use Rattle.scm_text.specs.Numbers.{has_bits}
 
 -- ## Lists
 
@@ -169,44 +171,44 @@ module _ (d : Descriptor) (w : IsWritable d) (v : IsValue d) where
   abbrev l : List ℕ
   l = part_bytes acl_bytes d.list
 
-  whole : written d ≡ header_for d ++ (o ++ (g ++ l))
-  unfolding written
+  whole : packed d ≡ header_for d ++ (o ++ (g ++ l))
+  unfolding packed
   whole = append_assoc (header_for d ++ o) g l ∙ append_assoc (header_for d) o (g ++ l)
 
-  at_owner : drop 20 (written d) ≡ o ++ (g ++ l)
+  at_owner : drop 20 (packed d) ≡ o ++ (g ++ l)
   at_owner = ap (drop 20) whole ∙ drop_at (header_for d) (o ++ (g ++ l)) 20
-      (header_length (control_for d.list) (offset_of 20 d.owner) (offset_of (group_place d) d.group) 0 (offset_of (list_place d) d.list))
+      (header_length (control_for d.list) (offset_of 20 d.owner) (offset_of (place_of_group d) d.group) 0 (offset_of (list_place d) d.list))
 
-  at_group : drop (group_place d) (written d) ≡ g ++ l
+  at_group : drop (place_of_group d) (packed d) ≡ g ++ l
   at_group =
-      sym (drop-drop (part_size size_of_sid d.owner) 20 (written d)) ∙ ap (drop (part_size size_of_sid d.owner)) at_owner
+      sym (drop-drop (part_size size_of_sid d.owner) 20 (packed d)) ∙ ap (drop (part_size size_of_sid d.owner)) at_owner
       ∙ drop_at o (g ++ l) (part_size size_of_sid d.owner) (sid_part_length d.owner owner_fit)
 
-  at_list : drop (list_place d) (written d) ≡ l ++ []
+  at_list : drop (list_place d) (packed d) ≡ l ++ []
   at_list =
-      sym (drop-drop (part_size size_of_sid d.group) (group_place d) (written d)) ∙ ap (drop (part_size size_of_sid d.group)) at_group
+      sym (drop-drop (part_size size_of_sid d.group) (place_of_group d) (packed d)) ∙ ap (drop (part_size size_of_sid d.group)) at_group
       ∙ drop_at g l (part_size size_of_sid d.group) (sid_part_length d.group group_fit) ∙ sym (append-nil l)
 
-  is_described : Describes (written d) d
+  is_described : Describes (packed d) d
   is_described =
       let small_owner = sid_part_small d.owner owner_fit in
       let small_group = sid_part_small d.group group_fit in
       record {
         control = control_for d.list;
         owner = offset_of 20 d.owner;
-        group = offset_of (group_place d) d.group;
+        group = offset_of (place_of_group d) d.group;
         audit = 0;
         list = offset_of (list_place d) d.list;
         header = record { rest = o ++ (g ++ l); parts = whole };
         control_fits = control_small d.list;
         owner_fits = offset_small 20 d.owner (omega arith);
-        group_fits = offset_small (group_place d) d.group (omega arith);
+        group_fits = offset_small (place_of_group d) d.group (omega arith);
         list_fits = offset_small (list_place d) d.list (omega arith);
         self_relative = self_relative d.list;
-        owner_is = part_there sid_bytes IsSid IsSidFit sid_there (written d) 20 d.owner (g ++ l) (omega arith) owner_fit at_owner;
-        group_is = part_there sid_bytes IsSid IsSidFit sid_there (written d) (group_place d) d.group l (omega arith) group_fit at_group;
-        list_is = subst (λ n. IsPart BeginsAcl (written d) n d.list) (sym (list_counts d.list (list_place d)))
-            (part_there acl_bytes BeginsAcl IsAclFit acl_there (written d) (list_place d) d.list [] (omega arith) list_fit at_list);
+        owner_is = part_there sid_bytes IsSid IsSidFit sid_there (packed d) 20 d.owner (g ++ l) (omega arith) owner_fit at_owner;
+        group_is = part_there sid_bytes IsSid IsSidFit sid_there (packed d) (place_of_group d) d.group l (omega arith) group_fit at_group;
+        list_is = subst (λ n. IsPart BeginsAcl (packed d) n d.list) (sym (list_counts d.list (list_place d)))
+            (part_there acl_bytes BeginsAcl IsAclFit acl_there (packed d) (list_place d) d.list [] (omega arith) list_fit at_list);
       }
 
 -- of what has a written form, so have the parts that are asked for
@@ -214,10 +216,10 @@ if_asked : {A : Type 0} (P : A → Type 0) (b : Bool) (part : Option A) → IfSo
 if_asked P true part h = h
 if_asked P false part h = tt
 
-pub read_back : (d : Descriptor) (parts : ℕ) → IsWritable d → IsValue d → described (descriptor_bytes d parts) ≡ Ok (asked d parts)
+pub read_back : (d : Descriptor) (parts : ℕ) → IsWritable d → IsValue d → described (descriptor_bytes d parts) ≡ Ok (parts_asked d parts)
 read_back d parts w v =
-    let some = asked d parts in
-    described_again (written some) some (is_described some
+    let some = parts_asked d parts in
+    described_again (packed some) some (is_described some
     (record {
       owner = if_asked IsShort (has_bits parts 1) d.owner w.owner;
       group = if_asked IsShort (has_bits parts 2) d.group w.group;

@@ -6,7 +6,7 @@ use Rattle.std.proofs.lemmas.Bool.{cases_lt}
 use Rattle.std.proofs.lemmas.List.{drop_at, length-drop, length-take, get_or-drop, get_or-take, get_or_past}
 use Rattle.std.proofs.lemmas.Nat.{le_bytes_2, le_bytes_4, from_le_bytes-to_le_bytes_2, from_le_bytes-to_le_bytes_4}
 use Rattle.std.proofs.Math.Seq.{take-add}
-use Rattle.sec_desc.specs.Numbers.{number_16, number_32, numbers, bytes_16, bytes_32}
+use Rattle.sec_desc.specs.Numbers.{number_16, number_32, numbers_32, bytes_16, bytes_32}
 
 abbrev pub IsBytes : List ℕ → Type 0
 IsBytes bytes = (i : ℕ) → get_or bytes i 0 < 256
@@ -57,27 +57,27 @@ length_32 n = refl
 
 -- ## Lists of numbers
 
-pub numbers_length : (n : ℕ) (bytes : List ℕ) → length (numbers n bytes) ≡ n
-unfolding numbers
+pub numbers_length : (n : ℕ) (bytes : List ℕ) → length (numbers_32 n bytes) ≡ n
+unfolding numbers_32
 numbers_length zero bytes = refl
 numbers_length (suc n) bytes = ap suc (numbers_length n (drop 4 bytes))
 
-pub numbers_small : (n : ℕ) (bytes : List ℕ) → IsBytes bytes → AllByRecursion (λ part. part < 2 ^ 32) (numbers n bytes)
-unfolding numbers
+pub numbers_small : (n : ℕ) (bytes : List ℕ) → IsBytes bytes → AllByRecursion (λ part. part < 2 ^ 32) (numbers_32 n bytes)
+unfolding numbers_32
 numbers_small zero bytes fits = tt
 numbers_small (suc n) bytes fits = (small_32 bytes fits, numbers_small n (drop 4 bytes) (bytes_drop 4 bytes fits))
 
 pub numbers_bytes : (n : ℕ) (bytes : List ℕ) → IsBytes bytes → 4 * n ≤ length bytes
-    → flat_map bytes_32 (numbers n bytes) ≡ take (4 * n) bytes
-unfolding numbers
+    → flat_map bytes_32 (numbers_32 n bytes) ≡ take (4 * n) bytes
+unfolding numbers_32
 numbers_bytes zero bytes fits le = refl
 numbers_bytes (suc n) bytes fits le =
-    let others : flat_map bytes_32 (numbers n (drop 4 bytes)) ≡ take (4 * n) (drop 4 bytes) =
+    let others : flat_map bytes_32 (numbers_32 n (drop 4 bytes)) ≡ take (4 * n) (drop 4 bytes) =
     numbers_bytes n (drop 4 bytes) (bytes_drop 4 bytes fits) (omega (arith, length-drop 4 bytes)) in
     let first : bytes_32 (number_32 bytes) ≡ take 4 bytes = read_32 bytes fits (omega arith) in
     let both : take (4 + 4 * n) bytes ≡ take 4 bytes ++ take (4 * n) (drop 4 bytes) = take-add 4 (4 * n) bytes in
     let count : 4 + 4 * n ≡ 4 * suc n = omega arith in
-    ap (λ (l : List ℕ). l ++ flat_map bytes_32 (numbers n (drop 4 bytes))) first ∙ ap (λ (l : List ℕ). take 4 bytes ++ l) others
+    ap (λ (l : List ℕ). l ++ flat_map bytes_32 (numbers_32 n (drop 4 bytes))) first ∙ ap (λ (l : List ℕ). take 4 bytes ++ l) others
     ∙ sym both ∙ ap (λ (k : ℕ). take k bytes) count
 
 pub length_numbers : (parts : List ℕ) → length (flat_map bytes_32 parts) ≡ 4 * length parts
@@ -86,8 +86,8 @@ length_numbers (part ∷ parts) = let rest = length_numbers parts in
     omega (arith, length-append (bytes_32 part) (flat_map bytes_32 parts), length_32 part)
 
 pub numbers_again : (parts rest : List ℕ) → AllByRecursion (λ part. part < 2 ^ 32) parts
-    → numbers (length parts) (flat_map bytes_32 parts ++ rest) ≡ parts
-unfolding numbers
+    → numbers_32 (length parts) (flat_map bytes_32 parts ++ rest) ≡ parts
+unfolding numbers_32
 numbers_again [] rest small = refl
 numbers_again (part ∷ parts) rest small =
     let regrouped : flat_map bytes_32 (part ∷ parts) ++ rest ≡ bytes_32 part ++ (flat_map bytes_32 parts ++ rest) =
@@ -96,5 +96,5 @@ numbers_again (part ∷ parts) rest small =
     ap number_32 regrouped ∙ again_32 part (flat_map bytes_32 parts ++ rest) small.0 in
     let behind : drop 4 (flat_map bytes_32 (part ∷ parts) ++ rest) ≡ flat_map bytes_32 parts ++ rest =
     ap (λ (l : List ℕ). drop 4 l) regrouped ∙ drop_at (bytes_32 part) (flat_map bytes_32 parts ++ rest) 4 (length_32 part) in
-    ap (λ (v : ℕ). v ∷ numbers (length parts) (drop 4 (flat_map bytes_32 (part ∷ parts) ++ rest))) first
-    ∙ ap (λ (l : List ℕ). part ∷ l) (ap (numbers (length parts)) behind ∙ numbers_again parts rest small.1)
+    ap (λ (v : ℕ). v ∷ numbers_32 (length parts) (drop 4 (flat_map bytes_32 (part ∷ parts) ++ rest))) first
+    ∙ ap (λ (l : List ℕ). part ∷ l) (ap (numbers_32 (length parts)) behind ∙ numbers_again parts rest small.1)

@@ -10,14 +10,15 @@ use Rattle.sec_desc.specs.declared.value.Ace.{Ace}
 use Rattle.sec_desc.specs.declared.value.Sid.{Sid}
 use Rattle.sec_desc.specs.declared.value.Descriptor.{Descriptor}
 use Rattle.sec_desc.specs.declared.layout.Header.{Header}
-use Rattle.sec_desc.specs.Numbers.{bytes_16, bytes_32, has_bits, number_16, number_32}
-use Rattle.sec_desc.specs.Layout.{control_of, header_of, is_header, is_sid, list_offset, offset, sid_of}
+use Rattle.sec_desc.specs.Numbers.{bytes_16, bytes_32, number_16, number_32}
+use Rattle.sec_desc.specs.Layout.{control_bits, descriptor_header, is_header, is_sid, list_offset, offset, sid_of}
 use Rattle.sec_desc.specs.Reading.{◌>>=◌, acl_at, described, header_in, part_at, parts_of, sid_at}
 use Rattle.sec_desc.specs.Writing.{header_bytes}
 use Rattle.sec_desc.specs.Described.{BeginsAcl, Describes, IsPart, IsSid}
 use Rattle.sec_desc.proofs.Bytes.{IsBytes, bytes_drop, read_16, read_32, small_16, small_32}
 use Rattle.sec_desc.proofs.Identities.{sid_again, sid_read}
 use Rattle.sec_desc.proofs.Lists.{acl_again, acl_read, bind_ok, ok_is, passed}
+use Rattle.scm_text.specs.Numbers.{has_bits}
 
 -- ## The header
 
@@ -25,14 +26,14 @@ pub record HeaderTest (bytes : List ℕ) : Type 0 where
   pub long : 20 ≤ length bytes
   pub revision : slice_index bytes 0 ≡ 1
   pub none : slice_index bytes 1 ≡ 0
-  pub self_relative : has_bits (control_of bytes) 0x8000 ≡ true
+  pub self_relative : has_bits (control_bits bytes) 0x8000 ≡ true
 
 header_test : (bytes : List ℕ) → is_header bytes ≡ true → HeaderTest bytes
 header_test bytes e =
     let a = nat_le 20 (length bytes) in
     let b = slice_index bytes 0 == 1 in
     let c = slice_index bytes 1 == 0 in
-    let last = and_parts (a && b && c) (has_bits (control_of bytes) 0x8000) e in
+    let last = and_parts (a && b && c) (has_bits (control_bits bytes) 0x8000) e in
     let third = and_parts (a && b) c last.0 in
     let second = and_parts a b third.0 in
     record {
@@ -47,7 +48,7 @@ header_tested bytes t =
     let a = nat_le 20 (length bytes) in
     let b = slice_index bytes 0 == 1 in
     let c = slice_index bytes 1 == 0 in
-    and_from (a && b && c) (has_bits (control_of bytes) 0x8000)
+    and_from (a && b && c) (has_bits (control_bits bytes) 0x8000)
     (and_from (a && b) c (and_from a b (le-leb 20 (length bytes) t.long) (eq-eqb (slice_index bytes 0) 1 t.revision))
     (eq-eqb (slice_index bytes 1) 0 t.none))
     t.self_relative
@@ -124,14 +125,14 @@ list_offset_is false n = refl
 -- ## All of it
 
 found : (first second : ℕ) (tail : List ℕ) (d : Descriptor) → IsBytes (first ∷ second ∷ tail) → is_header (first ∷ second ∷ tail) ≡ true
-    → parts_of (first ∷ second ∷ tail) (header_of (first ∷ second ∷ tail)) ≡ Ok d
+    → parts_of (first ∷ second ∷ tail) (descriptor_header (first ∷ second ∷ tail)) ≡ Ok d
     → Describes (first ∷ second ∷ tail) d
 unfolding parts_of
 found first second tail d fits is e =
     let bytes = first ∷ second ∷ tail in
     let tail_fits : IsBytes tail = bytes_drop 2 bytes fits in
     let t = header_test bytes is in
-    let header = header_of bytes in
+    let header = descriptor_header bytes in
     let list_at_header = part_at acl_at bytes header.list in
     let owner = bind_ok (part_at sid_at bytes header.owner)
     (λ owner. part_at sid_at bytes header.group >>= λ group. list_at_header >>= λ list. Ok
@@ -164,12 +165,12 @@ found first second tail d fits is e =
     })
 
 pub by_parts : (bytes : List ℕ) (d : Descriptor) → described bytes ≡ Ok d
-    → (is_header bytes ≡ true) × (parts_of bytes (header_of bytes) ≡ Ok d)
+    → (is_header bytes ≡ true) × (parts_of bytes (descriptor_header bytes) ≡ Ok d)
 unfolding described header_in
 by_parts bytes d e =
     let first = bind_ok (header_in bytes) (parts_of bytes) d e in
-    let is = passed (is_header bytes) 0 (Ok (header_of bytes)) first.0 first.1 in
-    (is.0, ap (parts_of bytes) (ok_is (header_of bytes) first.0 is.1) ∙ first.2)
+    let is = passed (is_header bytes) 0 (Ok (descriptor_header bytes)) first.0 first.1 in
+    (is.0, ap (parts_of bytes) (ok_is (descriptor_header bytes) first.0 is.1) ∙ first.2)
 
 pub is_described : (bytes : List ℕ) (d : Descriptor) → IsBytes bytes → described bytes ≡ Ok d → Describes bytes d
 is_described [] d fits e = let p = by_parts [] d e in absurd cc
@@ -186,7 +187,7 @@ module _ (control owner group audit list : ℕ) (rest : List ℕ) (c : control <
   abbrev all : List ℕ
   all = header_bytes control owner group audit list ++ rest
 
-  control_again : control_of all ≡ control
+  control_again : control_bits all ≡ control
   unfolding header_bytes bytes_16 bytes_32 number_16
   control_again = from_le_bytes-to_le_bytes_2 control c
 
@@ -224,12 +225,12 @@ module _ (control owner group audit list : ℕ) (rest : List ℕ) (c : control <
             ap (λ n. has_bits n 0x8000) control_again ∙ self;
       })
 
-  header_again : header_of all ≡ header_made (offset owner) (offset group) (list_offset control list)
+  header_again : descriptor_header all ≡ header_made (offset owner) (offset group) (list_offset control list)
   unfolding header_made
   header_again =
       ap (λ n. header_made (offset n) (offset (number_32 (drop 8 all)))
-      (list_offset (control_of all) (number_32 (drop 16 all)))) owner_again
-      ∙ ap (λ n. header_made (offset owner) (offset n) (list_offset (control_of all) (number_32 (drop 16 all)))) group_again
+      (list_offset (control_bits all) (number_32 (drop 16 all)))) owner_again
+      ∙ ap (λ n. header_made (offset owner) (offset n) (list_offset (control_bits all) (number_32 (drop 16 all)))) group_again
       ∙ ap (λ n. header_made (offset owner) (offset group) (list_offset n (number_32 (drop 16 all)))) control_again
       ∙ ap (λ n. header_made (offset owner) (offset group) (list_offset control n)) list_again
 
@@ -247,8 +248,8 @@ described_again bytes d h =
     ap is_header e
     ∙ is_again h.control h.owner h.group h.audit h.list h.header.rest h.control_fits h.owner_fits h.group_fits h.list_fits
     h.self_relative in
-    let header : header_of bytes ≡ header_made (offset h.owner) (offset h.group) (list_offset h.control h.list) =
-    ap header_of e
+    let header : descriptor_header bytes ≡ header_made (offset h.owner) (offset h.group) (list_offset h.control h.list) =
+    ap descriptor_header e
     ∙ header_again h.control h.owner h.group h.audit h.list h.header.rest h.control_fits h.owner_fits h.group_fits h.list_fits in
     let owner = part_again sid_at IsSid bytes (sid_at_again bytes) h.owner d.owner h.owner_is in
     let group = part_again sid_at IsSid bytes (sid_at_again bytes) h.group d.group h.group_is in
@@ -256,4 +257,4 @@ described_again bytes d h =
     ap (part_at acl_at bytes) (list_offset_is (has_bits h.control 4) h.list)
     ∙ part_again acl_at BeginsAcl bytes (acl_at_again bytes) (cond (has_bits h.control 4) h.list 0) d.list h.list_is in
     let parts = parts_again bytes d (offset h.owner) (offset h.group) (list_offset h.control h.list) owner group list in
-    ap (λ b. cond b (Ok (header_of bytes)) (Err 0) >>= parts_of bytes) is ∙ ap (parts_of bytes) header ∙ parts
+    ap (λ b. cond b (Ok (descriptor_header bytes)) (Err 0) >>= parts_of bytes) is ∙ ap (parts_of bytes) header ∙ parts

@@ -7,8 +7,8 @@ use Rattle.std.proofs.lemmas.List.Elements.{All-from_recursion}
 use Rattle.sec_desc.specs.declared.value.Ace.{Ace}
 use Rattle.sec_desc.specs.declared.value.Descriptor.{Descriptor}
 use Rattle.sec_desc.specs.declared.value.DescFault.{DescFault}
-use Rattle.sec_desc.specs.Numbers.{bytes_16, has_bits}
-use Rattle.sec_desc.specs.Reading.{Tells, described}
+use Rattle.sec_desc.specs.Numbers.{bytes_16}
+use Rattle.sec_desc.specs.Reading.{ReadsAs, described}
 use Rattle.sec_desc.specs.Writing.{IsAceValue, IsShort, IsSidValue, IsValue, IsWritable, IsWritableAcl, ace_front, sid_bytes, size_of_ace}
 use Rattle.sec_desc.specs.Writing.{size_of_aces}
 use Rattle.sec_desc.specs.Described.{AreAces, BeginsAcl, Describes, IsAce, IsAcl, IsPart, IsSid}
@@ -16,6 +16,7 @@ use Rattle.sec_desc.proofs.Aces.{front_length}
 use Rattle.sec_desc.proofs.Bytes.{IsBytes}
 use Rattle.sec_desc.proofs.Descriptors.{is_described}
 use Rattle.sec_desc.proofs.Identities.{length_sid}
+use Rattle.scm_text.specs.Numbers.{has_bits}
 
 -- an entry has the bytes of its written form and more
 size_within : (entry : List ℕ) (ace : Ace) → IsAce entry ace → size_of_ace ace ≤ length entry
@@ -85,12 +86,12 @@ can_be_written bytes d h =
 
 -- ## What a reader returns
 
-pub told_found : (bytes : List ℕ) (result : Result Descriptor DescFault) → IsBytes bytes → Tells (λ d. d) result (described bytes)
+pub told_found : (bytes : List ℕ) (result : Result Descriptor DescFault) → IsBytes bytes → ReadsAs (λ d. d) result (described bytes)
     → IfOk result (λ d. Describes bytes d)
 told_found bytes (Ok d) fits e = is_described bytes d fits e
 told_found bytes (Err fault) fits e = tt
 
-pub told_writable : (bytes : List ℕ) (result : Result Descriptor DescFault) → IsBytes bytes → Tells (λ d. d) result (described bytes)
+pub told_writable : (bytes : List ℕ) (result : Result Descriptor DescFault) → IsBytes bytes → ReadsAs (λ d. d) result (described bytes)
     → IfOk result (λ d. IsWritable d × IsValue d)
 told_writable bytes (Ok d) fits e = can_be_written bytes d (is_described bytes d fits e)
 told_writable bytes (Err fault) fits e = tt

@@ -8,7 +8,7 @@ use Rattle.std.proofs.lemmas.List.{drop_at, take_at, take-append-drop, length-dr
 use Rattle.std.proofs.lemmas.List.Elements.{All-from_recursion, recursion_from_All}
 use Rattle.std.proofs.Math.Seq.{take-add}
 use Rattle.sec_desc.specs.declared.value.Sid.{Sid}
-use Rattle.sec_desc.specs.Numbers.{bytes_32, numbers}
+use Rattle.sec_desc.specs.Numbers.{bytes_32, numbers_32}
 use Rattle.sec_desc.specs.Layout.{is_sid, sid_of, sid_size}
 use Rattle.sec_desc.specs.Writing.{sid_bytes}
 use Rattle.sec_desc.specs.Described.{IsSid}
@@ -53,8 +53,8 @@ sid_front : (first count : ℕ) (tail : List ℕ) → IsBytes tail → first ≡
     → sid_bytes (sid_of (first ∷ count ∷ tail)) ≡ first ∷ count ∷ take (6 + 4 * count) tail
 unfolding sid_bytes
 sid_front first count tail fits one le =
-    let counted : length (numbers count (drop 6 tail)) ≡ count = numbers_length count (drop 6 tail) in
-    let parts : flat_map bytes_32 (numbers count (drop 6 tail)) ≡ take (4 * count) (drop 6 tail) =
+    let counted : length (numbers_32 count (drop 6 tail)) ≡ count = numbers_length count (drop 6 tail) in
+    let parts : flat_map bytes_32 (numbers_32 count (drop 6 tail)) ≡ take (4 * count) (drop 6 tail) =
     numbers_bytes count (drop 6 tail) (bytes_drop 6 tail fits) (omega (arith, length-drop 6 tail)) in
     let cut : take (6 + 4 * count) tail ≡ take 6 tail ++ take (4 * count) (drop 6 tail) = take-add 6 (4 * count) tail in
     rw (counted, parts, cut, one) refl
@@ -75,7 +75,7 @@ sid_read (first ∷ count ∷ tail) fits e =
       };
       value = record {
         authority = omega (arith, length-take 6 tail, t.whole);
-        parts = All-from_recursion (λ part. part < 2 ^ 32) (numbers count (drop 6 tail))
+        parts = All-from_recursion (λ part. part < 2 ^ 32) (numbers_32 count (drop 6 tail))
             (numbers_small count (drop 6 tail) (bytes_drop 6 tail tail_fits));
       };
       short = omega (arith, numbers_length count (drop 6 tail), t.count);
@@ -103,14 +103,14 @@ again_of sid rest h =
     let authority : take 6 ((sid.authority ++ flat) ++ rest) ≡ sid.authority =
     ap (take 6) assoc ∙ take_at sid.authority (flat ++ rest) 6 six in
     let behind : drop 6 ((sid.authority ++ flat) ++ rest) ≡ flat ++ rest = ap (drop 6) assoc ∙ drop_at sid.authority (flat ++ rest) 6 six in
-    let parts : numbers (length sid.parts) (drop 6 ((sid.authority ++ flat) ++ rest)) ≡ sid.parts =
-    ap (numbers (length sid.parts)) behind
+    let parts : numbers_32 (length sid.parts) (drop 6 ((sid.authority ++ flat) ++ rest)) ≡ sid.parts =
+    ap (numbers_32 (length sid.parts)) behind
     ∙ numbers_again sid.parts rest (recursion_from_All (λ part. part < 2 ^ 32) sid.parts h.value.parts) in
     let size : length ((sid.authority ++ flat) ++ rest) ≡ 6 + 4 * length sid.parts + length rest =
     omega (arith, six, length_numbers sid.parts, length-append sid.authority flat, length-append (sid.authority ++ flat) rest) in
     record {
       is = sid_tested bytes (record { long = omega (arith, size); revision = refl; count = h.short; whole = omega (arith, size) });
-      value = ap (λ a. sid_made a (numbers (length sid.parts) (drop 6 ((sid.authority ++ flat) ++ rest)))) authority
+      value = ap (λ a. sid_made a (numbers_32 (length sid.parts) (drop 6 ((sid.authority ++ flat) ++ rest)))) authority
           ∙ ap (sid_made sid.authority) parts;
     }
 

@@ -4,8 +4,9 @@ use Rattle.sec_desc.specs.declared.codes.TheConstants.{ACL_REVISION, ACL_REVISIO
 use Rattle.sec_desc.specs.declared.value.Ace.{Ace}
 use Rattle.sec_desc.specs.declared.value.Sid.{Sid}
 use Rattle.sec_desc.specs.declared.value.Descriptor.{Descriptor}
-use Rattle.sec_desc.specs.Numbers.{bytes_16, has_bits}
+use Rattle.sec_desc.specs.Numbers.{bytes_16}
 use Rattle.sec_desc.specs.Writing.{IsAceValue, IsShort, IsSidValue, ace_front, header_bytes, sid_bytes}
+use Rattle.scm_text.specs.Numbers.{has_bits}
 
 -- an item stands at the front of the bytes
 pub record Begins (bytes item : List ℕ) : Type 0 where

@@ -5,7 +5,7 @@ use Rattle.sec_desc.specs.declared.value.Sid.{Sid}
 use Rattle.sec_desc.specs.declared.value.Descriptor.{Descriptor}
 use Rattle.sec_desc.specs.Described.{BeginsAce, BeginsAcl, Describes, IsSid}
 use Rattle.sec_desc.specs.Reading.{ace_in, acl_at, described, sid_at}
-use Rattle.sec_desc.specs.Writing.{asked, descriptor_bytes}
+use Rattle.sec_desc.specs.Writing.{parts_asked, descriptor_bytes}
 
 -- an item is read at a place if, and only if, it stands there; else the place is the fault
 
@@ -18,9 +18,9 @@ AreExactAcls bytes = (place : ℕ) (aces : List Ace) → (acl_at bytes place ≡
 abbrev pub AreExactAces : List ℕ → Type 0
 AreExactAces bytes = (place : ℕ) (ace : Ace) (size : ℕ) → (ace_in place bytes ≡ Ok (ace, size)) ↔ BeginsAce bytes ace size
 
-abbrev pub IsExact : List ℕ → Type 0
-IsExact bytes = (d : Descriptor) → (described bytes ≡ Ok d) ↔ Describes bytes d
+abbrev pub IsReadExactly : List ℕ → Type 0
+IsReadExactly bytes = (d : Descriptor) → (described bytes ≡ Ok d) ↔ Describes bytes d
 
 -- what is written is read as the parts that were asked for
 abbrev pub IsReadBack : Descriptor → ℕ → Type 0
-IsReadBack d parts = described (descriptor_bytes d parts) ≡ Ok (asked d parts)
+IsReadBack d parts = described (descriptor_bytes d parts) ≡ Ok (parts_asked d parts)

@@ -8,17 +8,18 @@ use Rattle.sec_desc.specs.declared.value.Sid.{Sid}
 use Rattle.sec_desc.specs.declared.layout.AceHeader.{AceHeader}
 use Rattle.sec_desc.specs.declared.layout.AclHeader.{AclHeader}
 use Rattle.sec_desc.specs.declared.layout.Header.{Header}
-use Rattle.sec_desc.specs.Numbers.{has_bits, number_16, number_32, numbers}
+use Rattle.sec_desc.specs.Numbers.{number_16, number_32, numbers_32}
+use Rattle.scm_text.specs.Numbers.{has_bits}
 
 -- ## A descriptor: revision, a zero byte, control, and the offsets of owner, group, auditing list and list
 
-abbrev pub control_of : List ℕ → ℕ
-control_of bytes = number_16 (drop 2 bytes)
+abbrev pub control_bits : List ℕ → ℕ
+control_bits bytes = number_16 (drop 2 bytes)
 
 abbrev pub is_header : List ℕ → Bool
 is_header bytes =
     nat_le 20 (length bytes) && slice_index bytes 0 == SECURITY_DESCRIPTOR_REVISION && slice_index bytes 1 == 0
-    && has_bits (control_of bytes) SE_SELF_RELATIVE
+    && has_bits (control_bits bytes) SE_SELF_RELATIVE
 
 -- an offset of 0 is none
 abbrev pub offset : ℕ → Option ℕ
@@ -28,11 +29,11 @@ offset n = if n == 0 then None else Some n
 abbrev pub list_offset : ℕ → ℕ → Option ℕ
 list_offset control n = if has_bits control SE_DACL_PRESENT then offset n else None
 
-abbrev pub header_of : List ℕ → Header
-header_of bytes = record {
+abbrev pub descriptor_header : List ℕ → Header
+descriptor_header bytes = record {
   owner = offset (number_32 (drop 4 bytes));
   group = offset (number_32 (drop 8 bytes));
-  list = list_offset (control_of bytes) (number_32 (drop 16 bytes));
+  list = list_offset (control_bits bytes) (number_32 (drop 16 bytes));
 }
 
 -- ## An identity: revision, how many parts, six bytes of authority, and the parts
@@ -47,7 +48,7 @@ is_sid bytes =
     && nat_le (sid_size (slice_index bytes 1)) (length bytes)
 
 abbrev pub sid_of : List ℕ → Sid
-sid_of bytes = record { authority = take 6 (drop 2 bytes); parts = numbers (slice_index bytes 1) (drop 8 bytes) }
+sid_of bytes = record { authority = take 6 (drop 2 bytes); parts = numbers_32 (slice_index bytes 1) (drop 8 bytes) }
 
 -- ## An entry: type, flags, size, mask, and an identity within the size
 

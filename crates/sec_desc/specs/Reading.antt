@@ -6,7 +6,7 @@ use Rattle.sec_desc.specs.declared.value.Descriptor.{Descriptor}
 use Rattle.sec_desc.specs.declared.value.DescFault.{DescFault}
 use Rattle.sec_desc.specs.declared.value.DescFault.TheVariants.{Bad, OutOfMemory}
 use Rattle.sec_desc.specs.declared.layout.Header.{Header}
-use Rattle.sec_desc.specs.Layout.{ace_of, ace_size, acl_body, acl_count, header_of, is_ace, is_acl, is_header, is_sid, sid_of}
+use Rattle.sec_desc.specs.Layout.{ace_of, ace_size, acl_body, acl_count, descriptor_header, is_ace, is_acl, is_header, is_sid, sid_of}
 
 infixl 10 ◌>>=◌
 abbrev pub ◌>>=◌ : {A B : Type 0} → Result A ℕ → (A → Result B ℕ) → Result B ℕ
@@ -14,7 +14,7 @@ abbrev pub ◌>>=◌ : {A B : Type 0} → Result A ℕ → (A → Result B ℕ) 
 (Err place) >>= f = Err place
 
 unfoldable pub header_in : List ℕ → Result Header ℕ
-header_in bytes = if is_header bytes then Ok (header_of bytes) else Err 0
+header_in bytes = if is_header bytes then Ok (descriptor_header bytes) else Err 0
 
 unfoldable pub sid_at : List ℕ → ℕ → Result Sid ℕ
 sid_at bytes place = if is_sid (drop place bytes) then Ok (sid_of (drop place bytes)) else Err place
@@ -54,15 +54,15 @@ unfoldable pub described : List ℕ → Result Descriptor ℕ
 described bytes = header_in bytes >>= parts_of bytes
 
 -- the same after what was read before
-abbrev pub with_front : {A : Type 0} → List A → Result (List A) ℕ → Result (List A) ℕ
-with_front front read = read >>= λ others. Ok (front ++ others)
+abbrev pub onto_front : {A : Type 0} → List A → Result (List A) ℕ → Result (List A) ℕ
+onto_front front read = read >>= λ others. Ok (front ++ others)
 
 -- the fault that reading meets, unless memory ran out
-abbrev pub Fails : {Y : Type 0} → DescFault → Result Y ℕ → Type 0
-Fails (Bad place) read = read ≡ Err place
-Fails OutOfMemory read = Unit {0}
+abbrev pub FailsAt : {Y : Type 0} → DescFault → Result Y ℕ → Type 0
+FailsAt (Bad place) read = read ≡ Err place
+FailsAt OutOfMemory read = Unit {0}
 
 -- what a function returned is what reading gives, unless memory ran out
-abbrev pub Tells : {X Y : Type 0} → (X → Y) → Result X DescFault → Result Y ℕ → Type 0
-Tells view (Ok x) read = read ≡ Ok (view x)
-Tells view (Err fault) read = Fails fault read
+abbrev pub ReadsAs : {X Y : Type 0} → (X → Y) → Result X DescFault → Result Y ℕ → Type 0
+ReadsAs view (Ok x) read = read ≡ Ok (view x)
+ReadsAs view (Err fault) read = FailsAt fault read

@@ -11,8 +11,9 @@ use Rattle.sec_desc.specs.declared.value.Ace.{Ace}
 use Rattle.sec_desc.specs.declared.value.Sid.{Sid}
 use Rattle.sec_desc.specs.declared.value.Descriptor.{Descriptor}
 use Rattle.sec_desc.specs.declared.writing.Parts.{Parts}
-use Rattle.sec_desc.specs.Numbers.{bytes_16, bytes_32, has_bits}
+use Rattle.sec_desc.specs.Numbers.{bytes_16, bytes_32}
 use Rattle.sec_desc.specs.Layout.{sid_size}
+use Rattle.scm_text.specs.Numbers.{has_bits}
 
 -- ## Identities, entries and lists
 
@@ -75,33 +76,33 @@ abbrev pub control_for : Option (List Ace) → ℕ
 control_for None = SE_SELF_RELATIVE
 control_for (Some aces) = SE_SELF_RELATIVE + SE_DACL_PRESENT
 
-abbrev pub group_place : Descriptor → ℕ
-group_place d = 20 + part_size size_of_sid d.owner
+abbrev pub place_of_group : Descriptor → ℕ
+place_of_group d = 20 + part_size size_of_sid d.owner
 
 abbrev pub list_place : Descriptor → ℕ
-list_place d = group_place d + part_size size_of_sid d.group
+list_place d = place_of_group d + part_size size_of_sid d.group
 
 abbrev pub header_for : Descriptor → List ℕ
 header_for d =
-    header_bytes (control_for d.list) (offset_of 20 d.owner) (offset_of (group_place d) d.group) 0 (offset_of (list_place d) d.list)
+    header_bytes (control_for d.list) (offset_of 20 d.owner) (offset_of (place_of_group d) d.group) 0 (offset_of (list_place d) d.list)
 
 -- the header, then owner, group and list as far as they are there, without gaps
-unfoldable pub written : Descriptor → List ℕ
-written d = header_for d ++ part_bytes sid_bytes d.owner ++ part_bytes sid_bytes d.group ++ part_bytes acl_bytes d.list
+unfoldable pub packed : Descriptor → List ℕ
+packed d = header_for d ++ part_bytes sid_bytes d.owner ++ part_bytes sid_bytes d.group ++ part_bytes acl_bytes d.list
 
 abbrev pub part_if : {A : Type 0} → Bool → Option A → Option A
 part_if asked part = if asked then part else None
 
 -- the parts that are asked for, a bit each
-abbrev pub asked : Descriptor → ℕ → Descriptor
-asked d parts = record {
+abbrev pub parts_asked : Descriptor → ℕ → Descriptor
+parts_asked d parts = record {
   owner = part_if (has_bits parts OWNER_SECURITY_INFORMATION) d.owner;
   group = part_if (has_bits parts GROUP_SECURITY_INFORMATION) d.group;
   list = part_if (has_bits parts DACL_SECURITY_INFORMATION) d.list;
 }
 
 abbrev pub descriptor_bytes : Descriptor → ℕ → List ℕ
-descriptor_bytes d parts = written (asked d parts)
+descriptor_bytes d parts = packed (parts_asked d parts)
 
 -- the descriptor that has these parts
 abbrev pub seen : Parts → Descriptor

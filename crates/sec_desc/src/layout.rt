@@ -1,5 +1,6 @@
 ghost use Rattle.std.specs.Prelude.{◌≡◌, None, Some, drop, if◌then◌else◌};
-ghost use Rattle.sec_desc.specs.Layout.{ace_header_of, acl_header_of, header_of, is_ace, is_acl};
+ghost use Rattle.sec_desc.specs.Layout.{ace_header_of, acl_header_of, descriptor_header, is_ace};
+ghost use Rattle.sec_desc.specs.Layout.{is_acl};
 ghost use Rattle.sec_desc.specs.Layout.{is_header, is_sid, list_offset, offset, sid_size};
 
 use crate::codes::{
@@ -77,7 +78,7 @@ fn is_header(bytes: &[u8]) -> bool
 
 /// The fixed part of the descriptor at the front of the bytes. It takes no memory.
 pub fn read_header(bytes: &[u8]) -> Option<Header>
-    ensures { result ≡ (if is_header bytes.now then Some (header_of bytes.now) else None) }
+    ensures { result ≡ (if is_header bytes.now then Some (descriptor_header bytes.now) else None) }
 {
     if !is_header(bytes) {
         return None;

@@ -1,5 +1,6 @@
 ghost use Rattle.std.specs.Prelude.{◌≡◌, ◌+◌, ◌*◌, ◌≤◌, ◌++◌, drop, length, OnOk};
-ghost use Rattle.sec_desc.specs.Numbers.{has_bits, number_16, number_32, numbers};
+ghost use Rattle.sec_desc.specs.Numbers.{number_16, number_32, numbers_32};
+ghost use Rattle.scm_text.specs.Numbers.{has_bits};
 
 use scm_text::{Items, OutOfMemory};
 
@@ -25,7 +26,7 @@ pub fn u32_at(bytes: &[u8], at: usize) -> u32
 #[tactic(auto, using(crate::proofs::NumberLists::one_more, crate::proofs::NumberLists::none_yet))]
 pub fn append_numbers(to: &mut Items<u32>, bytes: &[u8], count: usize) -> Result<(), OutOfMemory>
     requires { 4 * count ≤ length bytes.now }
-    ensures { OnOk result (to.new ≡ to.old ++ numbers count bytes.now) }
+    ensures { OnOk result (to.new ≡ to.old ++ numbers_32 count bytes.now) }
 {
     for i in 0..count {
         if to.push(u32_at(bytes, 4 * i)).is_err() {

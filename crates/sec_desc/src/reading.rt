@@ -4,8 +4,9 @@ ghost use Rattle.sec_desc.specs.declared.value.DescFault.TheVariants as faults;
 ghost use Rattle.sec_desc.specs.declared.value.Descriptor.{Descriptor};
 ghost use Rattle.sec_desc.specs.Described.{Describes};
 ghost use Rattle.sec_desc.specs.Layout.{is_sid, sid_of};
-ghost use Rattle.sec_desc.specs.Reading.{Fails, Tells, ace_in, aces_in, acl_at, described, part_at};
-ghost use Rattle.sec_desc.specs.Reading.{parts_of, sid_at, with_front};
+ghost use Rattle.sec_desc.specs.Reading.{FailsAt, ReadsAs, ace_in, aces_in, acl_at, described};
+ghost use Rattle.sec_desc.specs.Reading.{part_at};
+ghost use Rattle.sec_desc.specs.Reading.{parts_of, sid_at, onto_front};
 ghost use Rattle.sec_desc.specs.Writing.{IsValue, IsWritable};
 
 use crate::layout::{Header, from_place, is_sid, read_ace_header, read_acl_header, read_header};
@@ -33,7 +34,7 @@ fn sid_of(alloc: Global, bytes: &[u8]) -> Result<Sid, OutOfMemory>
 /// The identity at a place.
 #[tactic(auto, unfolding(crate::specs::Reading::sid_at))]
 fn sid_at(alloc: Global, bytes: &[u8], place: usize) -> Result<Sid, DescFault>
-    ensures { Tells (λ sid. sid) result (sid_at bytes.now place) }
+    ensures { ReadsAs (λ sid. sid) result (sid_at bytes.now place) }
 {
     let rest = from_place(bytes, place);
     if !is_sid(rest) {
@@ -48,7 +49,7 @@ fn sid_at(alloc: Global, bytes: &[u8], place: usize) -> Result<Sid, DescFault>
 /// The entry at the front of the bytes, which begin at a place, and how many bytes it has.
 #[tactic(auto, unfolding(crate::specs::Reading::ace_in))]
 fn ace_in(alloc: Global, place: usize, bytes: &[u8]) -> Result<(Ace, usize), DescFault>
-    ensures read { Tells (λ x. x) result (ace_in place bytes.now) }
+    ensures read { ReadsAs (λ x. x) result (ace_in place bytes.now) }
     ensures within { IfOk result (λ x. x.1 ≤ length bytes.now) }
 {
     let Some(header) = read_ace_header(bytes) else {
@@ -91,8 +92,8 @@ fn append_aces(
     bytes: &[u8],
 ) -> Result<(), DescFault>
     requires { place + length bytes.now < 2 ^ 64 }
-    ensures ok { OnOk result (with_front to.old (aces_in count place bytes.now) ≡ Ok to.new) }
-    ensures err { IfErr result (λ fault. Fails fault (aces_in count place bytes.now)) }
+    ensures ok { OnOk result (onto_front to.old (aces_in count place bytes.now) ≡ Ok to.new) }
+    ensures err { IfErr result (λ fault. FailsAt fault (aces_in count place bytes.now)) }
 {
     let mut rest = bytes;
     let mut at = place;
@@ -108,7 +109,7 @@ fn append_aces(
 /// The list at a place.
 #[tactic(auto, unfolding(crate::specs::Reading::acl_at))]
 fn acl_at(alloc: Global, bytes: &[u8], place: usize) -> Result<Items<Ace>, DescFault>
-    ensures { Tells (λ list. list) result (acl_at bytes.now place) }
+    ensures { ReadsAs (λ list. list) result (acl_at bytes.now place) }
 {
     let list = from_place(bytes, place);
     let Some(header) = read_acl_header(list) else {
@@ -132,7 +133,7 @@ fn acl_at(alloc: Global, bytes: &[u8], place: usize) -> Result<Items<Ace>, DescF
 
 #[tactic(auto, unfolding(crate::specs::Reading::part_at))]
 fn sid_part(alloc: Global, bytes: &[u8], offset: Option<usize>) -> Result<Option<Sid>, DescFault>
-    ensures { Tells (λ part. part) result (part_at sid_at bytes.now offset) }
+    ensures { ReadsAs (λ part. part) result (part_at sid_at bytes.now offset) }
 {
     match offset {
         None => Ok(None),
@@ -146,7 +147,7 @@ fn acl_part(
     bytes: &[u8],
     offset: Option<usize>,
 ) -> Result<Option<Items<Ace>>, DescFault>
-    ensures { Tells (λ part. part) result (part_at acl_at bytes.now offset) }
+    ensures { ReadsAs (λ part. part) result (part_at acl_at bytes.now offset) }
 {
     match offset {
         None => Ok(None),
@@ -162,7 +163,7 @@ fn read_parts(
     bytes: &[u8],
     header: &Header,
 ) -> Result<(), DescFault>
-    ensures { Tells (λ done. to.new) result (parts_of bytes.now header.now) }
+    ensures { ReadsAs (λ done. to.new) result (parts_of bytes.now header.now) }
 {
     drop(replace(&mut to.owner, sid_part(alloc, bytes, header.owner)?));
     drop(replace(&mut to.group, sid_part(alloc, bytes, header.group)?));
@@ -172,7 +173,7 @@ fn read_parts(
 
 #[tactic(auto, unfolding(crate::specs::Reading::described, crate::specs::Reading::header_in))]
 fn described(alloc: Global, bytes: &[u8]) -> Result<Descriptor, DescFault>
-    ensures { Tells (λ d. d) result (described bytes.now) }
+    ensures { ReadsAs (λ d. d) result (described bytes.now) }
 {
     let Some(header) = read_header(bytes) else {
         return Err(DescFault::Bad(0));
@@ -198,9 +199,9 @@ pub fn read_descriptor(alloc: Global, bytes: &[u8]) -> Result<Descriptor, DescFa
     // What is read is described by these bytes.
     ensures found { IfOk result (λ d. Describes bytes.now d) }
     // What these bytes describe is read, unless memory runs out.
-    ensures only { (d : Descriptor) → Describes bytes.now d → Tells (λ x. x) result (Ok d) }
+    ensures only { (d : Descriptor) → Describes bytes.now d → ReadsAs (λ x. x) result (Ok d) }
     // Which place it is.
-    ensures place { Tells (λ x. x) result (described bytes.now) }
+    ensures place { ReadsAs (λ x. x) result (described bytes.now) }
     // What is read can be written.
     ensures writable { IfOk result (λ d. IsWritable d × IsValue d) }
 {

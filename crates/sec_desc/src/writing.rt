@@ -8,7 +8,7 @@ ghost use Rattle.sec_desc.specs.Writing.{ace_front as front_of_ace, acl_bytes};
 ghost use Rattle.sec_desc.specs.Writing.{acl_front as front_of_acl, control_for, descriptor_bytes};
 ghost use Rattle.sec_desc.specs.Writing.{header_for, offset_of, part_bytes, part_if, part_size};
 ghost use Rattle.sec_desc.specs.Writing.{seen, sid_bytes, size_of_ace, size_of_aces, size_of_sid};
-ghost use Rattle.sec_desc.specs.Writing.{written};
+ghost use Rattle.sec_desc.specs.Writing.{packed};
 
 use crate::codes::{
     ACCESS_ALLOWED_ACE_TYPE, ACCESS_DENIED_ACE_TYPE, ACL_REVISION, DACL_SECURITY_INFORMATION,
@@ -203,10 +203,10 @@ fn put_header(out: &mut Items<u8>, parts: &Parts) -> Result<(), OutOfMemory>
     put_numbers(out, &offsets)
 }
 
-#[tactic(auto, unfolding(crate::specs::Writing::written))]
+#[tactic(auto, unfolding(crate::specs::Writing::packed))]
 fn put_parts(out: &mut Items<u8>, parts: &Parts) -> Result<(), OutOfMemory>
     requires { IsWritable (seen parts.now) }
-    ensures { OnOk result (out.new ≡ out.old ++ written (seen parts.now)) }
+    ensures { OnOk result (out.new ≡ out.old ++ packed (seen parts.now)) }
 {
     put_header(out, parts)?;
     put_sid_part(out, parts.owner)?;

@@ -1,8 +1,8 @@
 //! The rows. Bytes are in hex, in groups of four. They were laid out by hand after MS-DTYP 2.4.2
 //! (identities), 2.4.4 (entries), 2.4.5 (lists) and 2.4.6 (descriptors); one is the example that
-//! MS-DTYP gives in 2.5.1.4. Those by Samba are what Samba 4.17 packs of that SDDL, whose lists have
-//! revision 4; they are written with revision 2 and without an auditing list. The letters of the
-//! comments are SDDL's.
+//! MS-DTYP gives in 2.5.1.4. Those by Samba are what Samba 4.17 packs of that SDDL, whose lists
+//! have revision 4; they are written with revision 2 and without an auditing list. The letters of
+//! the comments are SDDL's.
 use scm_model::Principal;
 
 /// The bytes of a descriptor, a bit for each part that is written, and the bytes of these.

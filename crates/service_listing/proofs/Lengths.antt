@@ -8,7 +8,7 @@ use Rattle.scm_model.specs.declared.flat.ProcessStatus.{ProcessStatus}
 use Rattle.scm_model.specs.declared.flat.Service.{Service}
 use Rattle.service_listing.specs.Fitting.{HaveTheirSizes, IsLongestFit}
 use Rattle.service_listing.specs.Layout.{listing_bytes, listing_size, names_bytes, names_size, numbers_bytes, process_status_bytes}
-use Rattle.service_listing.specs.Layout.{record_bytes, records_bytes, size_of, text_bytes, text_size}
+use Rattle.service_listing.specs.Layout.{record_bytes, records_bytes, size_of, name_bytes, text_size}
 use Rattle.service_listing.specs.Pages.{left_of, page_in}
 use Rattle.service_listing.specs.Sizes.{names_sizes}
 use Rattle.service_listing.proofs.Measured.{size_is}
@@ -21,14 +21,14 @@ length_units (u ∷ us) =
     let rest = length_units us in
     omega (arith, length-append (to_le_bytes w16 u) (flat_map (to_le_bytes w16) us), rest)
 
-pub length_text : (text : List ℕ) → length (text_bytes text) ≡ text_size text
-unfolding text_bytes
+pub length_text : (text : List ℕ) → length (name_bytes text) ≡ text_size text
+unfolding name_bytes
 length_text text = omega (arith, length-append (flat_map (to_le_bytes w16) text) (to_le_bytes w16 0), length_units text)
 
 length_names : (row : Service) → length (names_bytes row) ≡ names_size row
 length_names row = omega (
   arith,
-  length-append (text_bytes row.config.name) (text_bytes row.config.display),
+  length-append (name_bytes row.config.name) (name_bytes row.config.display),
   length_text row.config.name,
   length_text row.config.display,
 )

@@ -5,8 +5,8 @@ use Rattle.std.specs.List.{AllByRecursion, flat_map}
 use Rattle.scm_model.specs.declared.flat.Action.{Action}
 use Rattle.scm_model.specs.declared.flat.Config.{Config}
 use Rattle.scm_model.specs.declared.flat.Trigger.{Trigger}
-use Rattle.service_listing.specs.Layout.{numbers_bytes, text_bytes, text_size}
-use Rattle.service_listing.specs.Levels.{action_bytes, description_bytes, failure_bytes, failure_numbers, flag_bytes, offset_of}
+use Rattle.service_listing.specs.Layout.{numbers_bytes, name_bytes, text_size}
+use Rattle.service_listing.specs.Levels.{action_bytes, description_bytes, failure_bytes, failure_numbers, flag_bytes, offset_at}
 use Rattle.service_listing.specs.Levels.{some_text_bytes, trigger_bytes, triggers_bytes}
 use Rattle.service_listing.specs.Placed.{HasUuid, LevelsHaveTheirParts, LevelsHaveTheirSizes, some_text_size}
 use Rattle.service_listing.proofs.Lengths.{length_text}
@@ -14,7 +14,7 @@ use Rattle.service_listing.proofs.Lengths.{length_text}
 -- ## Sizes
 
 length_some_text : (text : List ℕ) → length (some_text_bytes text) ≡ some_text_size text
-length_some_text text = elim (length text == 0) as (λ b. length (cond b [] (text_bytes text)) ≡ cond b 0 (text_size text)) [
+length_some_text text = elim (length text == 0) as (λ b. length (cond b [] (name_bytes text)) ≡ cond b 0 (text_size text)) [
   | true ↦ refl
   | false ↦ length_text text
 ]
@@ -27,8 +27,8 @@ length_description : (text : List ℕ) → length (description_bytes text) ≡ 4
 length_description text =
     omega (
       arith,
-      length-append (numbers_bytes (offset_of 4 text ∷ [])) (some_text_bytes text),
-      length_number (offset_of 4 text),
+      length-append (numbers_bytes (offset_at 4 text ∷ [])) (some_text_bytes text),
+      length_number (offset_at 4 text),
       length_some_text text,
     )
 
@@ -97,7 +97,7 @@ drop_behind n [] ys is = subst (λ (m : ℕ). drop m ys ≡ ys) is refl
 drop_behind n (x ∷ xs) ys is = subst (λ (m : ℕ). drop m (x ∷ xs ++ ys) ≡ ys) is (drop_behind (length xs) xs ys refl)
 
 described : (text : List ℕ) → drop 4 (description_bytes text) ≡ some_text_bytes text
-described text = drop_behind 4 (numbers_bytes (offset_of 4 text ∷ [])) (some_text_bytes text) (length_number (offset_of 4 text))
+described text = drop_behind 4 (numbers_bytes (offset_at 4 text ∷ [])) (some_text_bytes text) (length_number (offset_at 4 text))
 
 commanded : (config : Config) → drop (20 + 8 * length config.actions) (failure_bytes config) ≡ some_text_bytes config.command
 commanded config =

@@ -11,7 +11,7 @@ pub record IsLongestFit (size : ℕ) (rows : List Service) : Type 0 where
   pub fits : listing_size (page_in size rows) ≤ size
   pub longest : (n : ℕ) → listing_size (take n rows) ≤ size → length (take n rows) ≤ length (page_in size rows)
 
--- bytes have the sizes that are told
+-- bytes have the sizes that are computed for them
 pub record HaveTheirSizes : Type 0 where
   pub listing : (rows : List Service) → length (listing_bytes rows) ≡ listing_size rows
   pub status : (s : ProcessStatus) → length (process_status_bytes s) ≡ 36

@@ -1,4 +1,4 @@
--- Services as the bytes of a listing: a record of 36 bytes each, and behind the records the names.
+-- Services as the bytes of a listing: a record of 36 bytes each, and after the records the names.
 use Rattle.std.specs.Prelude.{ℕ, ◌+◌, ◌*◌, ◌++◌, List, [], ◌∷◌, length}
 use Rattle.std.specs.List.{flat_map}
 use Rattle.std.specs.Int.{w16, w32, to_le_bytes}
@@ -29,8 +29,8 @@ unfoldable pub numbers_bytes : List ℕ → List ℕ
 numbers_bytes numbers = flat_map (to_le_bytes w32) numbers
 
 -- units of two bytes each, the low one first, and a zero
-unfoldable pub text_bytes : List ℕ → List ℕ
-text_bytes text = flat_map (to_le_bytes w16) text ++ to_le_bytes w16 0
+unfoldable pub name_bytes : List ℕ → List ℕ
+name_bytes text = flat_map (to_le_bytes w16) text ++ to_le_bytes w16 0
 
 -- as they follow each other in SERVICE_STATUS
 abbrev pub status_numbers : Status → List ℕ
@@ -40,17 +40,17 @@ status_numbers s = s.kind ∷ s.state ∷ s.accepted ∷ s.win32 ∷ s.specific 
 abbrev pub process_status_bytes : ProcessStatus → List ℕ
 process_status_bytes s = numbers_bytes (status_numbers s.status ++ s.pid ∷ s.flags ∷ [])
 
--- where the name stands, where the display name does behind it, and the status
+-- where the name stands, where the display name stands after it, and the status
 abbrev pub record_bytes : ℕ → Service → List ℕ
 record_bytes place row = numbers_bytes (place ∷ (place + text_size row.config.name) ∷ status_numbers row.status)
 
--- the records of services whose names stand one behind the other from a place on
+-- the records of services whose names stand one after the other from a place on
 abbrev pub records_bytes : ℕ → List Service → List ℕ
 records_bytes place [] = []
 records_bytes place (row ∷ rows) = record_bytes place row ++ records_bytes (place + names_size row) rows
 
 abbrev pub names_bytes : Service → List ℕ
-names_bytes row = text_bytes row.config.name ++ text_bytes row.config.display
+names_bytes row = name_bytes row.config.name ++ name_bytes row.config.display
 
 -- the records, and the names in the same order
 abbrev pub listing_bytes : List Service → List ℕ

@@ -7,26 +7,26 @@ use Rattle.scm_model.specs.declared.codes.TheConstants.{SERVICE_CONFIG_TRIGGER_I
 use Rattle.scm_model.specs.declared.flat.Action.{Action}
 use Rattle.scm_model.specs.declared.flat.Config.{Config}
 use Rattle.scm_model.specs.declared.flat.Trigger.{Trigger}
-use Rattle.service_listing.specs.Layout.{numbers_bytes, text_bytes}
+use Rattle.service_listing.specs.Layout.{numbers_bytes, name_bytes}
 
 -- the offset of a list that stands at a place, or 0 where it is empty
-abbrev pub offset_of : {X : Type 0} → ℕ → List X → ℕ
-offset_of place list = if length list == 0 then 0 else place
+abbrev pub offset_at : {X : Type 0} → ℕ → List X → ℕ
+offset_at place list = if length list == 0 then 0 else place
 
 -- the text with its zero, or nothing where it is empty
 abbrev pub some_text_bytes : List ℕ → List ℕ
-some_text_bytes text = if length text == 0 then [] else text_bytes text
+some_text_bytes text = if length text == 0 then [] else name_bytes text
 
 -- an offset, and the text
 abbrev pub description_bytes : List ℕ → List ℕ
-description_bytes description = numbers_bytes (offset_of 4 description ∷ []) ++ some_text_bytes description
+description_bytes description = numbers_bytes (offset_at 4 description ∷ []) ++ some_text_bytes description
 
 abbrev pub action_bytes : Action → List ℕ
 action_bytes action = numbers_bytes (action.what ∷ action.delay ∷ [])
 
 -- the reset period, no reboot message, where the command stands, and how many actions stand where
 abbrev pub failure_numbers : Config → List ℕ
-failure_numbers config = config.reset ∷ 0 ∷ offset_of (20 + 8 * length config.actions) config.command ∷ length config.actions ∷ offset_of 20
+failure_numbers config = config.reset ∷ 0 ∷ offset_at (20 + 8 * length config.actions) config.command ∷ length config.actions ∷ offset_at 20
     config.actions ∷ []
 
 -- five numbers, the actions and the command

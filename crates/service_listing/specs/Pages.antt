@@ -8,7 +8,7 @@ abbrev pub page_in : ℕ → List Service → List Service
 page_in room [] = []
 page_in room (row ∷ rows) = if nat_le (size_of row) room then row ∷ page_in (room - size_of row) rows else []
 
--- those that are left behind them
+-- those that are left after them
 abbrev pub left_of : ℕ → List Service → List Service
 left_of room [] = []
 left_of room (row ∷ rows) = if nat_le (size_of row) room then left_of (room - size_of row) rows else row ∷ rows

@@ -19,7 +19,7 @@ pub record LevelsHaveTheirSizes : Type 0 where
   pub flag : (on : Bool) → length (flag_bytes on) ≡ 4
   pub triggers : (triggers : List Trigger) → AllByRecursion HasUuid triggers → length (triggers_bytes triggers) ≡ 4 + 24 * length triggers
 
--- behind the numbers stand the actions, and behind these the command
+-- the actions stand after the numbers, and the command after the actions
 pub record LevelsHaveTheirParts : Type 0 where
   pub description : (text : List ℕ) → drop 4 (description_bytes text) ≡ some_text_bytes text
   pub command : (config : Config) → drop (20 + 8 * length config.actions) (failure_bytes config) ≡ some_text_bytes config.command

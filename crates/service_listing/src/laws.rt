@@ -18,7 +18,7 @@ pub fn levels_have_their_sizes()
     ensures { LevelsHaveTheirSizes }
 {}
 
-/// Law: a description stands behind its offset, and a command behind five numbers and the actions.
+/// Law: a description stands after its offset, and a command after five numbers and the actions.
 pub fn levels_have_their_parts()
     ensures { LevelsHaveTheirParts }
 {}

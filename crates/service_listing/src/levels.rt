@@ -138,8 +138,8 @@ fn triggers(list: &[Trigger], alloc: Global) -> Result<Items<u8>, OutOfMemory>
     Ok(out)
 }
 
-/// A level of a configuration as bytes, or none where there is no such level. Offsets and counts
-/// are told as far as four bytes go.
+/// A level of a configuration as bytes, or none if there is no such level. Of an offset or a count
+/// only the low four bytes are written.
 pub fn level(level: u32, config: &Config, alloc: Global) -> Result<Option<Items<u8>>, OutOfMemory>
     ensures { IfOk result (λ bytes. bytes ≡ level_bytes level config.now) }
 {

@@ -1,9 +1,10 @@
 ghost use Rattle.std.specs.Prelude.{◌≡◌, ◌+◌, ◌*◌, ◌^◌, ◌<◌, ◌++◌, IfOk, OnOk, length, map};
 ghost use Rattle.std.specs.List.{flat_map};
 ghost use Rattle.std.specs.Int.{w16, w32, to_le_bytes};
-ghost use Rattle.service_listing.specs.Layout.{listing_bytes, listing_size, names_bytes, names_size};
+ghost use Rattle.service_listing.specs.Layout.{listing_bytes, listing_size, names_bytes};
+ghost use Rattle.service_listing.specs.Layout.{names_size};
 ghost use Rattle.service_listing.specs.Layout.{numbers_bytes, process_status_bytes, record_bytes};
-ghost use Rattle.service_listing.specs.Layout.{records_bytes, text_bytes, text_size};
+ghost use Rattle.service_listing.specs.Layout.{records_bytes, name_bytes, text_size};
 ghost use Rattle.service_listing.specs.Sizes.{names_sizes};
 
 use scm_model::{ProcessStatus, Service};
@@ -32,9 +33,9 @@ fn put_units(out: &mut Items<u8>, units: &[u16]) -> Result<(), OutOfMemory>
 }
 
 /// Appends a text with its zero.
-#[tactic(auto, unfolding(crate::specs::Layout::text_bytes))]
+#[tactic(auto, unfolding(crate::specs::Layout::name_bytes))]
 pub fn put_text(out: &mut Items<u8>, text: &WText) -> Result<(), OutOfMemory>
-    ensures { OnOk result (out.new ≡ out.old ++ text_bytes text.now) }
+    ensures { OnOk result (out.new ≡ out.old ++ name_bytes text.now) }
 {
     put_units(out, text.units())?;
     out.append(&0u16.to_le_bytes())
@@ -101,10 +102,11 @@ fn names_size(service: &Service) -> u32
     text_size(&service.config.name) + text_size(&service.config.display)
 }
 
-/// Appends the records of services whose names stand one behind the other from a place on.
+/// Appends the records of services whose names stand one after the other from a place on.
 fn put_records(out: &mut Items<u8>, first: u32, services: &[&Service]) -> Result<(), OutOfMemory>
     requires { first + names_sizes (map (λ s. s.now) services.now) < 2 ^ 32 }
-    ensures { OnOk result (out.new ≡ out.old ++ records_bytes first (map (λ s. s.now) services.now)) }
+    ensures { OnOk result (out.new
+        ≡ out.old ++ records_bytes first (map (λ s. s.now) services.now)) }
 {
     let mut place = first;
     for service in services {

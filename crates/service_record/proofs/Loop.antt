@@ -3,7 +3,7 @@ use Rattle.std.proofs.Common.{◌≡◌, ℕ, suc, ◌-◌, ◌+◌, ◌≤◌, 
 use Rattle.std.proofs.lemmas.List.{append-nil}
 use Rattle.service_record.specs.declared.reading.Stop.{Stop}
 use Rattle.service_record.specs.declared.reading.Stop.TheVariants as stops
-use Rattle.service_record.specs.Reading.{◌>>=◌, Fails, Item, take_items}
+use Rattle.service_record.specs.Reading.{◌>>=◌, StopsAs, Item, take_items}
 
 -- what was read before, and what is still read
 abbrev pub with_front : {A : Type 0} → List A → Item (List A) → Item (List A)
@@ -26,8 +26,8 @@ goes_on item front count i bytes n after total lt h so_far =
     sym one ∙ so_far
 
 pub ends : {A : Type 0} (item : List ℕ → Item A) (e : Stop) (front : List A) (count i : ℕ) (bytes : List ℕ) (total : Item (List A))
-    → i < count → Fails e (item bytes)
-    → with_front front (take_items item (count - i) bytes) ≡ total → Fails e total
+    → i < count → StopsAs e (item bytes)
+    → with_front front (take_items item (count - i) bytes) ≡ total → StopsAs e total
 unfolding take_items
 ends item stops.OutOfMemory front count i bytes total lt h so_far = tt
 ends item (stops.Left f) front count i bytes total lt h so_far =

@@ -22,13 +22,13 @@ abbrev pub ◌>>=◌ : {A B : Type 0} → Result A ℕ → (A → Result B ℕ) 
 (Err left) >>= f = Err left
 
 -- what a function returned is what reading gives, unless memory ran out
-abbrev pub Fails : {Y : Type 0} → Stop → Result Y ℕ → Type 0
-Fails (stops.Left left) read = read ≡ Err left
-Fails stops.OutOfMemory read = Unit {0}
+abbrev pub StopsAs : {Y : Type 0} → Stop → Result Y ℕ → Type 0
+StopsAs (stops.Left left) read = read ≡ Err left
+StopsAs stops.OutOfMemory read = Unit {0}
 
-abbrev pub Gives : {X Y : Type 0} → (X → Y) → Result X Stop → Result Y ℕ → Type 0
-Gives view (Ok x) read = read ≡ Ok (view x)
-Gives view (Err e) read = Fails e read
+abbrev pub Yields : {X Y : Type 0} → (X → Y) → Result X Stop → Result Y ℕ → Type 0
+Yields view (Ok x) read = read ≡ Ok (view x)
+Yields view (Err e) read = StopsAs e read
 
 -- an item is a value and the bytes after it
 abbrev pub Item : Type 0 → Type 0

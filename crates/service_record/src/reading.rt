@@ -1,6 +1,6 @@
 ghost use Rattle.std.specs.Prelude.{◌≡◌, IfOk, Ok};
 ghost use Rattle.scm_model.specs.declared.flat.Config.{Config};
-ghost use Rattle.service_record.specs.Reading.{Gives, Tells, take_action, take_back, config_of};
+ghost use Rattle.service_record.specs.Reading.{Yields, Tells, take_action, take_back, config_of};
 ghost use Rattle.service_record.specs.Reading.{take_counted, take_flag, take_front, take_items};
 ghost use Rattle.service_record.specs.Reading.{take_middle, take_need, take_number, record_of};
 ghost use Rattle.service_record.specs.Reading.{take_text, whole_of};
@@ -16,7 +16,7 @@ use thiserror::Error;
 /// Why bytes are no configuration.
 #[derive(Clone, Copy, Debug, PartialEq, Eq, Error)]
 pub enum RecordFault {
-    /// The first item that is wrong begins here: a number, a flag or a text, or what stands behind
+    /// The first item that is wrong begins here: a number, a flag or a text, or what stands after
     /// the last of them.
     #[error("no configuration: byte {0} is wrong")]
     Bad(usize),
@@ -49,7 +49,7 @@ impl<T: Drop> From<AllocFailed<T>> for Stop {
 }
 
 fn number_of(bytes: &[u8]) -> Result<(u32, &[u8]), Stop>
-    ensures { Gives (λ x. (x.0, x.1.now)) result (take_number bytes.now) }
+    ensures { Yields (λ x. (x.0, x.1.now)) result (take_number bytes.now) }
 {
     if bytes.len() < 4 {
         return Err(Stop::Left(bytes.len()));
@@ -61,7 +61,7 @@ fn number_of(bytes: &[u8]) -> Result<(u32, &[u8]), Stop>
 
 #[tactic(auto, unfolding(crate::specs::Reading::take_flag))]
 fn flag_of(bytes: &[u8]) -> Result<(bool, &[u8]), Stop>
-    ensures { Gives (λ x. (x.0, x.1.now)) result (take_flag bytes.now) }
+    ensures { Yields (λ x. (x.0, x.1.now)) result (take_flag bytes.now) }
 {
     match bytes {
         [0, rest @ ..] => Ok((false, rest)),
@@ -72,7 +72,7 @@ fn flag_of(bytes: &[u8]) -> Result<(bool, &[u8]), Stop>
 
 #[tactic(auto, unfolding(crate::specs::Reading::take_text))]
 fn text_of(alloc: Global, bytes: &[u8]) -> Result<(WText, &[u8]), Stop>
-    ensures { Gives (λ x. (x.0, x.1.now)) result (take_text bytes.now) }
+    ensures { Yields (λ x. (x.0, x.1.now)) result (take_text bytes.now) }
 {
     let (count, rest) = number_of(bytes)?;
     let count = count as usize;
@@ -89,7 +89,7 @@ fn text_of(alloc: Global, bytes: &[u8]) -> Result<(WText, &[u8]), Stop>
 
 #[tactic(auto, unfolding(crate::specs::Reading::take_need))]
 fn need_of(alloc: Global, bytes: &[u8]) -> Result<(Need, &[u8]), Stop>
-    ensures { Gives (λ x. (x.0, x.1.now)) result (take_need bytes.now) }
+    ensures { Yields (λ x. (x.0, x.1.now)) result (take_need bytes.now) }
 {
     let (group, rest) = flag_of(bytes)?;
     let (name, rest) = text_of(alloc, rest)?;
@@ -102,7 +102,7 @@ fn need_of(alloc: Global, bytes: &[u8]) -> Result<(Need, &[u8]), Stop>
 
 #[tactic(auto, unfolding(crate::specs::Reading::take_action))]
 fn action_of(bytes: &[u8]) -> Result<(Action, &[u8]), Stop>
-    ensures { Gives (λ x. (x.0, x.1.now)) result (take_action bytes.now) }
+    ensures { Yields (λ x. (x.0, x.1.now)) result (take_action bytes.now) }
 {
     let (what, rest) = number_of(bytes)?;
     let (delay, rest) = number_of(rest)?;
@@ -110,7 +110,7 @@ fn action_of(bytes: &[u8]) -> Result<(Action, &[u8]), Stop>
 }
 
 fn needs_of(alloc: Global, count: u32, bytes: &[u8]) -> Result<(Vec<Need>, &[u8]), Stop>
-    ensures { Gives (λ x. (x.0.items, x.1.now)) result (take_items take_need count bytes.now) }
+    ensures { Yields (λ x. (x.0.items, x.1.now)) result (take_items take_need count bytes.now) }
 {
     let mut needs = Vec::new(alloc);
     let mut rest = bytes;
@@ -123,7 +123,7 @@ fn needs_of(alloc: Global, count: u32, bytes: &[u8]) -> Result<(Vec<Need>, &[u8]
 }
 
 fn actions_of(alloc: Global, count: u32, bytes: &[u8]) -> Result<(Vec<Action>, &[u8]), Stop>
-    ensures { Gives (λ x. (x.0.items, x.1.now)) result (take_items take_action count bytes.now) }
+    ensures { Yields (λ x. (x.0.items, x.1.now)) result (take_items take_action count bytes.now) }
 {
     let mut actions = Vec::new(alloc);
     let mut rest = bytes;
@@ -137,7 +137,7 @@ fn actions_of(alloc: Global, count: u32, bytes: &[u8]) -> Result<(Vec<Action>, &
 
 #[tactic(auto, unfolding(crate::specs::Reading::take_counted))]
 fn counted_needs(alloc: Global, bytes: &[u8]) -> Result<(Items<Need>, &[u8]), Stop>
-    ensures { Gives (λ x. (x.0, x.1.now)) result (take_counted take_need bytes.now) }
+    ensures { Yields (λ x. (x.0, x.1.now)) result (take_counted take_need bytes.now) }
 {
     let (count, rest) = number_of(bytes)?;
     let (needs, rest) = needs_of(alloc, count, rest)?;
@@ -146,7 +146,7 @@ fn counted_needs(alloc: Global, bytes: &[u8]) -> Result<(Items<Need>, &[u8]), St
 
 #[tactic(auto, unfolding(crate::specs::Reading::take_counted))]
 fn counted_actions(alloc: Global, bytes: &[u8]) -> Result<(Items<Action>, &[u8]), Stop>
-    ensures { Gives (λ x. (x.0, x.1.now)) result (take_counted take_action bytes.now) }
+    ensures { Yields (λ x. (x.0, x.1.now)) result (take_counted take_action bytes.now) }
 {
     let (count, rest) = number_of(bytes)?;
     let (actions, rest) = actions_of(alloc, count, rest)?;
@@ -166,7 +166,7 @@ struct Front {
 
 #[tactic(auto, unfolding(crate::specs::Reading::take_front))]
 fn front_of(alloc: Global, bytes: &[u8]) -> Result<(Front, &[u8]), Stop>
-    ensures { Gives (λ x. (x.0, x.1.now)) result (take_front bytes.now) }
+    ensures { Yields (λ x. (x.0, x.1.now)) result (take_front bytes.now) }
 {
     let (name, rest) = text_of(alloc, bytes)?;
     let (display, rest) = text_of(alloc, rest)?;
@@ -196,7 +196,7 @@ struct Middle {
 
 #[tactic(auto, unfolding(crate::specs::Reading::take_middle))]
 fn middle_of(alloc: Global, bytes: &[u8]) -> Result<(Middle, &[u8]), Stop>
-    ensures { Gives (λ x. (x.0, x.1.now)) result (take_middle bytes.now) }
+    ensures { Yields (λ x. (x.0, x.1.now)) result (take_middle bytes.now) }
 {
     let (group, rest) = text_of(alloc, bytes)?;
     let (tag, rest) = number_of(rest)?;
@@ -222,7 +222,7 @@ struct Back {
 
 #[tactic(auto, unfolding(crate::specs::Reading::take_back))]
 fn back_of(alloc: Global, bytes: &[u8]) -> Result<(Back, &[u8]), Stop>
-    ensures { Gives (λ x. (x.0, x.1.now)) result (take_back bytes.now) }
+    ensures { Yields (λ x. (x.0, x.1.now)) result (take_back bytes.now) }
 {
     let (reset, rest) = number_of(bytes)?;
     let (actions, rest) = counted_actions(alloc, rest)?;
@@ -262,7 +262,7 @@ fn config_from(alloc: Global, front: Front, middle: Middle, back: Back) -> Confi
 
 #[tactic(auto, unfolding(crate::specs::Reading::take_config, crate::specs::Reading::whole_of))]
 fn whole_of(alloc: Global, bytes: &[u8]) -> Result<Config, Stop>
-    ensures { Gives (λ config. config) result (whole_of bytes.now) }
+    ensures { Yields (λ config. config) result (whole_of bytes.now) }
 {
     let (front, rest) = front_of(alloc, bytes)?;
     let (middle, rest) = middle_of(alloc, rest)?;

@@ -6,12 +6,13 @@ use Rattle.scm_model.specs.declared.flat.Plan.{Plan}
 use Rattle.scm_model.specs.declared.flat.Service.{Service}
 use Rattle.start_plan.specs.Asleep.{AreAmong, ArePending, IsPending}
 use Rattle.start_plan.specs.Entered.{started_if}
-use Rattle.start_plan.specs.Moves.{has, is_pending}
+use Rattle.start_plan.specs.Moves.{is_pending}
 use Rattle.start_plan.specs.Resting.{Rests}
 use Rattle.start_plan.specs.Settle.{settle_plan}
 use Rattle.start_plan.proofs.Fewer.{pending_rests}
 use Rattle.start_plan.proofs.Keeps.{keeps_all}
 use Rattle.start_plan.proofs.Rests.{plan_still, state_after}
+use Rattle.scm_text.specs.Numbers.{has}
 
 -- ## What keeps it
 

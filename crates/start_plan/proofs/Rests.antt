@@ -10,7 +10,7 @@ use Rattle.scm_model.specs.declared.flat.Plan.{Plan}
 use Rattle.scm_model.specs.declared.flat.Due.{Due}
 use Rattle.scm_model.specs.declared.flat.Service.{Service}
 use Rattle.start_plan.specs.Entered.{starting_in, started_if, with_entered}
-use Rattle.start_plan.specs.Moves.{cause_of, entering_at, has, is_pending, move_by, move_of}
+use Rattle.start_plan.specs.Moves.{cause_of, entering_at, is_pending, move_by, move_of}
 use Rattle.scm_model.specs.Ready.{state_in, state_of}
 use Rattle.start_plan.specs.Resting.{Rests, RestsAt}
 use Rattle.start_plan.specs.Settle.{moved, dropped, words_for, move_code, settle_entries, settle_plan, settle_all, settled, tidied, stays}
@@ -21,6 +21,7 @@ use Rattle.start_plan.specs.declared.settling.Move.TheVariants as moves
 use Rattle.start_plan.proofs.Keeps.{Keeps, IsEntry, all_filter, is_entry, keeps_all, was_stopped}
 use Rattle.start_plan.proofs.Enterings.{all_units}
 use Rattle.start_plan.proofs.Rows.{same_number, started_or}
+use Rattle.scm_text.specs.Numbers.{has}
 
 -- ## States after an entering
 
@@ -138,7 +139,7 @@ all_rest l f (plan ∷ plans) =
 
 -- ## What rests is settled
 
-entries_still : (l : Limits) (f : Flat) (plan : Plan) (entries : List ℕ) → (is_some plan.code ≡ true) ⊎ RestsAt l f plan entries
+pub entries_still : (l : Limits) (f : Flat) (plan : Plan) (entries : List ℕ) → (is_some plan.code ≡ true) ⊎ RestsAt l f plan entries
     → settle_entries l f plan entries ≡ (f, plan)
 entries_still l f plan [] rests = refl
 entries_still l f plan (x ∷ xs) (inl decided) = rw decided refl
@@ -152,7 +153,7 @@ entries_still l f plan (x ∷ xs) (inr waits) =
 pub plan_still : (l : Limits) (f : Flat) (plan : Plan) → Rests l f plan → settle_plan l f plan ≡ (f, plan)
 plan_still l f plan rests = entries_still l f plan plan.entries rests
 
-all_still : (l : Limits) (f : Flat) (plans : List Plan) → AllByRecursion (Rests l f) plans → settle_all l f plans ≡ (f, plans)
+pub all_still : (l : Limits) (f : Flat) (plans : List Plan) → AllByRecursion (Rests l f) plans → settle_all l f plans ≡ (f, plans)
 all_still l f [] rests = refl
 all_still l f (plan ∷ plans) rests = rw (plan_still l f plan rests.0, all_still l f plans rests.1) refl
 

@@ -9,9 +9,9 @@ use Rattle.std.proofs.lemmas.List.Elements.{filter-append}
 use Rattle.scm_model.specs.declared.flat.Plan.{Plan}
 use Rattle.start_plan.specs.Asleep.{all_but, AreAmong, awaited_by, awaited_in, runnable, decided_slot, is_front, plans_in, woken}
 use Rattle.start_plan.specs.Decided.{decided_if, is_numbered}
-use Rattle.start_plan.specs.Moves.{has}
 use Rattle.start_plan.specs.Settle.{stays}
 use Rattle.start_plan.specs.declared.slot.PlanSlot.{PlanSlot}
+use Rattle.scm_text.specs.Numbers.{has}
 
 -- ## The plans
 

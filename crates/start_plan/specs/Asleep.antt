@@ -5,8 +5,9 @@ use Rattle.scm_model.specs.declared.flat.Plan.{Plan}
 use Rattle.scm_model.specs.declared.flat.Service.{Service}
 use Rattle.scm_model.specs.Ready.{state_in}
 use Rattle.start_plan.specs.Decided.{decided_if}
-use Rattle.start_plan.specs.Moves.{has, is_pending}
+use Rattle.start_plan.specs.Moves.{is_pending}
 use Rattle.start_plan.specs.declared.slot.PlanSlot.{PlanSlot}
+use Rattle.scm_text.specs.Numbers.{has}
 
 abbrev pub plans_in : List PlanSlot → List Plan
 plans_in slots = map (λ (slot : PlanSlot). slot.row) slots

@@ -1,7 +1,7 @@
 -- The steps that a plan may still bring.
 use Rattle.std.specs.Prelude.{ℕ, ◌+◌, ◌*◌, ◌==◌, List, [], ◌∷◌, is_some, if◌then◌else◌}
 use Rattle.scm_model.specs.declared.flat.Plan.{Plan}
-use Rattle.start_plan.specs.Moves.{has}
+use Rattle.scm_text.specs.Numbers.{has}
 
 -- the sum of what each row counts for
 abbrev pub total : {A : Type 0} → (A → ℕ) → List A → ℕ

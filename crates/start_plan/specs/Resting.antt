@@ -30,7 +30,7 @@ settle_picked picked l f (plan ∷ plans) =
     let rest = settle_picked picked l first.0 plans in
     (rest.0, first.1 ∷ rest.1)
 
--- where all other plans rest, going to the picked ones comes to what going to all comes to
+-- if all other plans rest, going to the picked ones has the same result as going to all
 abbrev pub FewerAreEnough : Type 0
 FewerAreEnough = (picked : Plan → Bool) (l : Limits) (f : Flat) →
     AllByRecursion (λ (plan : Plan). picked plan ≡ false → Rests l f plan) f.plans →

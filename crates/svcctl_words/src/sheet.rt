@@ -40,7 +40,7 @@ fn put_byte(all: &mut Vec<u8>, byte: u8) -> Option<()> {
     all.push(*digits.get(usize::from(byte % 16))?).ok()
 }
 
-/// All that rows ask, or all that they are told, and the body that is being made.
+/// All that rows ask, or all that they are answered, and the body that is being made.
 #[derive(Drop)]
 pub struct Sheet {
     /// Rows by name: a line that is a name stands for them.
@@ -252,7 +252,8 @@ impl Sheet {
         Some(())
     }
 
-    /// Whether a text begins with what these rows are told; else the line that it has otherwise.
+    /// Whether a text begins with the answers of these rows; else the first line whose answers
+    /// differ.
     pub fn begins<'a>(&mut self, words: &str, rows: &'a str, text: &[u8]) -> Result<(), &'a str> {
         self.clear();
         for line in rows.lines() {

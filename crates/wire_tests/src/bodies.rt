@@ -156,7 +156,7 @@ fn items_are_written_and_read(rt: HostRuntime) -> Result<(), Fail> {
     Ok(())
 }
 
-/// Why an item of this kind isn't read behind a handle, and what `finish` then tells.
+/// The fault of reading an item of this kind after a handle, or else the fault of `finish`.
 fn fault(alloc: Global, item: Item, body: &[u8]) -> Result<String, Fail> {
     let mut reader = NdrReader::new(body);
     let _handle = reader.handle()?;
@@ -172,7 +172,7 @@ fn fault(alloc: Global, item: Item, body: &[u8]) -> Result<String, Fail> {
     }
 }
 
-/// The same of a body in hex that stands behind a handle.
+/// The same of a body in hex that follows a handle.
 fn fault_in(alloc: Global, item: Item, digits: &str) -> Result<String, Fail> {
     let mut body = bytes(alloc, "00000000 0100000000000000 0000000000000000")?;
     body.extend_from_slice(bytes(alloc, digits)?.as_slice())?;

@@ -90,7 +90,7 @@ fn requests_and_binds_are_read(rt: HostRuntime) -> Result<(), Fail> {
             "28: alter_context of call 9, auth 0, transmit 5840, receive 3000, group 7, contexts 0",
         ),
         (
-            // Another PDU stands behind it.
+            // Another PDU follows it.
             "05000003 10000000 1c000000 02000000 04000000 00000f00 01020304 05000003",
             "28: request of call 2, context 0, opnum 15, object [], hint 4, stub [01020304]",
         ),

@@ -12,10 +12,10 @@ pub returns-in-Control-clause-sends : goal.returns-in-Control-clause-sends
 returns-in-Control-clause-sends g c =
     let tells = g.C.Clock.tells c.args.clock.now in
     let k' = c.take_control.new.pass in
-    line_ends tells c.args.book.now.opening c.args.process (g.Q.Quit.may_ask c.args.quit.now) c.args.pass.now k' c.in-Control.code
+    line_ends tells c.args.book.now.opening c.args.process (g.Q.Quit.may_ask c.args.quit.now) c.args.pass.now k' c.in-Control.order
     (g.F.Sink.held c.args.feed.now) (g.F.Sink.held c.send_line.new.feed) (g.F.Sink.faults c.args.feed.now)
     (g.F.Sink.faults c.send_line.new.feed)
-    (takes_one tells c.args.book.now.opening c.args.process c.args.pass.now k' c.now.result c.in-Control.code c.now.ensures
+    (takes_one tells c.args.book.now.opening c.args.process c.args.pass.now k' c.now.result c.in-Control.order c.now.ensures
     c.in-Control.ensures.ends)
     c.send_line.result c.send_line.ensures
 

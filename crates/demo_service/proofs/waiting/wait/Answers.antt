@@ -1,15 +1,15 @@
 use Rattle.std.proofs.Common.{Bool, arith, subst, true, ◌++◌, ◌∷◌, []}
 use Rattle.std.proofs.lemmas.List.{length-append}
-use Rattle.demo_service.specs.Doing.{Hears, HearsOne, Point, point}
+use Rattle.demo_service.specs.Doing.{Hears, HearsOne, Point, point_at}
 use Rattle.demo_service.proofs.Folds.{folds_more}
 use Rattle.demo_service.proofs.waiting.wait.Goals as goal
 
 pub loop-preserved : goal.loop-preserved
 loop-preserved g c =
     let before = c.loop.invariant in
-    let a : Point = point (g.I.Source.left c.args.input.now) (g.O.Sink.held c.args.output.now) in
-    let m : Point = point (g.I.Source.left c.loop.input) (g.O.Sink.held c.loop.output) in
-    let b : Point = point (g.I.Source.left c.answer_next.new.input) (g.O.Sink.held c.answer_next.new.output) in
+    let a : Point = point_at (g.I.Source.left c.args.input.now) (g.O.Sink.held c.args.output.now) in
+    let m : Point = point_at (g.I.Source.left c.loop.input) (g.O.Sink.held c.loop.output) in
+    let b : Point = point_at (g.I.Source.left c.answer_next.new.input) (g.O.Sink.held c.answer_next.new.output) in
     let now = subst (λ (on : Bool). HearsOne m on b) c.in-Ok-true.field-0-test c.in-Ok-true.ensures.hears in
     record {
       fronts = before.fronts ++ now.0 ∷ [];

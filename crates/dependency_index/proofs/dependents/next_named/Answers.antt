@@ -2,10 +2,11 @@ use Rattle.std.proofs.Common.{ℕ, ◌≡◌, ◌∙◌, ◌+◌, ◌≤◌, Lis
 use Rattle.std.specs.Prelude.{IfSome}
 use Rattle.scm_model.specs.declared.flat.Need.{Need}
 use Rattle.scm_model.specs.declared.flat.NeedRow.{NeedRow}
-use Rattle.scm_model.specs.Needs.{has, numbers_of}
+use Rattle.scm_model.specs.Needs.{numbers_of}
 use Rattle.dependency_index.specs.Dependents.{all_named, is_behind, lesser}
 use Rattle.dependency_index.proofs.Lists.{dropped_all}
 use Rattle.dependency_index.proofs.Reaching.{lesser_none, need_merged, next_listed, nothing_named}
+use Rattle.scm_text.specs.Numbers.{has}
 use Rattle.dependency_index.proofs.dependents.next_named.Goals as goal
 
 pub loop-need-preserved : goal.loop-need-preserved

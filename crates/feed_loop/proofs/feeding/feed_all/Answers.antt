@@ -1,5 +1,5 @@
 use Rattle.std.proofs.Common.{◌∙◌, arith}
-use Rattle.feed_loop.specs.Feeding.{At}
+use Rattle.feed_loop.specs.Feeding.{fed_at}
 use Rattle.feed_loop.proofs.Feeds.{ends_so, goes_on, worn}
 use Rattle.feed_loop.proofs.feeding.feed_all.Goals as goal
 
@@ -7,21 +7,9 @@ pub loop-count-preserved : goal.loop-count-preserved
 loop-count-preserved g c =
     let before = c.loop-count.invariant in
     let now = c.in-Ok.ensures in
-    let a : At g.row.E.Denot g.row.P.Denot g.row.O.Denot = record {
-      eater = c.args.eater.now;
-      place = c.args.place.now;
-      output = c.args.output.now;
-    } in
-    let m : At g.row.E.Denot g.row.P.Denot g.row.O.Denot = record {
-      eater = c.loop-count.eater;
-      place = c.loop-count.place;
-      output = c.loop-count.output;
-    } in
-    let b : At g.row.E.Denot g.row.P.Denot g.row.O.Denot = record {
-      eater = c.feed_once.new.eater;
-      place = c.feed_once.new.place;
-      output = c.feed_once.new.output;
-    } in
+    let a = fed_at c.args.eater.now c.args.place.now c.args.output.now in
+    let m = fed_at c.loop-count.eater c.loop-count.place c.loop-count.output in
+    let b = fed_at c.feed_once.new.eater c.feed_once.new.place c.feed_once.new.output in
     record {
       most = now.most;
       ready = now.ready;
@@ -33,21 +21,9 @@ loop-count-preserved g c =
 
 pub returns-in-Err-clause-feeds : goal.returns-in-Err-clause-feeds
 returns-in-Err-clause-feeds g c =
-    let a : At g.row.E.Denot g.row.P.Denot g.row.O.Denot = record {
-      eater = c.args.eater.now;
-      place = c.args.place.now;
-      output = c.args.output.now;
-    } in
-    let m : At g.row.E.Denot g.row.P.Denot g.row.O.Denot = record {
-      eater = c.loop-count.eater;
-      place = c.loop-count.place;
-      output = c.loop-count.output;
-    } in
-    let b : At g.row.E.Denot g.row.P.Denot g.row.O.Denot = record {
-      eater = c.feed_once.new.eater;
-      place = c.feed_once.new.place;
-      output = c.feed_once.new.output;
-    } in
+    let a = fed_at c.args.eater.now c.args.place.now c.args.output.now in
+    let m = fed_at c.loop-count.eater c.loop-count.place c.loop-count.output in
+    let b = fed_at c.feed_once.new.eater c.feed_once.new.place c.feed_once.new.output in
     ends_so g.E.ByteConsumer.eats g.E.ByteConsumer.stops a m b (g.I.Source.left c.args.input.now) (g.I.Source.left c.loop-count.input)
     (g.I.Source.left c.feed_once.new.input)
     c.args.count.now c.loop-count.count c.feed_once.new.count c.in-Err.how c.loop-count.invariant.on c.in-Err.ensures.fed
@@ -55,16 +31,8 @@ returns-in-Err-clause-feeds g c =
 pub returns-clause-feeds : goal.returns-clause-feeds
 returns-clause-feeds g c =
     let before = c.loop-count.invariant in
-    let a : At g.row.E.Denot g.row.P.Denot g.row.O.Denot = record {
-      eater = c.args.eater.now;
-      place = c.args.place.now;
-      output = c.args.output.now;
-    } in
-    let m : At g.row.E.Denot g.row.P.Denot g.row.O.Denot = record {
-      eater = c.loop-count.eater;
-      place = c.loop-count.place;
-      output = c.loop-count.output;
-    } in
+    let a = fed_at c.args.eater.now c.args.place.now c.args.output.now in
+    let m = fed_at c.loop-count.eater c.loop-count.place c.loop-count.output in
     worn g.E.ByteConsumer.eats g.E.ByteConsumer.stops a m (g.I.Source.left c.args.input.now)
     (g.I.Source.left c.loop-count.input) c.args.count.now c.loop-count.count before.on
     (omega (arith, before.most, c.loop-count-test.false))

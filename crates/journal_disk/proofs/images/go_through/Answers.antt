@@ -1,6 +1,6 @@
 use Rattle.std.proofs.Common.{take, ◌+◌, ◌∙◌, ap, arith}
 use Rattle.std.specs.Prelude.{slice_index_or}
-use Rattle.journal_disk.specs.Calls.{call_of, past_of}
+use Rattle.journal_disk.specs.Calls.{as_call, history}
 use Rattle.journal_disk.specs.Tears.{lost}
 use Rattle.journal_disk.proofs.Tearing.{held_more, image_more, one_more, open_bound, open_more}
 use Rattle.journal_disk.proofs.images.go_through.Goals as goal
@@ -9,9 +9,9 @@ pub loop-taken-preserved : goal.loop-taken-preserved
 loop-taken-preserved c =
     let i = c.loop-taken.taken-index in
     let calls = c.args.calls.now in
-    let p = past_of (take i calls) in
-    let q = past_of (take (i + 1) calls) in
-    let call = call_of c.taken-item.result in
+    let p = history (take i calls) in
+    let q = history (take (i + 1) calls) in
+    let call = as_call c.taken-item.result in
     let inv = c.loop-taken.invariant in
     let more = one_more calls i c.taken-item.result c.loop-taken-test.true c.taken-item.is in
     let tear = c.tear_of-tear.ensures ∙ ap (λ n. slice_index_or c.args.tears.now n lost) inv.opened in

@@ -1,5 +1,5 @@
 use Rattle.std.proofs.Common.{◌≡◌, ◌∙◌, sym, subst, insert}
-use Rattle.number_pairs.specs.Keyed.{AreRising}
+use Rattle.number_pairs.specs.Keyed.{AreSorted}
 use Rattle.number_pairs.proofs.Placing.{inserted_is, with_found, rising_with, absent, compare_rising}
 use Rattle.number_pairs.proofs.pairs.add_to.Goals as goal
 
@@ -16,7 +16,7 @@ pub returns-in-Err-clause-items : goal.returns-in-Err-clause-items
 returns-in-Err-clause-items c = inserted c
 
 pub returns-in-Err-clause-rising : goal.returns-in-Err-clause-rising
-returns-in-Err-clause-rising c = subst AreRising (sym (inserted c)) (rising_with c.args.list.now.items c.args.pair c.requires.rising)
+returns-in-Err-clause-rising c = subst AreSorted (sym (inserted c)) (rising_with c.args.list.now.items c.args.pair c.requires.rising)
 
 pub returns-in_default-clause-items : goal.returns-in_default-clause-items
 returns-in_default-clause-items c =

@@ -1,5 +1,5 @@
 use Rattle.std.proofs.Common.{◌∙◌, sym, subst}
-use Rattle.number_pairs.specs.Keyed.{AreRising}
+use Rattle.number_pairs.specs.Keyed.{AreSorted}
 use Rattle.number_pairs.proofs.Placing.{removed_is, absent_is, rising_without, compare_rising}
 use Rattle.number_pairs.proofs.pairs.drop_from.Goals as goal
 
@@ -14,7 +14,7 @@ pub returns-in-Ok-clause-items : goal.returns-in-Ok-clause-items
 returns-in-Ok-clause-items c = removed c
 
 pub returns-in-Ok-clause-rising : goal.returns-in-Ok-clause-rising
-returns-in-Ok-clause-rising c = subst AreRising (sym (removed c)) (rising_without c.args.list.now.items c.args.pair c.requires.rising)
+returns-in-Ok-clause-rising c = subst AreSorted (sym (removed c)) (rising_without c.args.list.now.items c.args.pair c.requires.rising)
 
 pub returns-in_default-clause-items : goal.returns-in_default-clause-items
 returns-in_default-clause-items c =

@@ -1,7 +1,7 @@
 use Rattle.std.proofs.Common.{sym, ap, ◌∙◌, ◌-◌, ◌+◌, ◌≡◌, ◌++◌, [], arith}
 use Rattle.std.specs.Prelude.{option_map}
 use Rattle.rpc_pdu.specs.Contexts.{contexts_of, seen_context}
-use Rattle.rpc_session.specs.Contexts.{seen, result_bytes, context_answer}
+use Rattle.rpc_session.specs.Contexts.{as_value, result_bytes, context_answer}
 use Rattle.rpc_session.proofs.Steps.{contexts_end, contexts_none, contexts_next, results_next, no_results, results_bound, below_next}
 use Rattle.rpc_session.proofs.Steps.{none_below}
 use Rattle.rpc_session.proofs.contexts.answer_all.Goals as goal
@@ -14,10 +14,10 @@ loop-preserved c =
     let is = contexts_next c.args.count c.loop.counter c.loop.rest.now (c.in-Some.context, c.in-Some.after) c.loop-test.true
     (ap (option_map seen_context) (sym c.in-Some.is) ∙ c.read_context.ensures) in
     let grown = c.in_ok-append.ensures.ok ∙ ap (λ r. c.loop.results ++ r) (c.result_of.ensures ∙ ap result_bytes c.answer_of.ensures) in (
-      results_next c.loop.results c.append.new.self (seen c.in-Some.context) list rest is grown ∙ c.loop.invariant.0,
-      results_bound c.loop.results c.append.new.self (context_answer (seen c.in-Some.context)) c.loop.counter grown c.loop.invariant.1,
+      results_next c.loop.results c.append.new.self (as_value c.in-Some.context) list rest is grown ∙ c.loop.invariant.0,
+      results_bound c.loop.results c.append.new.self (context_answer (as_value c.in-Some.context)) c.loop.counter grown c.loop.invariant.1,
       λ n h below. c.loop.invariant.2 n (omega (arith, h, c.above-room.ensures.least))
-          (below_next n (seen c.in-Some.context) list rest is (omega (arith, h, c.above-room.ensures.above)) below),
+          (below_next n (as_value c.in-Some.context) list rest is (omega (arith, h, c.above-room.ensures.above)) below),
     )
 
 pub returns-clause-results : goal.returns-clause-results

@@ -2,7 +2,7 @@ use Rattle.std.proofs.Common.{sym, ap, ◌∙◌, ◌-◌, ◌+◌, ◌≡◌, a
 use Rattle.std.specs.Prelude.{option_map}
 use Rattle.std.proofs.lemmas.List.{length-set}
 use Rattle.rpc_pdu.specs.Contexts.{contexts_of, seen_context}
-use Rattle.rpc_session.specs.Contexts.{seen, context_answer, accepted_by, listed, AreBelow}
+use Rattle.rpc_session.specs.Contexts.{as_value, context_answer, accepted_by, listed, AreBelow}
 use Rattle.rpc_session.proofs.Steps.{contexts_end, contexts_none, contexts_next, nothing_known, known_next, below_head, below_tail, entered}
 use Rattle.rpc_session.proofs.known.enter.Goals as goal
 
@@ -12,7 +12,7 @@ index_mut-requires c =
     let rest = contexts_of (c.args.count - (c.loop.counter + 1)) c.in-Some.after.now in
     let is = contexts_next c.args.count c.loop.counter c.loop.rest.now (c.in-Some.context, c.in-Some.after) c.loop-test.true
     (ap (option_map seen_context) (sym c.in-Some.is) ∙ c.read_context.ensures) in
-    let low = below_head (length c.loop.table.items) (seen c.in-Some.context) list rest is c.loop.invariant.1 in
+    let low = below_head (length c.loop.table.items) (as_value c.in-Some.context) list rest is c.loop.invariant.1 in
     omega (arith, low, c.from.ensures, c.loop.table.ok)
 
 pub loop-preserved : goal.loop-preserved
@@ -21,17 +21,17 @@ loop-preserved c =
     let rest = contexts_of (c.args.count - (c.loop.counter + 1)) c.in-Some.after.now in
     let is = contexts_next c.args.count c.loop.counter c.loop.rest.now (c.in-Some.context, c.in-Some.after) c.loop-test.true
     (ap (option_map seen_context) (sym c.in-Some.is) ∙ c.read_context.ensures) in
-    let low = below_head (length c.loop.table.items) (seen c.in-Some.context) list rest is c.loop.invariant.1 in
+    let low = below_head (length c.loop.table.items) (as_value c.in-Some.context) list rest is c.loop.invariant.1 in
     let now : set c.loop.table.items c.from.result c.accepted.result ≡ set c.loop.table.items c.in-Some.context.id
-    (accepted_by (context_answer (seen c.in-Some.context))) =
+    (accepted_by (context_answer (as_value c.in-Some.context))) =
     ap (λ id. set c.loop.table.items id c.accepted.result) c.from.ensures
     ∙ ap (set c.loop.table.items c.in-Some.context.id) (c.accepted.ensures ∙ ap accepted_by c.answer_of.ensures) in (
       known_next (listed c.loop.table.items) (listed (set c.loop.table.items c.from.result c.accepted.result))
-          (seen c.in-Some.context) list rest is
-          (ap listed now ∙ entered c.loop.table.items c.in-Some.context.id (context_answer (seen c.in-Some.context)) low)
+          (as_value c.in-Some.context) list rest is
+          (ap listed now ∙ entered c.loop.table.items c.in-Some.context.id (context_answer (as_value c.in-Some.context)) low)
           ∙ c.loop.invariant.0,
       subst (λ n. AreBelow n rest) (sym (length-set c.loop.table.items c.from.result c.accepted.result))
-          (below_tail (length c.loop.table.items) (seen c.in-Some.context) list rest is c.loop.invariant.1),
+          (below_tail (length c.loop.table.items) (as_value c.in-Some.context) list rest is c.loop.invariant.1),
     )
 
 pub returns-after-loop : goal.returns-after-loop

@@ -2,7 +2,7 @@ use Rattle.std.proofs.Common.{◌≡◌, ℕ, List, ◌++◌, length, ◌≤◌,
 use Rattle.std.specs.Prelude.{Ok}
 use Rattle.rpc_pdu.specs.declared.pdu.End.TheVariants.{Client}
 use Rattle.rpc_pdu.specs.Pdu.{pdu_at, seen_pdu, seen_read, IsSettled}
-use Rattle.sc_client.specs.Along.{Takes}
+use Rattle.sc_client.specs.Along.{Leads}
 use Rattle.sc_client.specs.Talks.{pdu_move}
 use Rattle.sc_client.proofs.Following.{took, same_total, misplaced, no_pdu, a_part}
 use Rattle.sc_client.proofs.Turning.{moves_bound}
@@ -40,14 +40,14 @@ returns-then-not-branch c =
     (c.read_reply_pdu.ensures.settled (subst IsSettled (sym is) tt)))
     c.in-Whole.ensures.used.0 (within c.in-Whole.used c.as_slice.result.now c.args.held.now.bytes c.as_slice.ensures
     c.in-Whole.ensures.used.1)
-    (subst (λ b. Takes (pdu_move c.args.command.now c.args.talk.now (seen_pdu c.in-Whole.pdu)) c.take.new.self (Ok b)) c.if-not-branch.true
+    (subst (λ b. Leads (pdu_move c.args.command.now c.args.talk.now (seen_pdu c.in-Whole.pdu)) c.take.new.self (Ok b)) c.if-not-branch.true
     c.in_ok-take-in-Whole.ensures)
 
 pub returns : goal.returns
 returns c =
     let is = sym c.read_reply_pdu.ensures.value ∙ ap seen_read c.in-Whole.is in
     let high = within c.in-Whole.used c.as_slice.result.now c.args.held.now.bytes c.as_slice.ensures c.in-Whole.ensures.used.1 in
-    let moves = subst (λ b. Takes (pdu_move c.args.command.now c.args.talk.now (seen_pdu c.in-Whole.pdu)) c.take.new.self (Ok b))
+    let moves = subst (λ b. Leads (pdu_move c.args.command.now c.args.talk.now (seen_pdu c.in-Whole.pdu)) c.take.new.self (Ok b))
     c.if-not-branch.false c.in_ok-take-in-Whole.ensures in (
       took c.args.command.now c.args.talk.now c.take.new.self c.args.held.now c.pass.new.self
           (seen_pdu c.in-Whole.pdu) c.in-Whole.used c.requires.goes_on (ap (pdu_at Client) (sym c.as_slice.ensures) ∙ is)

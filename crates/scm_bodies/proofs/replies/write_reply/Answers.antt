@@ -2,14 +2,14 @@ use Rattle.std.proofs.Common.{◌≤◌, ◌∙◌, Ok, Some, ap, subst, arith}
 use Rattle.scm_model.specs.declared.calls.Reply.{Reply}
 use Rattle.scm_shapes.proofs.Calls.{held_again, spelled_again}
 use Rattle.scm_calls.specs.Replies.{reply_shape, reply_from, reply_values, kind_of, asked_size}
-use Rattle.scm_bodies.specs.Calls.{call_of, reply_kind}
+use Rattle.scm_bodies.specs.Calls.{to_call, reply_kind}
 use Rattle.scm_bodies.proofs.Codecs.{reply_back, reply_codec, reply_held}
 use Rattle.scm_bodies.proofs.Bounds.{bound_is, fits}
 use Rattle.scm_bodies.proofs.replies.write_reply.Goals as goal
 
 pub returns-clause-bounded : goal.returns-clause-bounded
 returns-clause-bounded c = λ request answers le.
-    let is = bound_is (call_of request) (kind_of c.args.reply.now) (asked_size request) answers.0 in
+    let is = bound_is (to_call request) (kind_of c.args.reply.now) (asked_size request) answers.0 in
     let room = subst (λ n. n ≤ c.args.out.room) is le in
     c.put_reply.ensures.enough (omega (arith, room, fits c.args.reply.now (asked_size request) answers.1))
 

@@ -1,6 +1,6 @@
 use Rattle.std.proofs.Common.{[], ◌∷◌, ◌++◌}
 use Rattle.scm_model.specs.declared.steps.Step.TheVariants.{Gone}
-use Rattle.scm_generate.specs.Listed.{at_once, creations, starts}
+use Rattle.scm_generate.specs.Listed.{at_once, creations, all_runs}
 use Rattle.scm_generate.proofs.Along.{made_all, on_ok, open_left, open_opened, open_opening, open_right}
 use Rattle.scm_generate.proofs.generating.make_all.Goals as goal
 
@@ -10,21 +10,21 @@ begin-requires c = open_opening c.args.run.now c.args.services c.requires.open
 pub create_all-requires : goal.create_all-requires
 create_all-requires c =
     let n = c.args.services in
-    open_left c.begin.new.run (creations n) (starts n 1 1 ++ (at_once (Gone 1) ∷ []))
+    open_left c.begin.new.run (creations n) (all_runs n 1 1 ++ (at_once (Gone 1) ∷ []))
     (open_opened c.args.run.now c.begin.new.run n c.in_ok-begin.ensures c.requires.open)
 
 pub start_all-requires-clause-open : goal.start_all-requires-clause-open
 start_all-requires-clause-open c =
     let n = c.args.services in
-    open_left c.create_all.new.run (starts n 1 1) (at_once (Gone 1) ∷ [])
-    (open_right c.begin.new.run c.create_all.new.run (creations n) (starts n 1 1 ++ (at_once (Gone 1) ∷ [])) c.in_ok-create_all.ensures
+    open_left c.create_all.new.run (all_runs n 1 1) (at_once (Gone 1) ∷ [])
+    (open_right c.begin.new.run c.create_all.new.run (creations n) (all_runs n 1 1 ++ (at_once (Gone 1) ∷ [])) c.in_ok-create_all.ensures
     (open_opened c.args.run.now c.begin.new.run n c.in_ok-begin.ensures c.requires.open))
 
 pub make-requires : goal.make-requires
 make-requires c =
     let n = c.args.services in
-    open_right c.create_all.new.run c.start_all.new.run (starts n 1 1) (at_once (Gone 1) ∷ []) c.in_ok-start_all.ensures
-    (open_right c.begin.new.run c.create_all.new.run (creations n) (starts n 1 1 ++ (at_once (Gone 1) ∷ [])) c.in_ok-create_all.ensures
+    open_right c.create_all.new.run c.start_all.new.run (all_runs n 1 1) (at_once (Gone 1) ∷ []) c.in_ok-start_all.ensures
+    (open_right c.begin.new.run c.create_all.new.run (creations n) (all_runs n 1 1 ++ (at_once (Gone 1) ∷ [])) c.in_ok-create_all.ensures
     (open_opened c.args.run.now c.begin.new.run n c.in_ok-begin.ensures c.requires.open))
 
 pub returns : goal.returns

@@ -1,5 +1,5 @@
 use Rattle.std.proofs.Common.{◌≡◌, ◌-◌, arith, subst, sym}
-use Rattle.scm_generate.specs.Listed.{starts}
+use Rattle.scm_generate.specs.Listed.{all_runs}
 use Rattle.scm_generate.specs.Progress.{IsOpenTo, Makes}
 use Rattle.scm_generate.proofs.Along.{open_start, open_starts, starts_more, starts_none}
 use Rattle.scm_generate.proofs.Units.{line_short}
@@ -10,8 +10,8 @@ loop-before-init c =
     let all : c.args.services - 0 ≡ c.args.services = omega arith in
     record {
       few = omega arith;
-      still = subst (λ n. IsOpenTo c.args.run.now (starts n 1 1)) (sym all) c.requires.open;
-      whole = λ now rest. subst (λ n. Makes c.args.run.now (starts n 1 1) now) all rest;
+      still = subst (λ n. IsOpenTo c.args.run.now (all_runs n 1 1)) (sym all) c.requires.open;
+      whole = λ now rest. subst (λ n. Makes c.args.run.now (all_runs n 1 1) now) all rest;
     }
 
 pub start-requires-clause-small : goal.start-requires-clause-small

@@ -1,5 +1,5 @@
 use Rattle.std.proofs.Common.{◌+◌, ◌-◌, ◌*◌, ◌≤◌}
-use Rattle.scm_generate.specs.Listed.{starts}
+use Rattle.scm_generate.specs.Listed.{all_runs}
 use Rattle.scm_generate.specs.Progress.{IsOpenTo, Makes, Progress}
 use Rattle.scm_generate.proofs.starting.start_all.Given as goal
 
@@ -7,7 +7,7 @@ use Rattle.scm_generate.proofs.starting.start_all.Given as goal
 abbrev pub invariant-loop-before : goal.invariant-loop-before
 invariant-loop-before l = record {
   few : l.process ≤ 1 + 32 * l.before;
-  still : IsOpenTo l.run (starts (l.services - l.before) l.process (l.before + 1));
-  whole : (now : Progress) → Makes l.run (starts (l.services - l.before) l.process (l.before + 1)) now
-      → Makes l.fn.run (starts l.services 1 1) now;
+  still : IsOpenTo l.run (all_runs (l.services - l.before) l.process (l.before + 1));
+  whole : (now : Progress) → Makes l.run (all_runs (l.services - l.before) l.process (l.before + 1)) now
+      → Makes l.fn.run (all_runs l.services 1 1) now;
 }

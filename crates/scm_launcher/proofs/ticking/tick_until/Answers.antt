@@ -1,13 +1,13 @@
 use Rattle.std.proofs.Common.{◌≡◌, [], false, refl}
 use Rattle.std.proofs.lemmas.List.Elements.{All-nil}
-use Rattle.scm_launcher.specs.Ticks.{is_full}
+use Rattle.scm_launcher.specs.Ticks.{no_room}
 use Rattle.scm_launcher.proofs.Chains.{full_end, one_more, ticked}
 use Rattle.scm_launcher.proofs.ticking.tick_until.Goals as goal
 
 pub loop-init : goal.loop-init
 loop-init g c = record {
   book = c.requires.book;
-  ticks = record { ends = []; chain = refl; room = All-nil (λ end. is_full end ≡ false) };
+  ticks = record { ends = []; chain = refl; room = All-nil (λ end. no_room end ≡ false) };
 }
 
 pub returns-then-is_full-clause-ticks : goal.returns-then-is_full-clause-ticks

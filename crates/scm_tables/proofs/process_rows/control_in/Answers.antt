@@ -9,13 +9,13 @@ place_of-requires c = rw c.as_slice.ensures.value c.requires.rising
 
 pub returns-in_default-clause-rows : goal.returns-in_default-clause-rows
 returns-in_default-clause-rows c =
-    unchanged number_of c.args.number (listed_as (controlled_if c.args.limit c.args.number c.args.code))
-    (controlled_elsewhere c.args.limit c.args.number c.args.code) c.as_slice.ensures.value c.in_default.ensures.none
+    unchanged number_of c.args.number (listed_as (controlled_if c.args.limit c.args.number c.args.order))
+    (controlled_elsewhere c.args.limit c.args.number c.args.order) c.as_slice.ensures.value c.in_default.ensures.none
 
 pub returns-in-Some-clause-rows : goal.returns-in-Some-clause-rows
 returns-in-Some-clause-rows c =
     rw (c.control_row.ensures, c.index_mut.ensures.value)
-    (changed_at number_of c.args.number (listed_as (controlled_if c.args.limit c.args.number c.args.code))
-    (controlled_elsewhere c.args.limit c.args.number c.args.code) (controlled c.args.limit c.args.code)
-    (controlled_here c.args.limit c.args.number c.args.code) c.as_slice.ensures.value c.in-Some.ensures.within c.in-Some.ensures.found
+    (changed_at number_of c.args.number (listed_as (controlled_if c.args.limit c.args.number c.args.order))
+    (controlled_elsewhere c.args.limit c.args.number c.args.order) (controlled c.args.limit c.args.order)
+    (controlled_here c.args.limit c.args.number c.args.order) c.as_slice.ensures.value c.in-Some.ensures.within c.in-Some.ensures.found
     c.requires.rising c.index_mut.result.now)

@@ -2,7 +2,7 @@ use Rattle.std.proofs.Common.{◌∙◌, ap, sym}
 use Rattle.std.specs.Prelude.{position, set}
 use Rattle.scm_tables.specs.declared.process_rows.ProcessRow.{ProcessRow}
 use Rattle.scm_tables.specs.Lined.{words_told}
-use Rattle.scm_tables.specs.Listed.{is_wanted_row, processes_in, wanted_in, without_words, words_in}
+use Rattle.scm_tables.specs.Listed.{is_wanted_row, processes_in, wanted_in, without_words, next_words}
 use Rattle.scm_tables.proofs.Wording.{emptied, first_of, none_wanted, processes_at, without_at, words_at}
 use Rattle.scm_tables.proofs.process_rows.take_words.Goals as goal
 
@@ -31,7 +31,7 @@ returns-in-Some-clause-processes c =
 pub returns-in-None-clause-words : goal.returns-in-None-clause-words
 returns-in-None-clause-words c =
     let none = none_wanted c.args.rows.now.items (ap (position is_wanted_row) (sym c.as_slice.ensures.value) ∙ sym c.in-None.ensures) in
-    c.new.ensures ∙ sym (ap words_in none)
+    c.new.ensures ∙ sym (ap next_words none)
 
 pub returns-in-None-clause-wanted : goal.returns-in-None-clause-wanted
 returns-in-None-clause-wanted c =

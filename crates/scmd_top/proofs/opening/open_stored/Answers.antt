@@ -1,6 +1,6 @@
 use Rattle.std.proofs.Common.{ℕ, List, true, refl, subst}
 use Rattle.scmd_top.specs.Groups.{groups_in}
-use Rattle.scmd_top.specs.Opening.{Opens}
+use Rattle.scmd_top.specs.Opening.{OpensJournal}
 use Rattle.scmd_top.specs.Parts.{lent}
 use Rattle.scmd_top.specs.Sides.{side}
 use Rattle.scmd_top.proofs.Openings.{opens_so, untouched_so}
@@ -10,7 +10,7 @@ pub returns : goal.returns
 returns g c =
     let e = c.open_manager.ensures in
     let keeper = side g.K.Keeper.held g.K.Keeper.faults c.args.keeper.now c.open_manager.new.keeper in
-    subst (λ (groups : List (List ℕ)). Opens true groups keeper c.args.moment c.open_manager.result) c.in-Ok.ensures
+    subst (λ (groups : List (List ℕ)). OpensJournal true groups keeper c.args.moment c.open_manager.result) c.in-Ok.ensures
     (opens_so keeper c.in-Ok.groups c.args.moment c.open_manager.result e.comes e.opens e.unmoved e.bears e.cause e.kept)
 
 pub returns-in_default : goal.returns-in_default

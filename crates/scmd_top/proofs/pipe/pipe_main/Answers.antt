@@ -1,5 +1,5 @@
 use Rattle.std.proofs.Common.{inl}
-use Rattle.record_journal.specs.Keepers.{has_path}
+use Rattle.std.specs.Prelude.{is_some}
 use Rattle.scmd_top.specs.Sides.{side, sides_of}
 use Rattle.scmd_top.proofs.Connected.{come, complete_pipe, room_always}
 use Rattle.scmd_top.proofs.pipe.pipe_main.Goals as goal
@@ -11,7 +11,7 @@ returns-in-Ok-clause-run g c =
       how = how.result.how;
       status_is = c.status_of.ensures;
       come = come g.K.Keeper.held g.K.Keeper.faults (g.C.Clock.tells c.args.world.clock)
-          (has_path c.args.path) c.args.principal c.now-moment.result _
+          (is_some c.args.path) c.args.principal c.now-moment.result _
           (side g.I.Source.left g.I.Source.faults c.args.world.input how.new.input)
           (side g.O.Sink.held g.O.Sink.faults c.args.world.output how.new.output)
           c.args.world.keeper c.open_at.new.keeper how.result c.now-moment.ensures c.in-Ok.ensures how.ensures.ended;
@@ -22,7 +22,7 @@ pub returns-in-Ok-clause-complete : goal.returns-in-Ok-clause-complete
 returns-in-Ok-clause-complete g c =
     let how = c.serve_alone-how in
     rw c.status_of.ensures
-    (complete_pipe (has_path c.args.path) c.args.principal
+    (complete_pipe (is_some c.args.path) c.args.principal
     (sides_of g.I.Source.left g.I.Source.faults g.O.Sink.held g.O.Sink.faults g.K.Keeper.held g.K.Keeper.faults c.args.world
     (record {
       input = how.new.input;
@@ -34,6 +34,6 @@ returns-in-Ok-clause-complete g c =
       clock = c.args.world.clock;
     }))
     how.result.how how.ensures.complete
-    (room_always (has_path c.args.path) c.args.principal c.now-moment.result _
+    (room_always (is_some c.args.path) c.args.principal c.now-moment.result _
     (side g.K.Keeper.held g.K.Keeper.faults c.args.world.keeper c.open_at.new.keeper) _ how.result.how
     c.in-Ok.ensures how.ensures.room))

@@ -1,7 +1,7 @@
 use Rattle.std.proofs.Common.{arith, ap, length}
 use Rattle.std.proofs.lemmas.List.{length-drop}
 use Rattle.std.proofs.lemmas.Result.{err_from_is_err_and}
-use Rattle.sec_desc.specs.Reading.{aces_in, with_front}
+use Rattle.sec_desc.specs.Reading.{aces_in, onto_front}
 use Rattle.sec_desc.proofs.Entries.{goes_on, ends, is_done}
 use Rattle.sec_desc.proofs.reading.append_aces.Goals as goal
 
@@ -15,7 +15,7 @@ pub loop-preserved : goal.loop-preserved
 loop-preserved c = record {
   read = rw (c.in_ok-push_ace.ensures.ok, c.from_place-rest.ensures)
       (goes_on c.loop.to c.args.count c.loop.counter c.loop.at c.loop.rest.now c.in_ok-ace.ace c.in_ok-ace.size
-      (with_front c.args.to.now (aces_in c.args.count c.args.place c.args.bytes.now))
+      (onto_front c.args.to.now (aces_in c.args.count c.args.place c.args.bytes.now))
       c.loop-test.true c.in_ok-ace.ensures.read c.loop.invariant.read);
   place = let left = ap length c.from_place-rest.ensures in
       omega (arith, left, length-drop c.in_ok-ace.size c.loop.rest.now, c.in_ok-ace.ensures.within, c.loop.invariant.place);
@@ -24,6 +24,6 @@ loop-preserved c = record {
 pub returns : goal.returns
 returns c = record {
   ok = is_done c.loop.to c.args.count c.loop.counter c.loop.at c.loop.rest.now
-      (with_front c.args.to.now (aces_in c.args.count c.args.place c.args.bytes.now)) c.loop-test.false c.loop.invariant.read;
+      (onto_front c.args.to.now (aces_in c.args.count c.args.place c.args.bytes.now)) c.loop-test.false c.loop.invariant.read;
   err = tt;
 }

@@ -9,7 +9,7 @@ invariant_of-self c =
       once = kept.once;
       rising = kept.rising;
       lists = still_of _ _ _ c.forget_room.ensures.numbers kept.lists;
-      room = room_in c.self.inside.spare c.self.inside (record c.self.inside { lists = c.forget_room.new.lists; next = c.take.new.self }) (λ more. more)
-          c.forget_room.ensures.kept kept.room;
+      room = room_in c.self.inside.spare c.self.inside (record c.self.inside { lists = c.forget_room.new.lists; next = c.take.new.self })
+          (λ more. more) c.forget_room.ensures.kept kept.room;
       next = rw c.take.ensures.after tt;
     }

@@ -1,6 +1,6 @@
 use Rattle.std.proofs.Common.{not}
 use Rattle.scm_model.specs.declared.flat.NeedRow.{NeedRow}
-use Rattle.dependency_index.specs.Kept.{has_number}
+use Rattle.dependency_index.specs.Kept.{is_row}
 use Rattle.dependency_index.proofs.Shelves.{rising_filter, still_of}
 use Rattle.dependency_index.proofs.index.DependencyIndex.drop_service.Goals as goal
 
@@ -10,7 +10,7 @@ invariant_of-self c =
     let left = rw c.as_slice.ensures.value at c.leave_lists.ensures.lists in
     record {
       once = c.take_out.ensures.once;
-      rising = rw c.take_out.ensures.rows (rising_filter (λ (row : NeedRow). not (has_number c.args.service row)) rows
+      rising = rw c.take_out.ensures.rows (rising_filter (λ (row : NeedRow). not (is_row c.args.service row)) rows
           c.self.invariant.rising);
       lists = rw c.take_out.ensures.rows (still_of _ _ _ c.forget_texts.ensures left);
       room = rw c.take.ensures.after tt;

@@ -1,7 +1,7 @@
 use Rattle.std.proofs.Common.{◌||◌, ℕ, ◌+◌, ◌∙◌, cond, sym, ap, refl, eqb, arith}
 use Rattle.scm_model.specs.declared.flat.HandleRow.{HandleRow}
 use Rattle.scm_model.specs.Rows.{is_of_service}
-use Rattle.handle_table.specs.Handled.{is_handle, is_callers, is_row_of}
+use Rattle.handle_table.specs.Handled.{is_handle, is_owned_by, is_row_of}
 use Rattle.handle_table.proofs.Counting.{any_below, any_pushed, raised, few, below_pushed}
 use Rattle.handle_table.proofs.table.HandleTable.add.Goals as goal
 
@@ -20,7 +20,7 @@ raise-requires-clause-fits c =
     omega (
       arith,
       c.self.invariant.callers c.args.caller,
-      few (is_callers c.args.caller) c.self.inside.rows.items,
+      few (is_owned_by c.args.caller) c.self.inside.rows.items,
       c.len-len.ensures.len,
       c.len-len.ensures.small,
     )
@@ -35,7 +35,7 @@ invariant_of-self c =
           ∙ sym (raised (is_row_of service) rows new);
       callers = λ (caller : ℕ).
           c.raise.ensures.counts caller ∙ ap (λ m. cond (eqb c.args.caller caller) (m + 1) m) (c.self.invariant.callers caller)
-          ∙ sym (raised (is_callers caller) rows new);
+          ∙ sym (raised (is_owned_by caller) rows new);
       listed = λ (caller number : ℕ).
           c.add.ensures caller number ∙ ap (λ b. is_handle caller number new || b) (c.self.invariant.listed caller number)
           ∙ sym (any_pushed (is_handle caller number) rows new);

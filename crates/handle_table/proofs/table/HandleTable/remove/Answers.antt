@@ -2,13 +2,13 @@ use Rattle.std.proofs.Common.{◌&&◌, ℕ, ◌-◌, ◌∙◌, cond, not, sym,
 use Rattle.std.proofs.lemmas.Bool.{eq-eqb}
 use Rattle.scm_model.specs.declared.flat.HandleRow.{HandleRow}
 use Rattle.scm_model.specs.Rows.{is_of_service}
-use Rattle.handle_table.specs.Handled.{has_number, is_callers, is_row_of}
+use Rattle.handle_table.specs.Handled.{matches, is_owned_by, is_row_of}
 use Rattle.handle_table.proofs.Counting.{one_gone, one_at_least, lowered, stays_none, below_filter}
 use Rattle.handle_table.proofs.table.HandleTable.remove.Goals as goal
 
 pub invariant_of-self : goal.invariant_of-self
 invariant_of-self c =
-    let same = c.remove.ensures.items ∙ stays_none (has_number c.args.number) c.self.inside.rows.items (sym c.in_err-row.ensures.row) in
+    let same = c.remove.ensures.items ∙ stays_none (matches c.args.number) c.self.inside.rows.items (sym c.in_err-row.ensures.row) in
     rw same (record {
       services = c.self.invariant.services;
       callers = c.self.invariant.callers;
@@ -24,7 +24,7 @@ lower_kind-requires c = λ (service : ℕ) is.
 pub lower-requires : goal.lower-requires
 lower-requires c =
     rw (c.self.invariant.callers c.in_ok-row.row.caller)
-    (one_at_least (is_callers c.in_ok-row.row.caller) c.self.inside.rows.items c.in_ok-row.row c.args.number (sym c.in_ok-row.ensures.row)
+    (one_at_least (is_owned_by c.in_ok-row.row.caller) c.self.inside.rows.items c.in_ok-row.row c.args.number (sym c.in_ok-row.ensures.row)
     (eq-eqb c.in_ok-row.row.caller c.in_ok-row.row.caller refl))
 
 pub invariant_of-self-2 : goal.invariant_of-self-2
@@ -39,9 +39,9 @@ invariant_of-self-2 c =
           ∙ sym (lowered (is_row_of service) rows gone c.args.number rising found);
       callers = λ (caller : ℕ).
           c.lower.ensures.counts caller ∙ ap (λ m. cond (eqb gone.caller caller) (m - 1) m) (c.self.invariant.callers caller)
-          ∙ sym (lowered (is_callers caller) rows gone c.args.number rising found);
+          ∙ sym (lowered (is_owned_by caller) rows gone c.args.number rising found);
       listed = λ (caller number : ℕ).
           c.remove-2.ensures caller number ∙ ap (λ b. not (eqb c.args.number number) && b) (c.self.invariant.listed caller number)
           ∙ sym (one_gone c.args.number rows caller number);
-      below = below_filter c.self.inside.next (λ (row : HandleRow). not (has_number c.args.number row)) rows c.self.invariant.below;
+      below = below_filter c.self.inside.next (λ (row : HandleRow). not (matches c.args.number row)) rows c.self.invariant.below;
     })

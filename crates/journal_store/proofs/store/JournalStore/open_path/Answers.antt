@@ -1,6 +1,7 @@
 use Rattle.std.proofs.Common.{Ok, subst}
 use Rattle.std.proofs.lemmas.Result.{err_from_is_err_and}
-use Rattle.journal_disk.specs.Images.{Opens, has_path}
+use Rattle.std.specs.Prelude.{is_some}
+use Rattle.journal_disk.specs.Images.{Opens}
 use Rattle.journal_store.proofs.Steps.{settled}
 use Rattle.journal_store.proofs.Storing.{is_open_now, not_found}
 use Rattle.journal_store.proofs.store.JournalStore.open_path.Goals as goal
@@ -8,16 +9,16 @@ use Rattle.journal_store.proofs.store.JournalStore.open_path.Goals as goal
 pub returns-in_err-end-clause-changes : goal.returns-in_err-end-clause-changes
 returns-in_err-end-clause-changes g c =
     let b = g.D.Disk.state c.open_at.new.self in let d = g.D.Disk.state c.open.new.disk in
-    let opens = subst (λ e. Opens (has_path c.args.path) (g.D.Disk.state e) b (Ok tt)) c.self.view_is c.in_ok-open_at.ensures.opens in
+    let opens = subst (λ e. Opens (is_some c.args.path) (g.D.Disk.state e) b (Ok tt)) c.self.view_is c.in_ok-open_at.ensures.opens in
     let p = err_from_is_err_and c.from_residual-in_err-end.result c.from_residual-in_err-end.ensures.1 in
     rw p.1
-    (not_found (has_path c.args.path) (g.D.Disk.state c.args.self.now) b d opens (g.D.Disk.is_disk c.open_at.new.self)
+    (not_found (is_some c.args.path) (g.D.Disk.state c.args.self.now) b d opens (g.D.Disk.is_disk c.open_at.new.self)
     (g.D.Disk.is_disk c.open.new.disk) c.open.ensures.told c.open.ensures.any_moment c.open.ensures.same p.0)
 
 pub returns-clause-changes : goal.returns-clause-changes
 returns-clause-changes g c =
     let b = g.D.Disk.state c.open_at.new.self in let d = g.D.Disk.state c.open.new.disk in
-    let opens = subst (λ e. Opens (has_path c.args.path) (g.D.Disk.state e) b (Ok tt)) c.self.view_is c.in_ok-open_at.ensures.opens in
-    is_open_now (has_path c.args.path) (g.D.Disk.state c.args.self.now) b d opens (g.D.Disk.is_disk c.open_at.new.self)
+    let opens = subst (λ e. Opens (is_some c.args.path) (g.D.Disk.state e) b (Ok tt)) c.self.view_is c.in_ok-open_at.ensures.opens in
+    is_open_now (is_some c.args.path) (g.D.Disk.state c.args.self.now) b d opens (g.D.Disk.is_disk c.open_at.new.self)
     (g.D.Disk.is_disk c.open.new.disk) c.open.ensures.told c.open.ensures.any_moment c.open.ensures.same
     (settled d _ _ c.in_ok-end.ensures.ready)

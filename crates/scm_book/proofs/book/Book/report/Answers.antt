@@ -23,7 +23,7 @@ report_of-requires g c =
     told_reported c.args.self.now.opening opens c.args.pass.now (of_badge c.make_by-ended.new.badge) c.args.moment c.args.process
     c.args.status.now c.requires.process c.make_by-ended.result
     (step_outside c.self.inside.shared.turn c.args.self.now (of_badge c.pass.inside.badge) c.args.pass.now
-    (of_badge c.make_by-ended.new.badge) c.self.view_is c.pass.view_is c.args.moment (Report c.args.process c.args.status.now)
+    (of_badge c.make_by-ended.new.badge) c.self.view_is c.pass.view_is c.args.moment (Report c.args.process 0 c.args.status.now)
     c.new-step.result.step c.new-step.ensures c.make_by-ended.result c.make_by-ended.ensures.ends)
 
 pub returns-clause-ends : goal.returns-clause-ends
@@ -32,9 +32,9 @@ returns-clause-ends g c =
     reports_so c.args.self.now.opening opens c.args.pass.now (of_badge c.make_by-ended.new.badge) c.args.moment c.args.process
     c.args.status.now c.report_of.result
     (subst (λ (r : Result Answer StepFault). StepEnds c.args.self.now.opening c.args.pass.now c.args.moment
-    (Report c.args.process c.args.status.now) r (of_badge c.make_by-ended.new.badge)) c.report_of.ensures
+    (Report c.args.process 0 c.args.status.now) r (of_badge c.make_by-ended.new.badge)) c.report_of.ensures
     (step_outside c.self.inside.shared.turn c.args.self.now (of_badge c.pass.inside.badge) c.args.pass.now
-    (of_badge c.make_by-ended.new.badge) c.self.view_is c.pass.view_is c.args.moment (Report c.args.process c.args.status.now)
+    (of_badge c.make_by-ended.new.badge) c.self.view_is c.pass.view_is c.args.moment (Report c.args.process 0 c.args.status.now)
     c.new-step.result.step c.new-step.ensures c.make_by-ended.result c.make_by-ended.ensures.ends))
 
 pub returns-clause-keeps : goal.returns-clause-keeps

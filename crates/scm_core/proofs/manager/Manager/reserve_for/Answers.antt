@@ -37,7 +37,8 @@ invariant_of-self-2 c =
     let tables = c.prepare.new.tables in
     let made : IsMadeFor tables.limits tables.flat c.prepare.new.made (unkept c.args.step.now) =
     rw (flat, limits)
-    (is_made_unkept c.self.inside.tables.limits c.self.inside.tables.flat c.prepare.new.made c.args.step.now c.in_ok-prepare.ensures.made) in
+    (is_made_unkept c.self.inside.tables.limits c.self.inside.tables.flat c.prepare.new.made c.args.step.now
+    c.in_ok-prepare.ensures.made) in
     record {
       handles = rw flat sound.handles;
       callers = rw flat sound.callers;

@@ -11,10 +11,10 @@ use Rattle.scm_tables.proofs.processes.Processes.control.Goals as goal
 pub invariant_of-self : goal.invariant_of-self
 invariant_of-self c =
     record {
-      rising = rw c.control_in.ensures.rows (ordered_map number_of _ (listed_as (controlled_if c.args.limit c.args.number c.args.code))
-          (controlled_number c.args.limit c.args.number c.args.code) _ c.self.invariant.rising);
-      owed = c.self.invariant.owed ∙ sym (owed_alone (controlled_if c.args.limit c.args.number c.args.code)
-          (controlled_phase c.args.limit c.args.number c.args.code) c.self.inside.rows.items) ∙ sym (ap owed_in c.control_in.ensures.rows);
+      rising = rw c.control_in.ensures.rows (ordered_map number_of _ (listed_as (controlled_if c.args.limit c.args.number c.args.order))
+          (controlled_number c.args.limit c.args.number c.args.order) _ c.self.invariant.rising);
+      owed = c.self.invariant.owed ∙ sym (owed_alone (controlled_if c.args.limit c.args.number c.args.order)
+          (controlled_phase c.args.limit c.args.number c.args.order) c.self.inside.rows.items) ∙ sym (ap owed_in c.control_in.ensures.rows);
     }
 
 pub returns : goal.returns
@@ -23,6 +23,6 @@ returns c =
       ← c.self.view_is,
       c.control_in.ensures.rows,
       c.control_in.ensures.capacity,
-      processes_changed (controlled_if c.args.limit c.args.number c.args.code) c.self.inside.rows.items,
-      wanted_controlled c.args.limit c.args.number c.args.code c.self.inside.rows.items,
+      processes_changed (controlled_if c.args.limit c.args.number c.args.order) c.self.inside.rows.items,
+      wanted_controlled c.args.limit c.args.number c.args.order c.self.inside.rows.items,
     ) refl

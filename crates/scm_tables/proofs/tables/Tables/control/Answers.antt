@@ -8,4 +8,4 @@ returns-clause-flat c = rw (← c.self.view_is, c.control.ensures) refl
 
 pub invariant_of-self : goal.invariant_of-self
 invariant_of-self c = other_processes c.self.invariant c.control.new.self c.control.ensures refl refl
-    (listed_changed _ (controlled_same _ c.args.process c.args.code) _ _ c.self.invariant.listed)
+    (listed_changed _ (controlled_same _ c.args.process c.args.order) _ _ c.self.invariant.listed)

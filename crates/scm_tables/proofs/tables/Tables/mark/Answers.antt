@@ -8,12 +8,12 @@ use Rattle.scm_tables.proofs.NeedRows.{same_rows}
 use Rattle.scm_tables.proofs.Keeping.{texts_map}
 use Rattle.scm_tables.proofs.Placed.{map_keeps}
 use Rattle.number_lists.specs.Rising.{with_number}
-use Rattle.number_lists.specs.UnderName.{has}
 use Rattle.scm_tables.proofs.Marks.{fewer_marks, found_any, marks_with, rising_by, room_map}
 use Rattle.scm_tables.proofs.Sleeping.{pending_map}
 use Rattle.scm_tables.proofs.Rising.{rising_map}
 use Rattle.scm_tables.proofs.Wording.{found_has}
 use Rattle.scm_tables.proofs.Owning.{listed_map, own_map}
+use Rattle.scm_text.specs.Numbers.{has}
 use Rattle.scm_tables.proofs.tables.Tables.mark.Goals as goal
 
 pub note_mark-requires : goal.note_mark-requires

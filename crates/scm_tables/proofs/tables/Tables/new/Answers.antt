@@ -11,7 +11,7 @@ use Rattle.scm_tables.specs.Tabled.{HasShort}
 use Rattle.scm_model.specs.declared.flat.Process.{Process}
 use Rattle.std.proofs.lemmas.List.Elements.{All-nil}
 use Rattle.scm_tables.specs.Owned.{HaveOwn, NoOtherHas}
-use Rattle.scm_tables.specs.Tabled.{AreRising}
+use Rattle.scm_tables.specs.Tabled.{AreByNumber}
 use Rattle.scm_model.specs.declared.flat.NeedRow.{NeedRow}
 use Rattle.scm_model.specs.Needs.{needs_of}
 use Rattle.scm_model.specs.Walks.{IsAcyclic}
@@ -31,11 +31,11 @@ invariant_of-result c =
       ap (λ (all : List Service). length all) c.in_ok-services.ensures,
       opened_length 1 c.args.configs,
     ) in
-    let rising = subst (AreRising (length c.args.configs + 1)) (sym is) (opened_rising c.args.configs) in
+    let rising = subst (AreByNumber (length c.args.configs + 1)) (sym is) (opened_rising c.args.configs) in
     let graph = c.in_ok-index.ensures ∙ ap need_rows (c.as_slice-2.ensures.value ∙ sym same) in
     record {
-      rising = subst (λ (n : ℕ). AreRising n rows) (sym (ap (λ (n : Next). n.service) c.first_numbers-next.ensures))
-          (subst (λ (n : ℕ). AreRising (n + 1) rows) (sym count) rising);
+      rising = subst (λ (n : ℕ). AreByNumber n rows) (sym (ap (λ (n : Next). n.service) c.first_numbers-next.ensures))
+          (subst (λ (n : ℕ). AreByNumber (n + 1) rows) (sym count) rising);
       owns = rw (ap (λ (t : Processed). t.next) c.in_ok-processes.ensures.none) (subst (HaveOwn 1) (sym is) (opened_own 1 c.args.configs));
       listed = rw (ap (λ (t : Processed). t.processes) c.in_ok-processes.ensures.none)
           (All-nil (λ (p : Process). NoOtherHas p.number rows p.service));
@@ -86,7 +86,7 @@ returns-clause-flat c =
 pub index_of-requires : goal.index_of-requires
 index_of-requires c =
     let is : c.in_ok-services.services.items ≡ services_from 1 c.args.configs = c.in_ok-services.ensures in
-    rw c.as_slice-2.ensures.value (subst (AreRising (length c.args.configs + 1)) (sym is) (opened_rising c.args.configs)).rising
+    rw c.as_slice-2.ensures.value (subst (AreByNumber (length c.args.configs + 1)) (sym is) (opened_rising c.args.configs)).rising
 
 pub table_of-requires : goal.table_of-requires
-table_of-requires c = (subst (AreRising (length c.args.configs + 1)) (sym c.in_ok-services.ensures) (opened_rising c.args.configs)).rising
+table_of-requires c = (subst (AreByNumber (length c.args.configs + 1)) (sym c.in_ok-services.ensures) (opened_rising c.args.configs)).rising

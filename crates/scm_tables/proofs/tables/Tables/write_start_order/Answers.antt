@@ -1,11 +1,12 @@
 use Rattle.std.proofs.Common.{◌≡◌, ◌∙◌, ap, sym, subst, true, length, arith, List}
 use Rattle.scm_model.specs.declared.flat.NeedRow.{NeedRow}
-use Rattle.scm_model.specs.Needs.{has, numbers_of}
+use Rattle.scm_model.specs.Needs.{numbers_of}
 use Rattle.scm_model.specs.Order.{order_in}
 use Rattle.scm_model.specs.Ready.{state_of}
 use Rattle.scm_rules.specs.Needs.{need_rows}
 use Rattle.scm_tables.specs.Tabled.{Tabled}
 use Rattle.scm_tables.proofs.NeedRows.{has_row, same_length}
+use Rattle.scm_text.specs.Numbers.{has}
 use Rattle.scm_tables.proofs.tables.Tables.write_start_order.Goals as goal
 
 pub order_of-requires-clause-listed : goal.order_of-requires-clause-listed
