@@ -20,5 +20,5 @@ pub use deleting::{delete, delete_verdict, removed};
 pub use making::config_of;
 pub use naming::{display_name, key_name};
 pub use needing::{are_unreadable, needs_in};
-pub use querying::{query, query_verdict};
+pub use querying::query;
 pub use showing::query_config;

@@ -1,43 +1,39 @@
 ghost use Rattle.std.specs.Prelude.{◌≡◌};
-ghost use Rattle.scm_model.specs.Refused.{outcome};
+ghost use Rattle.scm_model.specs.Refused.{outcome, zero_status};
+ghost use Rattle.scm_model.specs.declared.calls.Reply.TheVariants as reply;
 ghost use Rattle.scm_model.specs.declared.calls.Request.TheVariants as request;
 ghost use Rattle.scm_rules.specs.Query.{query_done, query_verdict, query_outcome};
 
-use scm_model::codes::{ERROR_INVALID_HANDLE, SERVICE_QUERY_STATUS};
+use scm_model::codes::{ERROR_ACCESS_DENIED, ERROR_INVALID_HANDLE, SERVICE_QUERY_STATUS};
 use scm_model::{Reply, zero_status};
 use scm_tables::{Tables, mask_lacks, status_in};
 
-/// What `RQueryServiceStatus` is refused with, or 0: `ERROR_INVALID_HANDLE` (6) or
-/// `ERROR_ACCESS_DENIED` (5).
-pub fn query_verdict(tables: &Tables, caller: u64, handle: u64) -> u32
-    ensures { result ≡ query_verdict tables.now.flat caller handle }
+/// The reply to a query that is refused.
+fn refused(code: u32) -> Reply
+    ensures { result ≡ reply.State zero_status code }
 {
-    match tables.opened(caller, handle) {
-        None => ERROR_INVALID_HANDLE,
-        Some(opened) => {
-            if mask_lacks(opened.granted, SERVICE_QUERY_STATUS) {
-                5
-            } else {
-                0
-            }
-        }
+    Reply::State {
+        status: zero_status(),
+        code,
     }
 }
 
-/// Answers the status of a service.
+/// Answers the status of a service, or `ERROR_INVALID_HANDLE` (6) or `ERROR_ACCESS_DENIED` (5).
 pub fn query(tables: &Tables, caller: u64, handle: u64) -> Reply
     ensures reply { result ≡ (query_outcome tables.now.flat caller handle).reply }
     ensures flat { tables.now.flat ≡ (query_outcome tables.now.flat caller handle).flat }
 {
-    let code = query_verdict(tables, caller, handle);
-    if code != 0 {
-        return Reply::State {
-            status: zero_status(),
-            code,
-        };
-    }
-    Reply::State {
-        status: status_in(tables.held_service(caller, handle)),
-        code: 0,
+    match tables.opened(caller, handle) {
+        None => refused(ERROR_INVALID_HANDLE),
+        Some(opened) => {
+            if mask_lacks(opened.granted, SERVICE_QUERY_STATUS) {
+                refused(ERROR_ACCESS_DENIED)
+            } else {
+                Reply::State {
+                    status: status_in(tables.service(opened.service)),
+                    code: 0,
+                }
+            }
+        }
     }
 }
