@@ -11,7 +11,7 @@ use Rattle.std.proofs.lemmas.Bool.{true≢false}
 use Rattle.scm_model.specs.declared.flat.Action.{Action}
 use Rattle.sc_words.specs.Places.{◌>>=◌, fits}
 use Rattle.sc_words.specs.Texts.{word_text}
-use Rattle.sc_words.specs.Values.{each, with_first, action_at, actions_of}
+use Rattle.sc_words.specs.Values.{each, with_first, action_named, actions_of}
 use Rattle.sc_words.specs.Words.{texts_from}
 
 -- ## Results
@@ -120,7 +120,7 @@ names_end f words place xs h = ap (λ ws. behind xs (each f (seen ws))) (drop_of
 
 -- one action more
 pub actions_more : (words : List (Bor (List ℕ))) (place : ℕ) (d e : Bor (List ℕ)) (xs now : List Action) (x : Action)
-    → place + 1 < length words → action_at (get_or words place d).now (get_or words (place + 1) e).now ≡ Some x → now ≡ xs ++ x ∷ []
+    → place + 1 < length words → action_named (get_or words place d).now (get_or words (place + 1) e).now ≡ Some x → now ≡ xs ++ x ∷ []
     → behind now (actions_of (seen (drop (place + 2) words))) ≡ behind xs (actions_of (seen (drop place words)))
 unfolding actions_of
 actions_more words place d e xs now x h is grown =
@@ -130,7 +130,7 @@ actions_more words place d e xs now x h is grown =
 
 -- two words that are none
 pub actions_stop : (words : List (Bor (List ℕ))) (place : ℕ) (d e : Bor (List ℕ)) (xs : List Action)
-    → place + 1 < length words → action_at (get_or words place d).now (get_or words (place + 1) e).now ≡ None
+    → place + 1 < length words → action_named (get_or words place d).now (get_or words (place + 1) e).now ≡ None
     → behind xs (actions_of (seen (drop place words))) ≡ None
 unfolding actions_of
 actions_stop words place d e xs h is =

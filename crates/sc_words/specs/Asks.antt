@@ -87,16 +87,16 @@ tag_asked (Some true) = Some 0
 tag_asked _ = None
 
 -- units as bytes, the low one first
-abbrev pub bytes_of : List ℕ → List ℕ
-bytes_of [] = []
-bytes_of (unit ∷ units) = unit % 256 ∷ unit / 256 ∷ bytes_of units
+abbrev pub utf16_bytes : List ℕ → List ℕ
+utf16_bytes [] = []
+utf16_bytes (unit ∷ units) = unit % 256 ∷ unit / 256 ∷ utf16_bytes units
 
 abbrev pub zero_ended : List ℕ → List ℕ
 zero_ended name = name ++ 0 ∷ []
 
 -- names, each ended by a 0 and all by one more
 unfoldable pub needs_bytes : List (List ℕ) → List ℕ
-needs_bytes names = bytes_of (flat_map zero_ended names ++ 0 ∷ [])
+needs_bytes names = utf16_bytes (flat_map zero_ended names ++ 0 ∷ [])
 
 abbrev pub creation : List ℕ → Settings → ℕ → NewService
 creation name s handle = record {
@@ -147,11 +147,14 @@ page_size = 65536
 abbrev pub every_kind : ℕ
 every_kind = SERVICE_WIN32_OWN_PROCESS + SERVICE_WIN32_SHARE_PROCESS
 
+-- a configuration is asked for, and by a second call whether the service starts delayed
+abbrev pub config_asks : Method → ℕ → Request
+config_asks method.QueryServiceConfig2 handle = request.QueryConfig2 handle SERVICE_CONFIG_DELAYED_AUTO_START_INFO MAX_CONFIG_SIZE
+config_asks m handle = request.QueryConfig handle MAX_CONFIG_SIZE
+
 -- what a task asks that reads
 abbrev pub query_asks : Command → Task → Method → ℕ → Request
-query_asks c task.QueryConfig method.QueryServiceConfig2 handle = request.QueryConfig2 handle SERVICE_CONFIG_DELAYED_AUTO_START_INFO
-    MAX_CONFIG_SIZE
-query_asks c task.QueryConfig m handle = request.QueryConfig handle MAX_CONFIG_SIZE
+query_asks c task.QueryConfig m handle = config_asks m handle
 query_asks c (task.QueryLevel level) m handle = request.QueryConfig2 handle (level_number level) MAX_CONFIG_SIZE
 query_asks c task.QueryEx m handle = request.QueryStatusEx handle SC_STATUS_PROCESS_INFO MAX_CONFIG_SIZE
 query_asks c task.EnumDepend m handle = request.EnumDependents handle SERVICE_STATE_ALL MAX_ENUM_SIZE
@@ -159,20 +162,24 @@ query_asks c task.DisplayName m handle = request.DisplayName handle c.name name_
 query_asks c task.KeyName m handle = request.KeyName handle c.name name_size
 query_asks c _ m handle = request.QueryLock handle MAX_LOCK_STATUS_SIZE
 
+-- what a task asks that writes a configuration
+abbrev pub write_asks : Command → Task → Method → ℕ → Request
+write_asks c (task.Create s) method.ChangeServiceConfig2 handle = request.Change2 handle (info.Delayed (is_delayed s.start))
+write_asks c (task.Create s) m handle = request.Create (creation c.name s handle)
+write_asks c (task.Config s) method.ChangeServiceConfig2 handle = request.Change2 handle (info.Delayed (is_delayed s.start))
+write_asks c (task.Config s) m handle = request.Change (change s handle)
+write_asks c (task.Description text) m handle = request.Change2 handle (info.Description (Some text))
+write_asks c (task.Failure s) m handle = request.Change2 handle (info.Failure (unwrap_or s.reset 0) s.command s.actions)
+write_asks c (task.FailureFlag on) m handle = request.Change2 handle (info.OnExit on)
+write_asks c t m handle = query_asks c t m handle
+
 -- what a task asks of its service, or of the manager
 abbrev pub task_asks : Command → Task → Method → ℕ → Request
-task_asks c (task.Create s) method.ChangeServiceConfig2 handle = request.Change2 handle (info.Delayed (is_delayed s.start))
-task_asks c (task.Create s) m handle = request.Create (creation c.name s handle)
-task_asks c (task.Config s) method.ChangeServiceConfig2 handle = request.Change2 handle (info.Delayed (is_delayed s.start))
-task_asks c (task.Config s) m handle = request.Change (change s handle)
-task_asks c (task.Description text) m handle = request.Change2 handle (info.Description (Some text))
-task_asks c (task.Failure s) m handle = request.Change2 handle (info.Failure (unwrap_or s.reset 0) s.command s.actions)
 task_asks c (task.Start words) m handle = request.Start handle (Some words)
 task_asks c (task.Control code) m handle = request.Control handle code
 task_asks c task.Query m handle = request.QueryStatus handle
 task_asks c task.Delete m handle = request.Delete handle
-task_asks c (task.FailureFlag on) m handle = request.Change2 handle (info.OnExit on)
-task_asks c t m handle = query_asks c t m handle
+task_asks c t m handle = write_asks c t m handle
 
 -- the number after which the next page begins
 abbrev pub resume_heard : Option Heard → Option ℕ

@@ -53,8 +53,8 @@ methods_of task.KeyName = method.GetServiceKeyName ∷ []
 methods_of task.QueryAll = method.EnumServicesStatus ∷ []
 methods_of task.QueryLock = method.QueryServiceLockStatus ∷ []
 
-abbrev pub calls_of : Task → List Method
-calls_of t = method.OpenSCManager ∷ methods_of t
+abbrev pub methods_called : Task → List Method
+methods_called t = method.OpenSCManager ∷ methods_of t
 
 -- ## How far they came
 
@@ -119,7 +119,7 @@ standing_by (Some m) None = Asks m
 standing_by (Some m) (Some h) = Failed m h
 
 unfoldable pub stage_of : Task → List Heard → Standing
-stage_of t hs = let p = progress_of (calls_of t) hs in standing_by (slice_get (calls_of t) p.done) (slice_get hs p.taken)
+stage_of t hs = let p = progress_of (methods_called t) hs in standing_by (slice_get (methods_called t) p.done) (slice_get hs p.taken)
 
 -- ## Handles
 
@@ -141,7 +141,7 @@ handles_of task.QueryLock = 1
 handles_of _ = 2
 
 unfoldable pub given : Task → List Heard → ℕ
-given t hs = min (handles_of t) (progress_of (calls_of t) hs).done
+given t hs = min (handles_of t) (progress_of (methods_called t) hs).done
 
 -- the handle that was given before the last so many
 unfoldable pub handle_before : ℕ → Task → List Heard → ℕ
@@ -150,8 +150,8 @@ handle_before last t hs = handle_in (slice_get hs (given t hs - 1 - last))
 -- how many replies came to the closes
 abbrev pub closed_by : Standing → Task → List Heard → ℕ
 closed_by (Asks m) t hs = 0
-closed_by (Failed m h) t hs = length hs - (progress_of (calls_of t) hs).taken - 1
-closed_by Done t hs = length hs - (progress_of (calls_of t) hs).taken
+closed_by (Failed m h) t hs = length hs - (progress_of (methods_called t) hs).taken - 1
+closed_by Done t hs = length hs - (progress_of (methods_called t) hs).taken
 
 unfoldable pub closed : Task → List Heard → ℕ
 closed t hs = closed_by (stage_of t hs) t hs

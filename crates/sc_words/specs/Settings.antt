@@ -8,7 +8,7 @@ use Rattle.sc_words.specs.declared.verb.Verb.{Verb}
 use Rattle.sc_words.specs.declared.verb.Verb.TheVariants as verb
 use Rattle.sc_words.specs.Places.{◌>>=◌, fits}
 use Rattle.sc_words.specs.Texts.{word_text}
-use Rattle.sc_words.specs.Values.{kind_named, start_named, error_named, flag_named, names_at, seconds_at, actions_at}
+use Rattle.sc_words.specs.Values.{kind_named, start_named, error_named, flag_named, names_at, seconds_at, actions_named}
 
 abbrev pub key_named : List ℕ → Option Key
 key_named word =
@@ -84,7 +84,7 @@ with_value key.Depend word s = option_map (λ names. record s { needs = Some nam
 with_value key.DisplayName word s = option_map (λ text. record s { display = Some text }) (word_text word)
 with_value key.Obj word s = option_map (λ text. record s { account = Some text }) (word_text word)
 with_value key.Reset word s = option_map (λ seconds. record s { reset = Some seconds }) (seconds_at word)
-with_value key.Actions word s = option_map (λ actions. record s { actions = Some actions }) (actions_at word)
+with_value key.Actions word s = option_map (λ actions. record s { actions = Some actions }) (actions_named word)
 with_value key.Command word s = option_map (λ text. record s { command = Some text }) (word_text word)
 
 -- the key that a word is, if the verb takes it and it didn't stand before

@@ -49,27 +49,27 @@ failed_line m (heard.Reply r) = call_line m (codes " FAILED " ++ decimal (code_h
 failed_line m (heard.Fault status) = call_line m (codes " FAULT " ++ decimal status)
 
 -- the status in the reply to the third call
-abbrev pub status_at : List ℕ → Option Heard → List ℕ
-status_at name (Some (heard.Reply (reply.State status code))) = status_text name status
-status_at name _ = []
+abbrev pub status_lines : List ℕ → Option Heard → List ℕ
+status_lines name (Some (heard.Reply (reply.State status code))) = status_text name status
+status_lines name _ = []
 
 abbrev pub success : Method → List ℕ
 success m = call_line m (codes " SUCCESS")
 
 -- ## What was asked for
 
-abbrev pub bytes_at : Option Heard → List ℕ
-bytes_at (Some (heard.Reply (reply.Bytes size bytes needed code))) = bytes
-bytes_at _ = []
+abbrev pub told_bytes : Option Heard → List ℕ
+told_bytes (Some (heard.Reply (reply.Bytes size bytes needed code))) = bytes
+told_bytes _ = []
 
 -- a configuration, if one was given, and whether its start is delayed
 abbrev pub shown_text : List ℕ → Option Shown → List ℕ → List ℕ
 shown_text name (Some config) delayed = config_text name config (is_on delayed)
 shown_text name None delayed = []
 
-abbrev pub config_at : List ℕ → Option Heard → Option Heard → List ℕ
-config_at name (Some (heard.Reply (reply.Shown config needed code))) delayed = shown_text name config (bytes_at delayed)
-config_at name _ delayed = []
+abbrev pub config_lines : List ℕ → Option Heard → Option Heard → List ℕ
+config_lines name (Some (heard.Reply (reply.Shown config needed code))) delayed = shown_text name config (told_bytes delayed)
+config_lines name _ delayed = []
 
 abbrev pub level_text : Level → List ℕ → List ℕ → List ℕ
 level_text level.Description name bytes = description_text name bytes
@@ -100,20 +100,20 @@ abbrev pub name_line_at : Option Heard → List ℕ
 name_line_at (Some (heard.Reply (reply.Name name size code))) = lines (Text (codes "Name = ") name ∷ [])
 name_line_at _ = []
 
-abbrev pub lock_at : Option Heard → List ℕ
-lock_at (Some (heard.Reply (reply.LockState held owner seconds needed code))) = lock_text held (unwrap_or owner []) seconds
-lock_at _ = []
+abbrev pub lock_lines : Option Heard → List ℕ
+lock_lines (Some (heard.Reply (reply.LockState held owner seconds needed code))) = lock_text held (unwrap_or owner []) seconds
+lock_lines _ = []
 
 -- what is printed of a task that reads; the reply that counts is the last one before the closes
 abbrev pub read_text : List ℕ → Task → List Heard → List ℕ
-read_text name task.QueryConfig hs = success method.QueryServiceConfig ++ config_at name (slice_get hs 2) (slice_get hs 3)
-read_text name (task.QueryLevel level) hs = success method.QueryServiceConfig2 ++ level_text level name (bytes_at (slice_get hs 2))
-read_text name task.QueryEx hs = process_text name (bytes_at (slice_get hs 2))
+read_text name task.QueryConfig hs = success method.QueryServiceConfig ++ config_lines name (slice_get hs 2) (slice_get hs 3)
+read_text name (task.QueryLevel level) hs = success method.QueryServiceConfig2 ++ level_text level name (told_bytes (slice_get hs 2))
+read_text name task.QueryEx hs = process_text name (told_bytes (slice_get hs 2))
 read_text name task.EnumDepend hs = dependents_at (slice_get hs 2)
 read_text name task.DisplayName hs = success method.GetServiceDisplayName ++ name_line_at (slice_get hs 1)
 read_text name task.KeyName hs = success method.GetServiceKeyName ++ name_line_at (slice_get hs 1)
 read_text name task.QueryAll hs = pages_text hs
-read_text name _ hs = success method.QueryServiceLockStatus ++ lock_at (slice_get hs 1)
+read_text name _ hs = success method.QueryServiceLockStatus ++ lock_lines (slice_get hs 1)
 
 -- what is printed where all calls succeeded
 abbrev pub done_text : List ℕ → Task → List Heard → List ℕ
@@ -122,8 +122,8 @@ done_text name (task.Config s) hs = success method.ChangeServiceConfig
 done_text name (task.Description text) hs = success method.ChangeServiceConfig2
 done_text name (task.Failure s) hs = success method.ChangeServiceConfig2
 done_text name (task.Start words) hs = success method.StartService
-done_text name (task.Control code) hs = status_at name (slice_get hs 2)
-done_text name task.Query hs = status_at name (slice_get hs 2)
+done_text name (task.Control code) hs = status_lines name (slice_get hs 2)
+done_text name task.Query hs = status_lines name (slice_get hs 2)
 done_text name task.Delete hs = success method.DeleteService
 done_text name (task.FailureFlag on) hs = success method.ChangeServiceConfig2
 done_text name t hs = read_text name t hs
@@ -137,10 +137,10 @@ told_at Done c hs = done_text c.name c.task hs
 unfoldable pub told_text : Command → List Heard → List ℕ
 told_text c hs = told_at (stage_of c.task hs) c hs
 
-abbrev pub failure_at : Standing → Option Failure
-failure_at (Failed m h) = Some (failure_heard h)
-failure_at _ = None
+abbrev pub failure_met : Standing → Option Failure
+failure_met (Failed m h) = Some (failure_heard h)
+failure_met _ = None
 
 -- why a call didn't succeed, if one didn't
 unfoldable pub failure_of : Command → List Heard → Option Failure
-failure_of c hs = failure_at (stage_of c.task hs)
+failure_of c hs = failure_met (stage_of c.task hs)

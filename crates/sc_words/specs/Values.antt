@@ -75,15 +75,15 @@ what_named word =
     else if bytes_eq word (codes "run") then Some 3
     else None
 
-unfoldable pub action_at : List ℕ → List ℕ → Option Action
-action_at what delay = option_and_then (λ w. option_map (λ d. record { what = w; delay = d }) (word_number delay)) (what_named what)
+unfoldable pub action_named : List ℕ → List ℕ → Option Action
+action_named what delay = option_and_then (λ w. option_map (λ d. record { what = w; delay = d }) (word_number delay)) (what_named what)
 
 -- what is done and its delay, by turns
 unfoldable pub actions_of : List (List ℕ) → Option (List Action)
 actions_of [] = Some []
 actions_of (what ∷ []) = None
-actions_of (what ∷ delay ∷ words) = with_first (action_at what delay) (actions_of words)
+actions_of (what ∷ delay ∷ words) = with_first (action_named what delay) (actions_of words)
 
 -- the same with `/` between them
-unfoldable pub actions_at : List ℕ → Option (List Action)
-actions_at word = actions_of (slash_pieces word)
+unfoldable pub actions_named : List ℕ → Option (List Action)
+actions_named word = actions_of (slash_pieces word)

@@ -1,9 +1,10 @@
 ghost use Rattle.std.specs.Prelude.{◌≡◌, ◌++◌, [], ◌-◌, IfOk, OnOk, length, option_map, slice_get};
 ghost use Rattle.std.specs.Prelude.{unwrap_or};
-ghost use Rattle.sc_words.specs.Asks.{asks, bytes_of, change, close, control_right, creation};
-ghost use Rattle.sc_words.specs.Asks.{is_delayed, level_number, manager_right, method_asks};
-ghost use Rattle.sc_words.specs.Asks.{needs_bytes, page_asks, query_asks, resume_heard};
-ghost use Rattle.sc_words.specs.Asks.{service_right, start_code, tag_asked, task_asks};
+ghost use Rattle.sc_words.specs.Asks.{asks, utf16_bytes, change, close, config_asks};
+ghost use Rattle.sc_words.specs.Asks.{control_right, creation, is_delayed, level_number};
+ghost use Rattle.sc_words.specs.Asks.{manager_right, method_asks, needs_bytes, page_asks};
+ghost use Rattle.sc_words.specs.Asks.{query_asks, resume_heard, service_right, start_code};
+ghost use Rattle.sc_words.specs.Asks.{tag_asked, task_asks, write_asks};
 ghost use Rattle.scm_model.specs.declared.calls.Info.TheVariants as info;
 ghost use Rattle.scm_model.specs.declared.calls.Request.TheVariants as request;
 
@@ -124,7 +125,7 @@ fn tag_asked(asked: Option<bool>) -> Option<u32>
 
 /// Appends units as bytes, the low one first.
 fn append_units(bytes: &mut Items<u8>, units: &[u16]) -> Result<(), OutOfMemory>
-    ensures { OnOk result (bytes.new ≡ bytes.old ++ bytes_of units.now) }
+    ensures { OnOk result (bytes.new ≡ bytes.old ++ utf16_bytes units.now) }
 {
     for unit in units {
         bytes.append(&[(*unit % 256) as u8, (*unit / 256) as u8])?;
@@ -182,82 +183,15 @@ fn copy_of_actions(
     }
 }
 
-/// The texts and lists of settings as a request has them.
-#[derive(Drop)]
-struct Copies {
-    display: Option<WText>,
-    path: Option<WText>,
-    group: Option<WText>,
-    needs: Option<Items<u8>>,
-    account: Option<WText>,
-}
-
-/// Copies of the texts and lists of settings.
-fn copies_of(alloc: Global, settings: &Settings) -> Result<Copies, OutOfMemory>
-    ensures display { IfOk result (λ copies. copies.display ≡ settings.now.display) }
-    ensures path { IfOk result (λ copies. copies.path ≡ settings.now.path) }
-    ensures group { IfOk result (λ copies. copies.group ≡ settings.now.group) }
-    ensures needs { IfOk result (λ copies. copies.needs ≡ option_map needs_bytes settings.now.needs) }
-    ensures account { IfOk result (λ copies. copies.account ≡ settings.now.account) }
+/// What a change asks.
+fn change(alloc: Global, settings: &Settings, handle: u64) -> Result<ChangeService, OutOfMemory>
+    ensures { IfOk result (λ asked. asked ≡ change settings.now handle) }
 {
     let display = copy_of_text(alloc, &settings.display)?;
     let path = copy_of_text(alloc, &settings.path)?;
     let group = copy_of_text(alloc, &settings.group)?;
     let needs = some_needs(alloc, &settings.needs)?;
     let account = copy_of_text(alloc, &settings.account)?;
-    Ok(Copies {
-        display,
-        path,
-        group,
-        needs,
-        account,
-    })
-}
-
-/// What a creation asks.
-fn creation(
-    alloc: Global,
-    name: &WText,
-    settings: &Settings,
-    handle: u64,
-) -> Result<NewService, OutOfMemory>
-    ensures { IfOk result (λ new. new ≡ creation name.now settings.now handle) }
-{
-    let name = name.copy(alloc)?;
-    let Copies {
-        display,
-        path,
-        group,
-        needs,
-        account,
-    } = copies_of(alloc, settings)?;
-    Ok(NewService {
-        handle,
-        name,
-        display,
-        access: SERVICE_ALL_ACCESS,
-        kind: settings.kind.unwrap_or(SERVICE_WIN32_OWN_PROCESS),
-        start: start_or(settings.start, SERVICE_DEMAND_START),
-        error: settings.error.unwrap_or(SERVICE_ERROR_NORMAL),
-        path: path.unwrap_or(WText::new(alloc)),
-        group,
-        tag: tag_asked(settings.tag),
-        needs,
-        account,
-    })
-}
-
-/// What a change asks.
-fn change(alloc: Global, settings: &Settings, handle: u64) -> Result<ChangeService, OutOfMemory>
-    ensures { IfOk result (λ asked. asked ≡ change settings.now handle) }
-{
-    let Copies {
-        display,
-        path,
-        group,
-        needs,
-        account,
-    } = copies_of(alloc, settings)?;
     Ok(ChangeService {
         handle,
         kind: settings.kind.unwrap_or(SERVICE_NO_CHANGE),
@@ -269,6 +203,41 @@ fn change(alloc: Global, settings: &Settings, handle: u64) -> Result<ChangeServi
         needs,
         account,
         display,
+    })
+}
+
+/// What a creation asks: what a change asks, under a name and with defaults.
+fn creation(
+    alloc: Global,
+    name: &WText,
+    settings: &Settings,
+    handle: u64,
+) -> Result<NewService, OutOfMemory>
+    ensures { IfOk result (λ new. new ≡ creation name.now settings.now handle) }
+{
+    let name = name.copy(alloc)?;
+    let ChangeService {
+        display,
+        path,
+        group,
+        needs,
+        account,
+        tag,
+        ..
+    } = change(alloc, settings, handle)?;
+    Ok(NewService {
+        handle,
+        name,
+        display,
+        access: SERVICE_ALL_ACCESS,
+        kind: settings.kind.unwrap_or(SERVICE_WIN32_OWN_PROCESS),
+        start: start_or(settings.start, SERVICE_DEMAND_START),
+        error: settings.error.unwrap_or(SERVICE_ERROR_NORMAL),
+        path: path.unwrap_or(WText::new(alloc)),
+        group,
+        tag,
+        needs,
+        account,
     })
 }
 
@@ -332,115 +301,115 @@ fn page_asks(handle: u64, heard: &[Heard]) -> Request
     }
 }
 
-/// What a task of reading asks by a handle.
-fn query_asks(
-    alloc: Global,
-    command: &Command,
-    method: Method,
-    handle: u64,
-) -> Result<Request, OutOfMemory>
-    ensures { IfOk result (λ asked. asked ≡ query_asks command.now command.now.task method handle) }
+/// What asks for a configuration, or, by a call of its own, whether the service starts delayed.
+fn config_asks(method: Method, handle: u64) -> Request
+    ensures { result ≡ config_asks method handle }
 {
-    match &command.task {
-        Task::QueryConfig => {
-            if method == Method::QueryServiceConfig2 {
-                return Ok(Request::QueryConfig2 {
-                    handle,
-                    level: SERVICE_CONFIG_DELAYED_AUTO_START_INFO,
-                    size: MAX_CONFIG_SIZE,
-                });
-            }
-            Ok(Request::QueryConfig {
-                handle,
-                size: MAX_CONFIG_SIZE,
-            })
+    if method == Method::QueryServiceConfig2 {
+        Request::QueryConfig2 {
+            handle,
+            level: SERVICE_CONFIG_DELAYED_AUTO_START_INFO,
+            size: MAX_CONFIG_SIZE,
         }
-        Task::QueryLevel(level) => Ok(Request::QueryConfig2 {
+    } else {
+        Request::QueryConfig {
             handle,
-            level: level.number(),
             size: MAX_CONFIG_SIZE,
-        }),
-        Task::QueryEx => Ok(Request::QueryStatusEx {
-            handle,
-            level: SC_STATUS_PROCESS_INFO,
-            size: MAX_CONFIG_SIZE,
-        }),
-        Task::EnumDepend => Ok(Request::EnumDependents {
-            handle,
-            states: SERVICE_STATE_ALL,
-            size: MAX_ENUM_SIZE,
-        }),
-        Task::DisplayName => Ok(Request::DisplayName {
-            handle,
-            name: command.name.copy(alloc)?,
-            size: NAME_SIZE,
-        }),
-        Task::KeyName => Ok(Request::KeyName {
-            handle,
-            name: command.name.copy(alloc)?,
-            size: NAME_SIZE,
-        }),
-        _ => Ok(Request::QueryLock {
-            handle,
-            size: MAX_LOCK_STATUS_SIZE,
-        }),
+        }
     }
 }
 
-/// What a task asks by a handle.
-fn task_asks(
-    alloc: Global,
-    command: &Command,
-    method: Method,
-    handle: u64,
-) -> Result<Request, OutOfMemory>
-    ensures { IfOk result (λ asked. asked ≡ task_asks command.now command.now.task method handle) }
-{
-    match &command.task {
-        Task::Create(settings) => {
-            if method == Method::ChangeServiceConfig2 {
-                return Ok(delay(handle, settings));
-            }
-            let new = creation(alloc, &command.name, settings, handle)?;
-            Ok(Request::Create(new))
+impl Command {
+    /// What a task of reading asks by a handle.
+    fn query_asks(&self, alloc: Global, method: Method, handle: u64) -> Result<Request, OutOfMemory>
+        ensures { IfOk result (λ asked. asked ≡ query_asks self.now self.now.task method handle) }
+    {
+        match &self.task {
+            Task::QueryConfig => Ok(config_asks(method, handle)),
+            Task::QueryLevel(level) => Ok(Request::QueryConfig2 {
+                handle,
+                level: level.number(),
+                size: MAX_CONFIG_SIZE,
+            }),
+            Task::QueryEx => Ok(Request::QueryStatusEx {
+                handle,
+                level: SC_STATUS_PROCESS_INFO,
+                size: MAX_CONFIG_SIZE,
+            }),
+            Task::EnumDepend => Ok(Request::EnumDependents {
+                handle,
+                states: SERVICE_STATE_ALL,
+                size: MAX_ENUM_SIZE,
+            }),
+            Task::DisplayName => Ok(Request::DisplayName {
+                handle,
+                name: self.name.copy(alloc)?,
+                size: NAME_SIZE,
+            }),
+            Task::KeyName => Ok(Request::KeyName {
+                handle,
+                name: self.name.copy(alloc)?,
+                size: NAME_SIZE,
+            }),
+            _ => Ok(Request::QueryLock {
+                handle,
+                size: MAX_LOCK_STATUS_SIZE,
+            }),
         }
-        Task::Config(settings) => {
-            if method == Method::ChangeServiceConfig2 {
-                return Ok(delay(handle, settings));
+    }
+
+    /// What a task that writes a configuration asks by a handle.
+    fn write_asks(&self, alloc: Global, method: Method, handle: u64) -> Result<Request, OutOfMemory>
+        ensures { IfOk result (λ asked. asked ≡ write_asks self.now self.now.task method handle) }
+    {
+        match &self.task {
+            Task::Create(settings) => {
+                if method == Method::ChangeServiceConfig2 {
+                    return Ok(delay(handle, settings));
+                }
+                let new = creation(alloc, &self.name, settings, handle)?;
+                Ok(Request::Create(new))
             }
-            let change = change(alloc, settings, handle)?;
-            Ok(Request::Change(change))
+            Task::Config(settings) => {
+                if method == Method::ChangeServiceConfig2 {
+                    return Ok(delay(handle, settings));
+                }
+                let change = change(alloc, settings, handle)?;
+                Ok(Request::Change(change))
+            }
+            Task::Description(text) => Ok(Request::Change2 {
+                handle,
+                info: Info::Description(Some(text.copy(alloc)?)),
+            }),
+            Task::Failure(settings) => Ok(Request::Change2 {
+                handle,
+                info: failure(alloc, settings)?,
+            }),
+            Task::FailureFlag(on) => Ok(Request::Change2 {
+                handle,
+                info: Info::OnExit(*on),
+            }),
+            _ => self.query_asks(alloc, method, handle),
         }
-        Task::Description(text) => Ok(Request::Change2 {
-            handle,
-            info: Info::Description(Some(text.copy(alloc)?)),
-        }),
-        Task::Failure(settings) => Ok(Request::Change2 {
-            handle,
-            info: failure(alloc, settings)?,
-        }),
-        Task::Start(words) => Ok(Request::Start {
-            handle,
-            words: Some(copy_texts(words.as_slice(), alloc)?),
-        }),
-        Task::Control(code) => Ok(Request::Control {
-            handle,
-            control: *code,
-        }),
-        Task::Query => Ok(Request::QueryStatus { handle }),
-        Task::Delete => Ok(Request::Delete { handle }),
-        Task::FailureFlag(on) => Ok(Request::Change2 {
-            handle,
-            info: Info::OnExit(*on),
-        }),
-        Task::QueryConfig
-        | Task::QueryLevel(_)
-        | Task::QueryEx
-        | Task::EnumDepend
-        | Task::DisplayName
-        | Task::KeyName
-        | Task::QueryAll
-        | Task::QueryLock => query_asks(alloc, command, method, handle),
+    }
+
+    /// What a task asks by a handle.
+    fn task_asks(&self, alloc: Global, method: Method, handle: u64) -> Result<Request, OutOfMemory>
+        ensures { IfOk result (λ asked. asked ≡ task_asks self.now self.now.task method handle) }
+    {
+        match &self.task {
+            Task::Start(words) => Ok(Request::Start {
+                handle,
+                words: Some(copy_texts(words.as_slice(), alloc)?),
+            }),
+            Task::Control(code) => Ok(Request::Control {
+                handle,
+                control: *code,
+            }),
+            Task::Query => Ok(Request::QueryStatus { handle }),
+            Task::Delete => Ok(Request::Delete { handle }),
+            _ => self.write_asks(alloc, method, handle),
+        }
     }
 }
 
@@ -465,7 +434,7 @@ fn method_asks(
             access: service_right(&command.task),
         }),
         Method::EnumServicesStatus => Ok(page_asks(handle, heard)),
-        _ => task_asks(alloc, command, method, handle),
+        _ => command.task_asks(alloc, method, handle),
     }
 }
 

@@ -1,5 +1,5 @@
 ghost use Rattle.std.specs.Prelude.{◌≡◌, ◌≤◌, ◌∷◌, IfSome, Some, length};
-ghost use Rattle.sc_words.specs.Calls.{and_delay, calls_of, closed, code_heard, completes};
+ghost use Rattle.sc_words.specs.Calls.{and_delay, methods_called, closed, code_heard, completes};
 ghost use Rattle.sc_words.specs.Calls.{delay_of_change, delay_of_creation, failure_heard, given};
 ghost use Rattle.sc_words.specs.Calls.{handle_before, handle_in, handle_heard, handles_of, is_good};
 ghost use Rattle.sc_words.specs.Calls.{is_part, progress_of, stage_of};
@@ -178,7 +178,7 @@ fn change_calls(start: Option<StartType>) -> &'static [Method]
 
 /// The calls of a task, before its handles are closed.
 fn calls_of(task: &Task) -> &'static [Method]
-    ensures { result.now ≡ calls_of task.now }
+    ensures { result.now ≡ methods_called task.now }
 {
     match task {
         Task::Create(settings) => creation_calls(settings.start),

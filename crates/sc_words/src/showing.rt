@@ -1,8 +1,9 @@
 ghost use Rattle.std.specs.Prelude.{◌≡◌, ◌++◌, IfOk, OnOk, slice_get};
-ghost use Rattle.sc_words.specs.Told.{bytes_at, call_line, config_at, count_line, dependents_at};
+ghost use Rattle.sc_words.specs.Told.{told_bytes, call_line, config_lines, count_line};
+ghost use Rattle.sc_words.specs.Told.{dependents_at};
 ghost use Rattle.sc_words.specs.Told.{dependents_text, done_text, failed_line, failure_of};
-ghost use Rattle.sc_words.specs.Told.{level_text, lock_at, method_name, name_line_at, page_text};
-ghost use Rattle.sc_words.specs.Told.{pages_text, read_text, shown_text, status_at, success};
+ghost use Rattle.sc_words.specs.Told.{level_text, lock_lines, method_name, name_line_at, page_text};
+ghost use Rattle.sc_words.specs.Told.{pages_text, read_text, shown_text, status_lines, success};
 ghost use Rattle.sc_words.specs.Told.{told_text};
 ghost use Rattle.sc_words.specs.declared.calls.Method.TheVariants.{QueryServiceConfig};
 ghost use Rattle.sc_words.specs.declared.calls.Method.TheVariants.{QueryServiceConfig2};
@@ -11,8 +12,8 @@ ghost use Rattle.sc_words.specs.declared.calls.Method.TheVariants.{QueryServiceL
 use super::calls::{Failure, Heard, Method, Stage, code_heard, stage_of};
 use super::command::{Command, Level, Task};
 use sc_lines::{
-    Line, add_config, add_description, add_failure, add_flag, add_lines, add_listing, add_lock,
-    add_process, add_status, is_on,
+    Appended, Line, add_config, add_description, add_failure, add_flag, add_lines, add_listing,
+    add_lock, add_process, add_status, is_on,
 };
 use scm_model::{Reply, Shown};
 use scm_text::{Items, OutOfMemory, WText};
@@ -44,12 +45,7 @@ fn method_name(method: Method) -> &'static str
 }
 
 /// Appends `[SC] CALL` and what became of it.
-fn add_call(
-    text: &mut Items<u8>,
-    method: Method,
-    front: &str,
-    rest: &str,
-) -> Result<(), OutOfMemory>
+fn add_call(text: &mut Items<u8>, method: Method, front: &str, rest: &str) -> Appended
     ensures { OnOk result (text.new ≡ text.old ++ call_line method (front.now ++ rest.now)) }
 {
     text.append_pair(b"[SC] ", method_name(method).as_bytes())?;
@@ -58,7 +54,7 @@ fn add_call(
 }
 
 /// Appends that a call was refused, or met a fault.
-fn add_failed(text: &mut Items<u8>, method: Method, heard: &Heard) -> Result<(), OutOfMemory>
+fn add_failed(text: &mut Items<u8>, method: Method, heard: &Heard) -> Appended
     ensures { OnOk result (text.new ≡ text.old ++ failed_line method heard.now) }
 {
     match heard {
@@ -73,20 +69,15 @@ fn add_failed(text: &mut Items<u8>, method: Method, heard: &Heard) -> Result<(),
 }
 
 /// Appends that a call succeeded.
-fn add_success(text: &mut Items<u8>, method: Method) -> Result<(), OutOfMemory>
+fn add_success(text: &mut Items<u8>, method: Method) -> Appended
     ensures { OnOk result (text.new ≡ text.old ++ success method) }
 {
     add_call(text, method, " SUCCESS", "")
 }
 
 /// Appends the status in the reply to the third call.
-fn add_told(
-    text: &mut Items<u8>,
-    alloc: Global,
-    name: &WText,
-    heard: &[Heard],
-) -> Result<(), OutOfMemory>
-    ensures { OnOk result (text.new ≡ text.old ++ status_at name.now (slice_get heard.now 2)) }
+fn add_told(text: &mut Items<u8>, alloc: Global, name: &WText, heard: &[Heard]) -> Appended
+    ensures { OnOk result (text.new ≡ text.old ++ status_lines name.now (slice_get heard.now 2)) }
 {
     let Some(Heard::Reply(Reply::State { status, .. })) = heard.get(2) else {
         return Ok(());
@@ -96,7 +87,7 @@ fn add_told(
 
 /// The bytes in the answer at a place.
 fn bytes_at(heard: &[Heard], place: usize) -> &[u8]
-    ensures { result.now ≡ bytes_at (slice_get heard.now place) }
+    ensures { result.now ≡ told_bytes (slice_get heard.now place) }
 {
     match heard.get(place) {
         Some(Heard::Reply(Reply::Bytes { bytes, .. })) => bytes.as_slice(),
@@ -111,7 +102,7 @@ fn add_some_config(
     name: &WText,
     config: &Option<Shown>,
     bytes: &[u8],
-) -> Result<(), OutOfMemory>
+) -> Appended
     ensures { OnOk result (text.new ≡ text.old ++ shown_text name.now config.now bytes.now) }
 {
     match config {
@@ -120,16 +111,11 @@ fn add_some_config(
     }
 }
 
-/// Appends the configuration in the reply to the third call, and whether its start is delayed, which
-/// is in the next one.
-fn add_shown(
-    text: &mut Items<u8>,
-    alloc: Global,
-    name: &WText,
-    heard: &[Heard],
-) -> Result<(), OutOfMemory>
+/// Appends the configuration in the reply to the third call, and whether its start is delayed,
+/// which is in the next one.
+fn add_shown(text: &mut Items<u8>, alloc: Global, name: &WText, heard: &[Heard]) -> Appended
     ensures { OnOk result (text.new
-        ≡ text.old ++ config_at name.now (slice_get heard.now 2) (slice_get heard.now 3)) }
+        ≡ text.old ++ config_lines name.now (slice_get heard.now 2) (slice_get heard.now 3)) }
 {
     let Some(Heard::Reply(Reply::Shown { config, .. })) = heard.get(2) else {
         return Ok(());
@@ -138,14 +124,9 @@ fn add_shown(
 }
 
 /// Appends a configuration, after that its call succeeded.
-fn add_config_told(
-    text: &mut Items<u8>,
-    alloc: Global,
-    name: &WText,
-    heard: &[Heard],
-) -> Result<(), OutOfMemory>
+fn add_config_told(text: &mut Items<u8>, alloc: Global, name: &WText, heard: &[Heard]) -> Appended
     ensures { OnOk result (text.new ≡ text.old ++ (success QueryServiceConfig
-        ++ config_at name.now (slice_get heard.now 2) (slice_get heard.now 3))) }
+        ++ config_lines name.now (slice_get heard.now 2) (slice_get heard.now 3))) }
 {
     add_success(text, Method::QueryServiceConfig)?;
     add_shown(text, alloc, name, heard)
@@ -158,7 +139,7 @@ fn add_level(
     level: Level,
     name: &[u16],
     bytes: &[u8],
-) -> Result<(), OutOfMemory>
+) -> Appended
     ensures { OnOk result (text.new ≡ text.old ++ (success QueryServiceConfig2
         ++ level_text level name.now bytes.now)) }
 {
@@ -171,7 +152,7 @@ fn add_level(
 }
 
 /// Appends how many services a call read.
-fn add_count(text: &mut Items<u8>, method: Method, count: u32) -> Result<(), OutOfMemory>
+fn add_count(text: &mut Items<u8>, method: Method, count: u32) -> Appended
     ensures { OnOk result (text.new ≡ text.old ++ count_line method count) }
 {
     add_call(
@@ -183,12 +164,7 @@ fn add_count(text: &mut Items<u8>, method: Method, count: u32) -> Result<(), Out
 }
 
 /// Appends how many services need one, and each of them.
-fn add_listed(
-    text: &mut Items<u8>,
-    alloc: Global,
-    returned: u32,
-    bytes: &[u8],
-) -> Result<(), OutOfMemory>
+fn add_listed(text: &mut Items<u8>, alloc: Global, returned: u32, bytes: &[u8]) -> Appended
     ensures { OnOk result (text.new ≡ text.old ++ dependents_text returned bytes.now) }
 {
     add_count(text, Method::EnumDependentServices, returned)?;
@@ -196,7 +172,7 @@ fn add_listed(
 }
 
 /// Appends the services that need one, of the reply to the third call.
-fn add_dependents(text: &mut Items<u8>, alloc: Global, heard: &[Heard]) -> Result<(), OutOfMemory>
+fn add_dependents(text: &mut Items<u8>, alloc: Global, heard: &[Heard]) -> Appended
     ensures { OnOk result (text.new ≡ text.old ++ dependents_at (slice_get heard.now 2)) }
 {
     let Some(
@@ -215,7 +191,7 @@ fn add_dependents(text: &mut Items<u8>, alloc: Global, heard: &[Heard]) -> Resul
 }
 
 /// Appends the services of a page.
-fn add_page(text: &mut Items<u8>, alloc: Global, heard: &Heard) -> Result<(), OutOfMemory>
+fn add_page(text: &mut Items<u8>, alloc: Global, heard: &Heard) -> Appended
     ensures { OnOk result (text.new ≡ text.old ++ page_text heard.now) }
 {
     match heard {
@@ -231,7 +207,7 @@ fn add_page(text: &mut Items<u8>, alloc: Global, heard: &Heard) -> Result<(), Ou
 }
 
 /// Appends the services of every page.
-fn add_pages(text: &mut Items<u8>, alloc: Global, heard: &[Heard]) -> Result<(), OutOfMemory>
+fn add_pages(text: &mut Items<u8>, alloc: Global, heard: &[Heard]) -> Appended
     ensures { OnOk result (text.new ≡ text.old ++ pages_text heard.now) }
 {
     for page in heard {
@@ -241,7 +217,7 @@ fn add_pages(text: &mut Items<u8>, alloc: Global, heard: &[Heard]) -> Result<(),
 }
 
 /// Appends the name in the reply to the second call.
-fn add_name_line(text: &mut Items<u8>, alloc: Global, heard: &[Heard]) -> Result<(), OutOfMemory>
+fn add_name_line(text: &mut Items<u8>, alloc: Global, heard: &[Heard]) -> Appended
     ensures { OnOk result (text.new ≡ text.old ++ name_line_at (slice_get heard.now 1)) }
 {
     match heard.get(1) {
@@ -253,12 +229,7 @@ fn add_name_line(text: &mut Items<u8>, alloc: Global, heard: &[Heard]) -> Result
 }
 
 /// Appends a name that was asked for, after that its call succeeded.
-fn add_name(
-    text: &mut Items<u8>,
-    alloc: Global,
-    method: Method,
-    heard: &[Heard],
-) -> Result<(), OutOfMemory>
+fn add_name(text: &mut Items<u8>, alloc: Global, method: Method, heard: &[Heard]) -> Appended
     ensures { OnOk result (text.new
         ≡ text.old ++ (success method ++ name_line_at (slice_get heard.now 1))) }
 {
@@ -267,9 +238,9 @@ fn add_name(
 }
 
 /// Appends who holds the lock of the database, after that its call succeeded.
-fn add_lock_told(text: &mut Items<u8>, alloc: Global, heard: &[Heard]) -> Result<(), OutOfMemory>
+fn add_lock_told(text: &mut Items<u8>, alloc: Global, heard: &[Heard]) -> Appended
     ensures { OnOk result (text.new
-        ≡ text.old ++ (success QueryServiceLockStatus ++ lock_at (slice_get heard.now 1))) }
+        ≡ text.old ++ (success QueryServiceLockStatus ++ lock_lines (slice_get heard.now 1))) }
 {
     add_success(text, Method::QueryServiceLockStatus)?;
     match heard.get(1) {
@@ -294,12 +265,7 @@ fn add_lock_told(text: &mut Items<u8>, alloc: Global, heard: &[Heard]) -> Result
 }
 
 /// Appends what is printed of a task that reads.
-fn add_read(
-    text: &mut Items<u8>,
-    alloc: Global,
-    command: &Command,
-    heard: &[Heard],
-) -> Result<(), OutOfMemory>
+fn add_read(text: &mut Items<u8>, alloc: Global, command: &Command, heard: &[Heard]) -> Appended
     ensures { OnOk result (text.new ≡ text.old ++ read_text command.now.name command.now.task
         heard.now) }
 {
@@ -319,12 +285,7 @@ fn add_read(
 }
 
 /// Appends what is printed where all calls succeeded.
-fn add_done(
-    text: &mut Items<u8>,
-    alloc: Global,
-    command: &Command,
-    heard: &[Heard],
-) -> Result<(), OutOfMemory>
+fn add_done(text: &mut Items<u8>, alloc: Global, command: &Command, heard: &[Heard]) -> Appended
     ensures { OnOk result (text.new ≡ text.old ++ done_text command.now.name command.now.task
         heard.now) }
 {

@@ -1,5 +1,5 @@
 ghost use Rattle.std.specs.Prelude.{◌≡◌, IfOk, map};
-ghost use Rattle.sc_words.specs.Values.{action_at, actions_at, actions_of, each, error_named};
+ghost use Rattle.sc_words.specs.Values.{action_named, actions_named, actions_of, each, error_named};
 ghost use Rattle.sc_words.specs.Values.{flag_named, kind_named, name_at, names_at, word_number};
 ghost use Rattle.sc_words.specs.Values.{slash_pieces, seconds_at, start_named, what_named};
 
@@ -160,9 +160,9 @@ fn what_named(word: &str) -> Option<u32>
     }
 }
 
-#[tactic(auto, unfolding(crate::specs::Values::action_at))]
+#[tactic(auto, unfolding(crate::specs::Values::action_named))]
 fn action_at(what: &str, delay: &str) -> Option<Action>
-    ensures { result ≡ action_at what.now delay.now }
+    ensures { result ≡ action_named what.now delay.now }
 {
     let what = what_named(what)?;
     let delay = word_number(delay)?;
@@ -191,9 +191,9 @@ fn actions_of(alloc: Global, words: &[&str]) -> Result<Option<Items<Action>>, Ou
 }
 
 /// Actions and their delays with `/` between them.
-#[tactic(auto, unfolding(crate::specs::Values::actions_at))]
+#[tactic(auto, unfolding(crate::specs::Values::actions_named))]
 pub fn actions_at(alloc: Global, word: &str) -> Result<Option<Items<Action>>, OutOfMemory>
-    ensures { IfOk result (λ actions. actions ≡ actions_at word.now) }
+    ensures { IfOk result (λ actions. actions ≡ actions_named word.now) }
 {
     let words = slash_pieces(alloc, word)?;
     actions_of(alloc, words.as_slice())

@@ -1,5 +1,5 @@
 use Rattle.std.proofs.Common.{◌++◌, ap, ◌∙◌}
-use Rattle.sc_words.specs.Asks.{bytes_of}
+use Rattle.sc_words.specs.Asks.{utf16_bytes}
 use Rattle.sc_words.proofs.Bytes.{needs_more, needs_end}
 use Rattle.sc_words.proofs.asking.needs_bytes.Goals as goal
 
@@ -7,7 +7,7 @@ pub loop-name-preserved : goal.loop-name-preserved
 loop-name-preserved c =
     needs_more c.loop-name.bytes c.append_units.new.bytes c.append.new.self c.args.names.now c.name-item.result c.loop-name.name-index
     c.loop-name-test.true c.name-item.is
-    (c.in_ok-append_units.ensures ∙ ap (λ us. c.loop-name.bytes ++ bytes_of us) c.units.ensures.units) c.in_ok-append.ensures.ok
+    (c.in_ok-append_units.ensures ∙ ap (λ us. c.loop-name.bytes ++ utf16_bytes us) c.units.ensures.units) c.in_ok-append.ensures.ok
     ∙ c.loop-name.invariant
 
 pub returns : goal.returns
