@@ -1,4 +1,4 @@
-// Calls in short: what is asked, and what is told.
+// Calls in short: what is asked, and what is answered.
 ghost use Rattle.std.specs.Prelude.{◌≡◌, ◌≢◌, false, IfOk, IsTrue};
 ghost use Rattle.scm_model.specs.Ranges.{in_range};
 ghost use Rattle.scm_book.specs.Called.{is_start};
@@ -29,7 +29,7 @@ pub enum Asked {
     Closes { handle: u64 },
 }
 
-/// What a call is told: the code, and the number of a handle or of a service's state beside it.
+/// The answer to a call: the code, and the number of a handle or of a service's state beside it.
 #[derive(Clone, Copy, PartialEq, Eq)]
 pub struct Told {
     pub code: u32,
@@ -128,7 +128,7 @@ pub fn told_by(reply: &Reply) -> Told {
     Told { code, number }
 }
 
-/// What a call comes to in short.
+/// The outcome of a call in short.
 fn end_of(ended: CallEnd) -> Result<Told, MakeFault> {
     match ended {
         CallEnd::Answered(reply) => {

@@ -13,6 +13,14 @@ use scm_trail::Trail;
 use std::alloc::Global;
 use std::sync::Wait;
 
+/// Where a test works: what it waits by, where it takes memory, and the book.
+#[derive(Drop)]
+pub struct Site<'a, R> {
+    pub rt: &'a R,
+    pub alloc: Global,
+    pub book: &'a Book<MemoryKeeper>,
+}
+
 /// The greatest limits, but for how many steps there may be.
 pub fn limits(steps: u64) -> Limits
     requires { steps ≤ 4194304 }

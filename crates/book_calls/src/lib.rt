@@ -8,6 +8,6 @@ mod remaking;
 mod starts;
 
 pub use asking::{Asked, Told, ask, call, raise, request_of, told_by};
-pub use books::{close, guest, leaves, limits, new_book, new_manager, runner};
+pub use books::{Site, close, guest, leaves, limits, new_book, new_manager, runner};
 pub use remaking::make;
 pub use starts::{begin_start, end_start};

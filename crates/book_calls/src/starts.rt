@@ -1,4 +1,4 @@
-// Starts that wait: how they begin, and what they are told.
+// Starts that wait: how they begin, and what they are answered.
 ghost use Rattle.std.specs.Prelude.{◌≢◌, IfNone, IfSome};
 ghost use Rattle.scm_book.specs.Passes.{HasPlan, IsOf};
 
@@ -35,7 +35,7 @@ pub fn begin_start<R: Wait>(
     }
 }
 
-/// The code that a start that waits is told, if it is decided.
+/// The code that a start that waits is answered with, if it is decided.
 pub fn end_start<R: Wait>(
     rt: &R,
     book: &Book<MemoryKeeper>,

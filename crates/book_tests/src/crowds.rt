@@ -3,7 +3,7 @@ ghost use Rattle.std.specs.Prelude.{◌<◌, IfSome};
 ghost use Rattle.scm_book.specs.Passes.{IsOf};
 
 use crate::talking::{Line, talk};
-use book_calls::{guest, leaves, runner};
+use book_calls::{Site, guest, leaves, runner};
 use record_journal::MemoryKeeper;
 use scm_book::{Book, Pass};
 use std::alloc::Global;
@@ -26,6 +26,26 @@ pub struct Crowd {
     pub visits: Vec<Visit>,
 }
 
+/// A crowd, if all its visits are there.
+fn crowd_of(
+    book: &Book<MemoryKeeper>,
+    pass: Pass,
+    visits: Vec<Visit>,
+    is_whole: bool,
+) -> Option<Crowd>
+    requires { IsOf book.now pass }
+    ensures { IfSome result (λ crowd. IsOf book.now crowd.pass) }
+{
+    let _ = book;
+    if is_whole {
+        Some(Crowd { pass, visits })
+    } else {
+        drop(visits);
+        drop(pass);
+        None
+    }
+}
+
 /// A caller comes, makes so many calls, and goes.
 fn come_and_go<R: Wait>(
     rt: &R,
@@ -42,7 +62,8 @@ fn come_and_go<R: Wait>(
         return None;
     };
     let mut lines = Vec::new(alloc);
-    let is_whole = talk(rt, alloc, book, &mut pass, mark, calls, &mut lines);
+    let at = Site { rt, alloc, book };
+    let is_whole = talk(&at, &mut pass, mark, calls, &mut lines);
     leaves(rt, book, by, pass, mark);
     if is_whole {
         Some(lines)
@@ -76,13 +97,7 @@ fn one<R: Wait>(
     });
     let is_pushed = pushed.is_ok();
     drop(pushed);
-    if is_pushed {
-        Some(Crowd { pass, visits })
-    } else {
-        drop(visits);
-        drop(pass);
-        None
-    }
+    crowd_of(book, pass, visits, is_pushed)
 }
 
 /// A visit for each mark from `low` to below `high`, each in a thread of its own.
@@ -135,13 +150,7 @@ fn merge<R: Wait>(rt: &R, book: &Book<MemoryKeeper>, left: Crowd, right: Crowd) 
     leaves(rt, book, &mut pass, other, 0);
     let is_whole = visits.append(&mut more).is_ok();
     drop(more);
-    if is_whole {
-        Some(Crowd { pass, visits })
-    } else {
-        drop(visits);
-        drop(pass);
-        None
-    }
+    crowd_of(book, pass, visits, is_whole)
 }
 
 /// Takes a crowd into another, if both are there.

@@ -1,6 +1,6 @@
-//! Tests of the book, and nothing else: rows that one caller is told, many callers in threads of
-//! their own, whose closed history a manager alone tells again, and connections, each alone at a
-//! book of its own.
+//! Tests of the book, and nothing else: rows of the answers to one caller, many callers in threads
+//! of their own, whose closed history a manager alone replays with the same answers, and
+//! connections, each alone at a book of its own.
 #![tactic(auto)]
 
 #[cfg(test)]

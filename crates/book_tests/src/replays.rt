@@ -115,7 +115,8 @@ impl Visit {
     }
 }
 
-/// What a step is told by a manager that only it has, if it may be made. It is used up.
+/// The answer of a manager that nothing else uses to a step, if that may be made. The step is used
+/// up.
 fn told_next(manager: &mut Manager, moment: u64, step: &mut Step) -> Option<Told> {
     match make(manager, moment, step) {
         Some(answer) => {
@@ -139,7 +140,7 @@ fn again(alloc: Global, manager: &mut Manager, moment: u64, step: &Step) -> Opti
     }
 }
 
-/// Whether an entry is the next of the visit of its mark, and is told the same again.
+/// Whether an entry is the next of the visit of its mark, and its answer is the same again.
 fn is_told(
     alloc: Global,
     manager: &mut Manager,
@@ -194,8 +195,8 @@ fn is_one_history(alloc: Global, trail: &Trail, visits: &mut [Visit]) -> bool {
     }
 }
 
-/// Whether eight threads are told what their history tells, 1,000 calls each, with a step before
-/// and one after them.
+/// Whether eight threads get the answers that their history gives, 1,000 calls each, with a step
+/// before and one after them.
 fn are_eight_told<R: Threads + Wait + Sync>(rt: &R, alloc: Global) -> bool {
     match many(rt, alloc, 8, 1000) {
         Some(Whole { trail, mut visits }) => {

@@ -4,14 +4,21 @@ ghost use Rattle.scm_model.specs.declared.flat.Phase.TheVariants as phases;
 ghost use Rattle.scm_book.specs.Passes.{HoldsProcess, IsOf};
 
 use crate::rows::{Row, come, told};
-use crate::starts::{launch, report};
-use book_calls::{Asked, begin_start, guest, limits, new_book};
+use crate::starts::{Sight, is_seen, launch, report};
+use book_calls::{Asked, Site, begin_start};
 use record_journal::MemoryKeeper;
-use scm_book::{Book, ControlLook, EndedEnd, Opened, Pass, ReportEnd};
+use scm_book::{Book, ControlLook, EndedEnd, Pass, ReportEnd};
+use scm_model::Order;
 use scm_model::codes::{SERVICE_CONTROL_STOP, SERVICE_RUNNING, SERVICE_STOPPED};
 use std::alloc::Global;
 use std::sync::Wait;
 use std::test::Fail;
+
+/// The STOP of the first service.
+const STOP: Order = Order {
+    service: 1,
+    code: SERVICE_CONTROL_STOP,
+};
 
 /// The counts of the common bell, and of the bells of processes 1 and 2.
 #[derive(Clone, Copy)]
@@ -53,40 +60,27 @@ fn rung_since(book: &Book<MemoryKeeper>, before: Counts) -> Option<Rung> {
     }
 }
 
-/// Whether a call comes to what is wanted of it, and rings so.
-fn ring_once<R: Wait>(
-    rt: &R,
-    alloc: Global,
-    book: &Book<MemoryKeeper>,
-    pass: &mut Pass,
-    row: Row,
-    rung: Rung,
-) -> bool
-    requires book { IsOf book.now pass.old }
+/// Whether a call has the outcome that is wanted of it, and rings so.
+fn ring_once<R: Wait>(at: &Site<'_, R>, pass: &mut Pass, row: Row, rung: Rung) -> bool
+    requires book { IsOf at.now.book.now pass.old }
     requires caller { pass.old.caller ≢ 0 }
-    ensures book { IsOf book.now pass.new }
+    ensures book { IsOf at.now.book.now pass.new }
     ensures caller { pass.new.caller ≢ 0 }
 {
-    let before = counted(book);
-    let is_right = come(rt, alloc, book, pass, &[row]);
-    is_right && rung_since(book, before) == Some(rung)
+    let before = counted(at.book);
+    let is_right = come(at, pass, &[row]);
+    is_right && rung_since(at.book, before) == Some(rung)
 }
 
-/// Whether each call comes to what is beside it, and rings so.
-fn ring<R: Wait>(
-    rt: &R,
-    alloc: Global,
-    book: &Book<MemoryKeeper>,
-    pass: &mut Pass,
-    rows: &[(Row, Rung)],
-) -> bool
-    requires book { IsOf book.now pass.old }
+/// Whether each call has its outcome in `rows`, and rings as stated beside it.
+fn ring<R: Wait>(at: &Site<'_, R>, pass: &mut Pass, rows: &[(Row, Rung)]) -> bool
+    requires book { IsOf at.now.book.now pass.old }
     requires caller { pass.old.caller ≢ 0 }
-    ensures book { IsOf book.now pass.new }
+    ensures book { IsOf at.now.book.now pass.new }
     ensures caller { pass.new.caller ≢ 0 }
 {
     for (row, rung) in rows {
-        if !ring_once(rt, alloc, book, pass, *row, *rung) {
+        if !ring_once(at, pass, *row, *rung) {
             return false;
         }
     }
@@ -124,28 +118,22 @@ fn stopped() -> [(Row, Rung); 2] {
 }
 
 /// Whether the start of a service rings so. Its process, if all do.
-fn starts<R: Wait>(
-    rt: &R,
-    alloc: Global,
-    book: &Book<MemoryKeeper>,
-    pass: &mut Pass,
-    other: &mut Pass,
-) -> Option<u64>
-    requires book { IsOf book.now pass.old }
+fn starts<R: Wait>(at: &Site<'_, R>, pass: &mut Pass, other: &mut Pass) -> Option<u64>
+    requires book { IsOf at.now.book.now pass.old }
     requires caller { pass.old.caller ≢ 0 }
-    requires other { IsOf book.now other.old }
-    ensures book { IsOf book.now pass.new }
+    requires other { IsOf at.now.book.now other.old }
+    ensures book { IsOf at.now.book.now pass.new }
     ensures caller { pass.new.caller ≢ 0 }
-    ensures other { IsOf book.now other.new }
-    ensures process { IfSome result (λ process. HoldsProcess book.now.opening other.new process
+    ensures other { IsOf at.now.book.now other.new }
+    ensures process { IfSome result (λ process. HoldsProcess at.now.book.now.opening other.new process
         phases.Launched) }
 {
-    let before = counted(book);
-    let is_begun = begin_start(rt, alloc, book, pass, 2).is_some();
-    let begun = rung_since(book, before);
-    let before = counted(book);
-    let process = launch(rt, alloc, book, other)?;
-    let launched = rung_since(book, before);
+    let before = counted(at.book);
+    let is_begun = begin_start(at.rt, at.alloc, at.book, pass, 2).is_some();
+    let begun = rung_since(at.book, before);
+    let before = counted(at.book);
+    let process = launch(at, other)?;
+    let launched = rung_since(at.book, before);
     if is_begun && begun == Some(Rung::Common) && launched == Some(Rung::Common) {
         Some(process)
     } else {
@@ -165,87 +153,46 @@ fn ends<R: Wait>(rt: &R, book: &Book<MemoryKeeper>, other: &mut Pass, process: u
     let before = counted(book);
     let end = book.ended(rt, other, 0, process);
     let ended = rung_since(book, before);
-    control == ControlLook::Control(SERVICE_CONTROL_STOP)
+    control == ControlLook::Control(STOP)
         && taken == Some(Rung::CommonAndFirst)
         && end == EndedEnd::Taken
         && ended == Some(Rung::CommonAndFirst)
 }
 
 /// Whether a process reports, is sent a control, takes it and ends, and rings so.
-fn obeys<R: Wait>(
-    rt: &R,
-    alloc: Global,
-    book: &Book<MemoryKeeper>,
-    pass: &mut Pass,
-    other: &mut Pass,
-    process: u64,
-) -> bool
-    requires book { IsOf book.now pass.old }
+fn lives<R: Wait>(at: &Site<'_, R>, pass: &mut Pass, other: &mut Pass, process: u64) -> bool
+    requires book { IsOf at.now.book.now pass.old }
     requires caller { pass.old.caller ≢ 0 }
-    requires other { IsOf book.now other.old }
-    requires process { HoldsProcess book.now.opening other.old process phases.Launched }
-    ensures { IsOf book.now other.new }
+    requires other { IsOf at.now.book.now other.old }
+    requires process { HoldsProcess at.now.book.now.opening other.old process phases.Launched }
+    ensures { IsOf at.now.book.now other.new }
 {
-    let before = counted(book);
+    let before = counted(at.book);
     let runs = [(SERVICE_RUNNING, ReportEnd::Taken)];
-    let is_running = report(rt, book, other, process, &runs);
-    let reported = rung_since(book, before);
+    let is_running = report(at.rt, at.book, other, process, &runs);
+    let reported = rung_since(at.book, before);
     is_running
         && reported == Some(Rung::Common)
-        && ring(rt, alloc, book, pass, &stopped())
-        && ends(rt, book, other, process)
+        && ring(at, pass, &stopped())
+        && ends(at.rt, at.book, other, process)
 }
 
 /// Whether all that a caller does rings so.
-fn rings<R: Wait>(
-    rt: &R,
-    alloc: Global,
-    book: &Book<MemoryKeeper>,
-    pass: &mut Pass,
-    root: &mut Pass,
-) -> bool
-    requires book { IsOf book.now pass.old }
+pub fn rings<R: Wait>(at: &Site<'_, R>, pass: &mut Pass, root: &mut Pass) -> bool
+    requires book { IsOf at.now.book.now pass.old }
     requires caller { pass.old.caller ≢ 0 }
-    requires root { IsOf book.now root.old }
-    ensures { IsOf book.now root.new }
+    requires root { IsOf at.now.book.now root.old }
+    ensures { IsOf at.now.book.now root.new }
 {
-    let is_made = ring(rt, alloc, book, pass, &made());
-    match starts(rt, alloc, book, pass, root) {
-        Some(process) => is_made && obeys(rt, alloc, book, pass, root, process),
-        None => false,
-    }
-}
-
-/// The same of a new caller.
-fn guest_rings<R: Wait>(rt: &R, alloc: Global, book: &Book<MemoryKeeper>, root: &mut Pass) -> bool
-    requires { IsOf book.now root.old }
-    ensures { IsOf book.now root.new }
-{
-    match guest(rt, book, root, 0) {
-        Ok(mut pass) => {
-            let are_right = rings(rt, alloc, book, &mut pass, root);
-            drop(pass);
-            are_right
-        }
-        Err(_) => false,
-    }
-}
-
-/// The same in a new book.
-fn new_rings<R: Wait>(rt: &R, alloc: Global) -> bool {
-    match new_book(alloc, limits(4_194_304), Vec::new(alloc)) {
-        Some(Opened { book, mut pass }) => {
-            let are_right = guest_rings(rt, alloc, &book, &mut pass);
-            drop(pass);
-            drop(book);
-            are_right
-        }
+    let is_made = ring(at, pass, &made());
+    match starts(at, pass, root) {
+        Some(process) => is_made && lives(at, pass, root, process),
         None => false,
     }
 }
 
 #[test]
 fn bells_ring_for_what_is_waited_for(rt: HostRuntime) -> Result<(), Fail> {
-    assert!(rt; new_rings(&rt, rt.alloc()));
+    assert!(rt; is_seen(&rt, rt.alloc(), Sight::Ringing));
     Ok(())
 }

@@ -1,8 +1,8 @@
-// Rows: calls of one caller, each with what it is told.
+// Rows: calls of one caller, each with its answer.
 ghost use Rattle.std.specs.Prelude.{◌≡◌, ◌≢◌, true, IfSome};
 ghost use Rattle.scm_book.specs.Passes.{IsOf};
 
-use book_calls::{Asked, Told, ask, close, guest, leaves, limits, new_book};
+use book_calls::{Asked, Site, Told, ask, close, guest, leaves, limits, new_book};
 use record_journal::{Fate, MemoryKeeper};
 use scm_book::{Book, Closed, JoinFault, MakeFault, Opened, Pass, Spent};
 use scm_model::{Kept, Principal, Step};
@@ -11,10 +11,10 @@ use std::alloc::Global;
 use std::sync::Wait;
 use std::test::Fail;
 
-/// A call, and what it comes to.
+/// A call, and its outcome.
 pub type Row = (Asked, Result<Told, MakeFault>);
 
-/// A call that is told this code and number.
+/// A call that is answered with this code and number.
 pub fn told(asked: Asked, code: u32, number: u64) -> Row {
     (asked, Ok(Told { code, number }))
 }
@@ -35,20 +35,14 @@ fn is_wanted(told: &Result<Told, MakeFault>, want: &Result<Told, MakeFault>) -> 
 }
 
 /// Whether these calls come to this.
-pub fn come<R: Wait>(
-    rt: &R,
-    alloc: Global,
-    book: &Book<MemoryKeeper>,
-    pass: &mut Pass,
-    rows: &[Row],
-) -> bool
-    requires book { IsOf book.now pass.old }
+pub fn come<R: Wait>(at: &Site<'_, R>, pass: &mut Pass, rows: &[Row]) -> bool
+    requires book { IsOf at.now.book.now pass.old }
     requires caller { pass.old.caller ≢ 0 }
-    ensures book { IsOf book.now pass.new }
+    ensures book { IsOf at.now.book.now pass.new }
     ensures caller { pass.new.caller ≢ 0 }
 {
     for (asked, want) in rows {
-        if !is_wanted(&ask(rt, alloc, book, pass, 0, *asked), want) {
+        if !is_wanted(&ask(at.rt, at.alloc, at.book, pass, 0, *asked), want) {
             return false;
         }
     }
@@ -57,24 +51,18 @@ pub fn come<R: Wait>(
 
 /// Whether these calls, which only open handles, come to this in a book of four steps, nobody else
 /// finds room, and the bell doesn't tell of them.
-fn fill_four<R: Wait>(
-    rt: &R,
-    alloc: Global,
-    book: &Book<MemoryKeeper>,
-    root: &mut Pass,
-    rows: &[Row],
-) -> bool
-    requires book { IsOf book.now root.old }
-    ensures { IsOf book.now root.new }
+fn fill_four<R: Wait>(at: &Site<'_, R>, root: &mut Pass, rows: &[Row]) -> bool
+    requires book { IsOf at.now.book.now root.old }
+    ensures { IsOf at.now.book.now root.new }
 {
-    let Ok(mut pass) = guest(rt, book, root, 0) else {
+    let Ok(mut pass) = guest(at.rt, at.book, root, 0) else {
         return false;
     };
-    let seen = book.bell().count();
-    let are_right = come(rt, alloc, book, &mut pass, rows);
-    let is_quiet = book.bell().count() == seen;
-    let is_full = guest(rt, book, root, 0).err() == Some(JoinFault::Full);
-    leaves(rt, book, root, pass, 0);
+    let seen = at.book.bell().count();
+    let are_right = come(at, &mut pass, rows);
+    let is_quiet = at.book.bell().count() == seen;
+    let is_full = guest(at.rt, at.book, root, 0).err() == Some(JoinFault::Full);
+    leaves(at.rt, at.book, root, pass, 0);
     are_right && is_quiet && is_full
 }
 
@@ -87,11 +75,16 @@ fn shuts<R: Wait>(rt: &R, book: &Book<MemoryKeeper>) -> bool {
     bell.wait(rt, seen) == seen && was_open && bell.is_shut()
 }
 
-/// The history of such a book, if all was right.
-fn four<R: Wait>(rt: &R, alloc: Global, rows: &[Row]) -> Option<Trail> {
-    let Opened { book, mut pass } = new_book(alloc, limits(4), Vec::new(alloc))?;
-    let is_right = fill_four(rt, alloc, &book, &mut pass, rows) && shuts(rt, &book);
-    let spent = book.gone(rt, pass, 0);
+/// The history of a book, once the last caller has gone, if all was right.
+pub fn history_of<R: Wait>(
+    rt: &R,
+    book: Book<MemoryKeeper>,
+    last: Pass,
+    is_right: bool,
+) -> Option<Trail>
+    requires { IsOf book last }
+{
+    let spent = book.gone(rt, last, 0);
     let trail = close(rt, book, spent);
     if is_right {
         Some(trail)
@@ -99,6 +92,19 @@ fn four<R: Wait>(rt: &R, alloc: Global, rows: &[Row]) -> Option<Trail> {
         drop(trail);
         None
     }
+}
+
+/// The history of such a book, if all was right.
+fn four<R: Wait>(rt: &R, alloc: Global, rows: &[Row]) -> Option<Trail> {
+    let Opened { book, mut pass } = new_book(alloc, limits(4), Vec::new(alloc))?;
+    let at = Site {
+        rt,
+        alloc,
+        book: &book,
+    };
+    let is_right = fill_four(&at, &mut pass, rows) && shuts(rt, &book);
+    drop(at);
+    history_of(rt, book, pass, is_right)
 }
 
 /// A copy of the entry at a place of a history.
@@ -210,22 +216,16 @@ fn one_more_than_64_may_not_join(rt: HostRuntime) -> Result<(), Fail> {
 }
 
 /// The only caller comes, makes calls that come to this, and goes.
-fn stay<R: Wait>(
-    rt: &R,
-    alloc: Global,
-    book: &Book<MemoryKeeper>,
-    root: Pass,
-    rows: &[Row],
-) -> Option<Spent>
-    requires book { IsOf book.now root }
+fn stay<R: Wait>(at: &Site<'_, R>, root: Pass, rows: &[Row]) -> Option<Spent>
+    requires book { IsOf at.now.book.now root }
     requires nobody { root.caller ≡ 0 }
     requires alone { root.alone ≡ true }
-    ensures { IfSome result (IsOf book.now) }
+    ensures { IfSome result (IsOf at.now.book.now) }
 {
-    match book.join_alone(rt, root, 0, Principal::Admin) {
+    match at.book.join_alone(at.rt, root, 0, Principal::Admin) {
         Ok(mut pass) => {
-            let are_right = come(rt, alloc, book, &mut pass, rows);
-            let spent = book.gone(rt, pass, 0);
+            let are_right = come(at, &mut pass, rows);
+            let spent = at.book.gone(at.rt, pass, 0);
             if are_right {
                 Some(spent)
             } else {
@@ -246,7 +246,14 @@ fn kept<R: Wait>(rt: &R, alloc: Global, rows: &[Row]) -> Option<Closed<MemoryKee
         return None;
     };
     let Opened { book, pass } = new_book(alloc, limits(4_194_304), fates)?;
-    match stay(rt, alloc, &book, pass, rows) {
+    let at = Site {
+        rt,
+        alloc,
+        book: &book,
+    };
+    let stayed = stay(&at, pass, rows);
+    drop(at);
+    match stayed {
         Some(spent) => Some(book.close(rt, spent)),
         None => {
             drop(book);
@@ -285,7 +292,8 @@ const JOURNAL: [u8; 140] = [
 /// What became of each change that the calls asked for.
 const APPENDS: [(u64, Kept); 3] = [(2, Kept::Kept), (3, Kept::Failed), (5, Kept::Kept)];
 
-/// Whether two services are left, and each change is told as it stands in the journal.
+/// Whether two services are left, the trail has what became of each change, and the journal has
+/// the changes that were kept.
 fn are_told(closed: &Closed<MemoryKeeper>) -> bool {
     for (place, append) in APPENDS {
         if append_at(&closed.trail, place) != Some(append) {

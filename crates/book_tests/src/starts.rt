@@ -1,10 +1,12 @@
-// Starts, with the launches that they want, and what processes report and are told.
+// Starts, with the launches that they want, and what processes report and are sent.
 ghost use Rattle.std.specs.Prelude.{◌≢◌, ◌≤◌, IfSome};
 ghost use Rattle.scm_model.specs.declared.flat.Phase.TheVariants as phases;
 ghost use Rattle.scm_book.specs.Passes.{HasPlan, HoldsProcess, IsOf};
 
-use crate::rows::{Row, come, entry_at, full, told};
-use book_calls::{Asked, begin_start, close, end_start, guest, leaves, limits, new_book, runner};
+use crate::raising::raises;
+use crate::ringing::rings;
+use crate::rows::{Row, come, entry_at, full, history_of, told};
+use book_calls::{Asked, Site, begin_start, end_start, guest, leaves, limits, new_book, runner};
 use record_journal::MemoryKeeper;
 use scm_book::{
     Book, ControlLook, EndedEnd, LaunchLook, LaunchRoom, Opened, Pass, ReportEnd, TickEnd,
@@ -14,26 +16,27 @@ use scm_model::codes::{
     SERVICE_ACCEPT_STOP, SERVICE_CONTROL_STOP, SERVICE_RUNNING, SERVICE_START_PENDING,
     SERVICE_STOPPED, SERVICE_WIN32_OWN_PROCESS,
 };
-use scm_model::{Status, Step};
+use scm_model::{Order, Status, Step};
 use scm_trail::Trail;
 use std::alloc::Global;
 use std::sync::Wait;
 use std::test::Fail;
 
-/// Takes the launch of `/a` in hand, and leaves its line in `room`.
-fn take_into<R: Wait>(
-    rt: &R,
-    book: &Book<MemoryKeeper>,
-    pass: &mut Pass,
-    room: &mut LaunchRoom,
-) -> Option<u64>
-    requires book { IsOf book.now pass.old }
+/// The STOP of the first service.
+const STOP: Order = Order {
+    service: 1,
+    code: SERVICE_CONTROL_STOP,
+};
+
+/// Takes the launch of `/a`, and leaves its line in `room`.
+fn take_into<R: Wait>(at: &Site<'_, R>, pass: &mut Pass, room: &mut LaunchRoom) -> Option<u64>
+    requires book { IsOf at.now.book.now pass.old }
     requires path { 2048 ≤ room.old.path.room }
-    ensures book { IsOf book.now pass.new }
-    ensures process { IfSome result (λ process. HoldsProcess book.now.opening pass.new process
+    ensures book { IsOf at.now.book.now pass.new }
+    ensures process { IfSome result (λ process. HoldsProcess at.now.book.now.opening pass.new process
         phases.Taken) }
 {
-    match book.take_launch(rt, pass, 0, room) {
+    match at.book.take_launch(at.rt, pass, 0, room) {
         LaunchLook::Launch(process) if room.path.units() == [0x2F, 0x61].as_slice() => {
             Some(process)
         }
@@ -41,21 +44,16 @@ fn take_into<R: Wait>(
     }
 }
 
-/// Takes the launch of `/a` in hand.
-pub fn take<R: Wait>(
-    rt: &R,
-    alloc: Global,
-    book: &Book<MemoryKeeper>,
-    pass: &mut Pass,
-) -> Option<u64>
-    requires { IsOf book.now pass.old }
-    ensures book { IsOf book.now pass.new }
-    ensures process { IfSome result (λ process. HoldsProcess book.now.opening pass.new process
+/// Takes the launch of `/a`.
+pub fn take<R: Wait>(at: &Site<'_, R>, pass: &mut Pass) -> Option<u64>
+    requires { IsOf at.now.book.now pass.old }
+    ensures book { IsOf at.now.book.now pass.new }
+    ensures process { IfSome result (λ process. HoldsProcess at.now.book.now.opening pass.new process
         phases.Taken) }
 {
-    match LaunchRoom::new(alloc) {
+    match LaunchRoom::new(at.alloc) {
         Ok(mut room) => {
-            let process = take_into(rt, book, pass, &mut room);
+            let process = take_into(at, pass, &mut room);
             drop(room);
             process
         }
@@ -63,20 +61,15 @@ pub fn take<R: Wait>(
     }
 }
 
-/// Takes it in hand, and launches it.
-pub fn launch<R: Wait>(
-    rt: &R,
-    alloc: Global,
-    book: &Book<MemoryKeeper>,
-    pass: &mut Pass,
-) -> Option<u64>
-    requires { IsOf book.now pass.old }
-    ensures book { IsOf book.now pass.new }
-    ensures process { IfSome result (λ process. HoldsProcess book.now.opening pass.new process
+/// Takes the launch of `/a`, and carries it out.
+pub fn launch<R: Wait>(at: &Site<'_, R>, pass: &mut Pass) -> Option<u64>
+    requires { IsOf at.now.book.now pass.old }
+    ensures book { IsOf at.now.book.now pass.new }
+    ensures process { IfSome result (λ process. HoldsProcess at.now.book.now.opening pass.new process
         phases.Launched) }
 {
-    let process = take(rt, alloc, book, pass)?;
-    book.launched(rt, pass, 0, process, 7);
+    let process = take(at, pass)?;
+    at.book.launched(at.rt, pass, 0, process, 7);
     Some(process)
 }
 
@@ -127,7 +120,7 @@ pub fn report<R: Wait>(
     true
 }
 
-/// As many queries as find room in a book of twenty steps behind the start of the service and its
+/// As many queries as find room in a book of twenty steps after the start of the service and its
 /// report, and one more.
 fn queries() -> [Row; 11] {
     let query = Asked::Queries { handle: 2 };
@@ -136,31 +129,37 @@ fn queries() -> [Row; 11] {
     rows
 }
 
+/// A caller makes a service, and begins to start it. The start's plan, if all is answered so.
+fn begin<R: Wait>(at: &Site<'_, R>, pass: &mut Pass) -> Option<u64>
+    requires book { IsOf at.now.book.now pass.old }
+    requires caller { pass.old.caller ≢ 0 }
+    ensures book { IsOf at.now.book.now pass.new }
+    ensures caller { pass.new.caller ≢ 0 }
+    ensures plan { IfSome result (HasPlan at.now.book.now.opening pass.new) }
+{
+    let is_made = come(at, pass, &service());
+    let plan = begin_start(at.rt, at.alloc, at.book, pass, 2)?;
+    if is_made { Some(plan) } else { None }
+}
+
 /// A caller starts a service, and asks after it until no room is left. The process, if all is
 /// answered so in a book of twenty steps.
-fn fill<R: Wait>(
-    rt: &R,
-    alloc: Global,
-    book: &Book<MemoryKeeper>,
-    pass: &mut Pass,
-    other: &mut Pass,
-) -> Option<u64>
-    requires book { IsOf book.now pass.old }
+fn fill<R: Wait>(at: &Site<'_, R>, pass: &mut Pass, other: &mut Pass) -> Option<u64>
+    requires book { IsOf at.now.book.now pass.old }
     requires caller { pass.old.caller ≢ 0 }
-    requires other { IsOf book.now other.old }
-    ensures book { IsOf book.now pass.new }
-    ensures other { IsOf book.now other.new }
-    ensures process { IfSome result (λ process. HoldsProcess book.now.opening other.new process
+    requires other { IsOf at.now.book.now other.old }
+    ensures book { IsOf at.now.book.now pass.new }
+    ensures other { IsOf at.now.book.now other.new }
+    ensures process { IfSome result (λ process. HoldsProcess at.now.book.now.opening other.new process
         phases.Launched) }
 {
-    let is_made = come(rt, alloc, book, pass, &service());
-    let plan = begin_start(rt, alloc, book, pass, 2)?;
-    let process = launch(rt, alloc, book, other)?;
-    let is_started = end_start(rt, book, pass, plan) == Some(0);
+    let plan = begin(at, pass)?;
+    let process = launch(at, other)?;
+    let is_started = end_start(at.rt, at.book, pass, plan) == Some(0);
     let runs = [(SERVICE_RUNNING, ReportEnd::Taken)];
-    let is_running = report(rt, book, other, process, &runs);
-    let is_asked = come(rt, alloc, book, pass, &queries());
-    if is_made && is_started && is_running && is_asked {
+    let is_running = report(at.rt, at.book, other, process, &runs);
+    let is_asked = come(at, pass, &queries());
+    if is_started && is_running && is_asked {
         Some(process)
     } else {
         None
@@ -186,51 +185,44 @@ fn is_over<R: Wait>(
 }
 
 /// The same caller goes then, and its process ends.
-fn fill_beside<R: Wait>(
-    rt: &R,
-    alloc: Global,
-    book: &Book<MemoryKeeper>,
-    root: &mut Pass,
-    other: &mut Pass,
-) -> bool
-    requires book { IsOf book.now root.old }
-    requires other { IsOf book.now other.old }
-    ensures book { IsOf book.now root.new }
-    ensures other { IsOf book.now other.new }
+fn fill_beside<R: Wait>(at: &Site<'_, R>, root: &mut Pass, other: &mut Pass) -> bool
+    requires book { IsOf at.now.book.now root.old }
+    requires other { IsOf at.now.book.now other.old }
+    ensures book { IsOf at.now.book.now root.new }
+    ensures other { IsOf at.now.book.now other.new }
 {
-    match guest(rt, book, root, 0) {
+    match guest(at.rt, at.book, root, 0) {
         Ok(mut pass) => {
-            let process = fill(rt, alloc, book, &mut pass, other);
-            leaves(rt, book, root, pass, 0);
-            is_over(rt, book, other, process)
+            let process = fill(at, &mut pass, other);
+            leaves(at.rt, at.book, root, pass, 0);
+            is_over(at.rt, at.book, other, process)
         }
         Err(_) => false,
     }
 }
 
 /// Whether all is answered so in a book of twenty steps.
-fn fill_twenty<R: Wait>(rt: &R, alloc: Global, book: &Book<MemoryKeeper>, root: &mut Pass) -> bool
-    requires { IsOf book.now root.old }
-    ensures { IsOf book.now root.new }
+fn fill_twenty<R: Wait>(at: &Site<'_, R>, root: &mut Pass) -> bool
+    requires { IsOf at.now.book.now root.old }
+    ensures { IsOf at.now.book.now root.new }
 {
-    let mut other = runner(book, root);
-    let is_filled = fill_beside(rt, alloc, book, root, &mut other);
-    leaves(rt, book, root, other, 0);
+    let mut other = runner(at.book, root);
+    let is_filled = fill_beside(at, root, &mut other);
+    leaves(at.rt, at.book, root, other, 0);
     is_filled
 }
 
 /// The history of such a book, if all was right.
 fn twenty<R: Wait>(rt: &R, alloc: Global) -> Option<Trail> {
     let Opened { book, mut pass } = new_book(alloc, limits(20), Vec::new(alloc))?;
-    let is_right = fill_twenty(rt, alloc, &book, &mut pass);
-    let spent = book.gone(rt, pass, 0);
-    let trail = close(rt, book, spent);
-    if is_right {
-        Some(trail)
-    } else {
-        drop(trail);
-        None
-    }
+    let at = Site {
+        rt,
+        alloc,
+        book: &book,
+    };
+    let is_right = fill_twenty(&at, &mut pass);
+    drop(at);
+    history_of(rt, book, pass, is_right)
 }
 
 /// Whether the one entry is that caller 1 went, and the other that process 1 ended.
@@ -270,36 +262,29 @@ fn what_is_owed_has_steps_of_twenty(rt: HostRuntime) -> Result<(), Fail> {
     Ok(())
 }
 
-/// Whether a start waits until its launch is decided, and is told why it failed; no launch is
-/// wanted then.
-fn fail<R: Wait>(
-    rt: &R,
-    alloc: Global,
-    book: &Book<MemoryKeeper>,
-    pass: &mut Pass,
-    other: &mut Pass,
-    plan: u64,
-) -> bool
-    requires book { IsOf book.now pass.old }
-    requires plan { HasPlan book.now.opening pass.old plan }
-    requires other { IsOf book.now other.old }
-    ensures book { IsOf book.now pass.new }
+/// Whether a start waits until its launch is decided, and is answered with why that failed; no
+/// launch is wanted then.
+fn fail<R: Wait>(at: &Site<'_, R>, pass: &mut Pass, other: &mut Pass, plan: u64) -> bool
+    requires book { IsOf at.now.book.now pass.old }
+    requires plan { HasPlan at.now.book.now.opening pass.old plan }
+    requires other { IsOf at.now.book.now other.old }
+    ensures book { IsOf at.now.book.now pass.new }
     ensures caller { pass.new.caller ≢ 0 }
-    ensures other { IsOf book.now other.new }
+    ensures other { IsOf at.now.book.now other.new }
 {
-    let None = end_start(rt, book, pass, plan) else {
+    let None = end_start(at.rt, at.book, pass, plan) else {
         return false;
     };
-    let Some(process) = take(rt, alloc, book, other) else {
+    let Some(process) = take(at, other) else {
         return false;
     };
-    book.launch_failed(rt, other, 0, process, ERROR_SERVICE_NO_THREAD);
-    let told = end_start(rt, book, pass, plan);
-    told == Some(ERROR_SERVICE_NO_THREAD) && take(rt, alloc, book, other).is_none()
+    at.book
+        .launch_failed(at.rt, other, 0, process, ERROR_SERVICE_NO_THREAD);
+    let told = end_start(at.rt, at.book, pass, plan);
+    told == Some(ERROR_SERVICE_NO_THREAD) && take(at, other).is_none()
 }
 
-/// Whether a start whose launch nobody takes in hand is given up at its deadline, two minutes
-/// later.
+/// Whether a start whose launch is never taken is given up at its deadline, two minutes later.
 fn is_late<R: Wait>(rt: &R, book: &Book<MemoryKeeper>, pass: &mut Pass, plan: u64) -> bool
     requires book { IsOf book.now pass.old }
     requires plan { HasPlan book.now.opening pass.old plan }
@@ -311,71 +296,63 @@ fn is_late<R: Wait>(rt: &R, book: &Book<MemoryKeeper>, pass: &mut Pass, plan: u6
     before == TickEnd::Idle && at == TickEnd::Ticked && told == Some(ERROR_SERVICE_REQUEST_TIMEOUT)
 }
 
-/// Whether two starts of a caller's service fail so.
-fn two_fail<R: Wait>(
-    rt: &R,
-    alloc: Global,
-    book: &Book<MemoryKeeper>,
-    pass: &mut Pass,
-    root: &mut Pass,
-) -> bool
-    requires book { IsOf book.now pass.old }
+/// Whether a start of a caller's service is given up so.
+fn fails_late<R: Wait>(at: &Site<'_, R>, pass: &mut Pass) -> bool
+    requires book { IsOf at.now.book.now pass.old }
     requires caller { pass.old.caller ≢ 0 }
-    requires root { IsOf book.now root.old }
-    ensures { IsOf book.now root.new }
 {
-    let is_made = come(rt, alloc, book, pass, &service());
-    let Some(plan) = begin_start(rt, alloc, book, pass, 2) else {
-        return false;
-    };
-    let is_told = fail(rt, alloc, book, pass, root, plan);
-    let Some(plan) = begin_start(rt, alloc, book, pass, 2) else {
-        return false;
-    };
-    is_made && is_told && is_late(rt, book, pass, plan)
+    match begin_start(at.rt, at.alloc, at.book, pass, 2) {
+        Some(plan) => is_late(at.rt, at.book, pass, plan),
+        None => false,
+    }
 }
 
-/// What a caller of a book is to see: how starts fail, or how a process obeys.
+/// Whether two starts of a caller's service fail so.
+fn two_fail<R: Wait>(at: &Site<'_, R>, pass: &mut Pass, root: &mut Pass) -> bool
+    requires book { IsOf at.now.book.now pass.old }
+    requires caller { pass.old.caller ≢ 0 }
+    requires root { IsOf at.now.book.now root.old }
+    ensures { IsOf at.now.book.now root.new }
+{
+    match begin(at, pass) {
+        Some(plan) => fail(at, pass, root, plan) && fails_late(at, pass),
+        None => false,
+    }
+}
+
+/// What a caller of a book is to see: how starts fail, how a process obeys, which bells ring, or
+/// what a raise does.
 #[derive(Clone, Copy)]
-enum Sight {
+pub enum Sight {
     Failing,
     Obeying,
+    Ringing,
+    Raising,
 }
 
 /// Whether a caller sees it.
-fn looks<R: Wait>(
-    rt: &R,
-    alloc: Global,
-    book: &Book<MemoryKeeper>,
-    pass: &mut Pass,
-    root: &mut Pass,
-    sight: Sight,
-) -> bool
-    requires book { IsOf book.now pass.old }
+fn looks<R: Wait>(at: &Site<'_, R>, pass: &mut Pass, root: &mut Pass, sight: Sight) -> bool
+    requires book { IsOf at.now.book.now pass.old }
     requires caller { pass.old.caller ≢ 0 }
-    requires root { IsOf book.now root.old }
-    ensures { IsOf book.now root.new }
+    requires root { IsOf at.now.book.now root.old }
+    ensures { IsOf at.now.book.now root.new }
 {
     match sight {
-        Sight::Failing => two_fail(rt, alloc, book, pass, root),
-        Sight::Obeying => serves(rt, alloc, book, pass, root),
+        Sight::Failing => two_fail(at, pass, root),
+        Sight::Obeying => serves(at, pass, root),
+        Sight::Ringing => rings(at, pass, root),
+        Sight::Raising => raises(at, pass, root),
     }
 }
 
 /// Whether a new caller sees it.
-fn sees<R: Wait>(
-    rt: &R,
-    alloc: Global,
-    book: &Book<MemoryKeeper>,
-    root: &mut Pass,
-    sight: Sight,
-) -> bool
-    requires { IsOf book.now root.old }
-    ensures { IsOf book.now root.new }
+fn sees<R: Wait>(at: &Site<'_, R>, root: &mut Pass, sight: Sight) -> bool
+    requires { IsOf at.now.book.now root.old }
+    ensures { IsOf at.now.book.now root.new }
 {
-    match guest(rt, book, root, 0) {
+    match guest(at.rt, at.book, root, 0) {
         Ok(mut pass) => {
-            let is_seen = looks(rt, alloc, book, &mut pass, root, sight);
+            let is_seen = looks(at, &mut pass, root, sight);
             drop(pass);
             is_seen
         }
@@ -384,10 +361,16 @@ fn sees<R: Wait>(
 }
 
 /// Whether a caller of a new book sees it.
-fn is_seen<R: Wait>(rt: &R, alloc: Global, sight: Sight) -> bool {
+pub fn is_seen<R: Wait>(rt: &R, alloc: Global, sight: Sight) -> bool {
     match new_book(alloc, limits(4_194_304), Vec::new(alloc)) {
         Some(Opened { book, mut pass }) => {
-            let is_seen = sees(rt, alloc, &book, &mut pass, sight);
+            let at = Site {
+                rt,
+                alloc,
+                book: &book,
+            };
+            let is_seen = sees(&at, &mut pass, sight);
+            drop(at);
             drop(pass);
             drop(book);
             is_seen
@@ -404,19 +387,12 @@ fn a_start_that_fails_is_told_why(rt: HostRuntime) -> Result<(), Fail> {
 
 /// Whether a process that runs takes a control that its service is sent, stops, and then tells
 /// nothing more.
-fn obeys<R: Wait>(
-    rt: &R,
-    alloc: Global,
-    book: &Book<MemoryKeeper>,
-    pass: &mut Pass,
-    other: &mut Pass,
-    process: u64,
-) -> bool
-    requires book { IsOf book.now pass.old }
+fn obeys<R: Wait>(at: &Site<'_, R>, pass: &mut Pass, other: &mut Pass, process: u64) -> bool
+    requires book { IsOf at.now.book.now pass.old }
     requires caller { pass.old.caller ≢ 0 }
-    requires other { IsOf book.now other.old }
-    requires process { HoldsProcess book.now.opening other.old process phases.Launched }
-    ensures book { IsOf book.now other.new }
+    requires other { IsOf at.now.book.now other.old }
+    requires process { HoldsProcess at.now.book.now.opening other.old process phases.Launched }
+    ensures book { IsOf at.now.book.now other.new }
 {
     let runs = [
         (SERVICE_RUNNING, ReportEnd::Taken),
@@ -425,49 +401,42 @@ fn obeys<R: Wait>(
             ReportEnd::Refused(ERROR_INVALID_DATA),
         ),
     ];
-    let is_running = report(rt, book, other, process, &runs);
-    let none = book.take_control(rt, other, 0, process);
+    let is_running = report(at.rt, at.book, other, process, &runs);
+    let none = at.book.take_control(at.rt, other, 0, process);
     let stops = [told(Asked::Stops { handle: 2 }, 0, u64::from(SERVICE_RUNNING))];
-    let is_asked = come(rt, alloc, book, pass, &stops);
-    let control = book.take_control(rt, other, 0, process);
+    let is_asked = come(at, pass, &stops);
+    let control = at.book.take_control(at.rt, other, 0, process);
     let ends = [
         (SERVICE_STOPPED, ReportEnd::Taken),
         (SERVICE_STOPPED, ReportEnd::Stale),
     ];
-    let is_stopped = report(rt, book, other, process, &ends);
-    let end = book.ended(rt, other, 0, process);
-    let over = book.take_control(rt, other, 0, process);
+    let is_stopped = report(at.rt, at.book, other, process, &ends);
+    let end = at.book.ended(at.rt, other, 0, process);
+    let over = at.book.take_control(at.rt, other, 0, process);
     is_running
         && none == ControlLook::Empty
         && is_asked
-        && control == ControlLook::Control(SERVICE_CONTROL_STOP)
+        && control == ControlLook::Control(STOP)
         && is_stopped
         && end == EndedEnd::Stale
         && over == ControlLook::Over
 }
 
 /// Whether the process of a caller's service does.
-fn serves<R: Wait>(
-    rt: &R,
-    alloc: Global,
-    book: &Book<MemoryKeeper>,
-    pass: &mut Pass,
-    root: &mut Pass,
-) -> bool
-    requires book { IsOf book.now pass.old }
+fn serves<R: Wait>(at: &Site<'_, R>, pass: &mut Pass, root: &mut Pass) -> bool
+    requires book { IsOf at.now.book.now pass.old }
     requires caller { pass.old.caller ≢ 0 }
-    requires root { IsOf book.now root.old }
-    ensures { IsOf book.now root.new }
+    requires root { IsOf at.now.book.now root.old }
+    ensures { IsOf at.now.book.now root.new }
 {
-    let is_made = come(rt, alloc, book, pass, &service());
-    let Some(plan) = begin_start(rt, alloc, book, pass, 2) else {
+    let Some(plan) = begin(at, pass) else {
         return false;
     };
-    let Some(process) = launch(rt, alloc, book, root) else {
+    let Some(process) = launch(at, root) else {
         return false;
     };
-    let is_started = end_start(rt, book, pass, plan) == Some(0);
-    is_made && is_started && obeys(rt, alloc, book, pass, root, process)
+    let is_started = end_start(at.rt, at.book, pass, plan) == Some(0);
+    is_started && obeys(at, pass, root, process)
 }
 
 #[test]

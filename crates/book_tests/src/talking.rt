@@ -2,10 +2,8 @@
 ghost use Rattle.std.specs.Prelude.{◌≢◌};
 ghost use Rattle.scm_book.specs.Passes.{IsOf};
 
-use book_calls::{Asked, Told, ask};
-use record_journal::MemoryKeeper;
-use scm_book::{Book, Pass};
-use std::alloc::Global;
+use book_calls::{Asked, Site, Told, ask};
+use scm_book::Pass;
 use std::sync::Wait;
 
 /// A call, and what it was told.
@@ -81,22 +79,20 @@ fn service(mark: u64, round: u64) -> u16 {
 
 /// Makes the call at a place of a caller's talk, at the moment of its mark.
 fn speak<R: Wait>(
-    rt: &R,
-    alloc: Global,
-    book: &Book<MemoryKeeper>,
+    at: &Site<'_, R>,
     pass: &mut Pass,
     mark: u64,
     call: u64,
     hand: &mut Hand,
 ) -> Option<Line>
-    requires book { IsOf book.now pass.old }
+    requires book { IsOf at.now.book.now pass.old }
     requires caller { pass.old.caller ≢ 0 }
-    ensures book { IsOf book.now pass.new }
+    ensures book { IsOf at.now.book.now pass.new }
     ensures caller { pass.new.caller ≢ 0 }
 {
     let place = call % ROUND;
     let asked = hand.next(place, service(mark, call / ROUND));
-    match ask(rt, alloc, book, pass, mark, asked) {
+    match ask(at.rt, at.alloc, at.book, pass, mark, asked) {
         Ok(told) => {
             hand.hear(place, told.number);
             Some(Line { asked, told })
@@ -108,21 +104,19 @@ fn speak<R: Wait>(
 /// Makes so many calls, and writes down what they were told. Whether there was memory and room for
 /// all.
 pub fn talk<R: Wait>(
-    rt: &R,
-    alloc: Global,
-    book: &Book<MemoryKeeper>,
+    at: &Site<'_, R>,
     pass: &mut Pass,
     mark: u64,
     calls: u64,
     lines: &mut Vec<Line>,
 ) -> bool
-    requires book { IsOf book.now pass.old }
+    requires book { IsOf at.now.book.now pass.old }
     requires caller { pass.old.caller ≢ 0 }
-    ensures { IsOf book.now pass.new }
+    ensures { IsOf at.now.book.now pass.new }
 {
     let mut hand = Hand::EMPTY;
     for call in 0..calls {
-        let Some(line) = speak(rt, alloc, book, pass, mark, call, &mut hand) else {
+        let Some(line) = speak(at, pass, mark, call, &mut hand) else {
             return false;
         };
         if lines.push(line).is_err() {

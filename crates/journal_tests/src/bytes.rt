@@ -1,10 +1,11 @@
-use crate::values::{append, append_ascii, keeper, name, plain, text, unnamed};
+use crate::values::{append, keeper, name, plain};
 use record_journal::{Journal, MemoryKeeper};
-use scm_model::{Action, Change, Config, Need};
+use scm_model::{Change, Config, Need};
 use scm_text::{Items, OutOfMemory};
 use std::alloc::Global;
 use std::mem::replace;
 use std::test::*;
+use test_values::{append_ascii, restart, text, unnamed};
 
 /// What a journal begins with.
 pub const HEADER: &[u8] = &[0x53, 0x43, 0x4D, 0x4A, 1, 0, 0, 0];
@@ -75,21 +76,9 @@ fn needs(alloc: Global) -> Result<Items<Need>, OutOfMemory> {
     }
 }
 
-/// A restart after a second.
-fn actions(alloc: Global) -> Result<Items<Action>, OutOfMemory> {
-    let restart = Action {
-        what: 1,
-        delay: 1000,
-    };
-    match Vec::from_array(alloc, [restart]) {
-        Ok(actions) => Ok(Items::from_vec(actions)),
-        Err(_) => Err(OutOfMemory),
-    }
-}
-
 /// A service that needs another and a group, and is restarted at failures, but for its texts.
 fn needing(alloc: Global) -> Result<Config, OutOfMemory> {
-    let (Ok(needs), Ok(actions)) = (needs(alloc), actions(alloc)) else {
+    let (Ok(needs), Ok(actions)) = (needs(alloc), restart(alloc)) else {
         return Err(OutOfMemory);
     };
     let mut config = unnamed(alloc);

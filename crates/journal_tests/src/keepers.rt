@@ -47,7 +47,7 @@ fn list_fates(fates: &mut Vec<Fate>) -> Result<(), AllocError> {
     Ok(())
 }
 
-/// Whether each call comes to its fate.
+/// Whether each call ends as its fate says.
 fn come_to_fates(keeper: &mut MemoryKeeper) -> bool {
     for (call, fate, bytes) in &CALLS {
         if succeeds(keeper, *call) != (*fate == Fate::Succeeds)

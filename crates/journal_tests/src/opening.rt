@@ -5,7 +5,7 @@ use scm_text::WText;
 use std::alloc::{AllocError, Global};
 use std::test::*;
 
-/// What an opening comes to.
+/// What an opening results in.
 #[derive(Clone, Copy)]
 pub enum Answer {
     /// Services of these names, of one letter each, from so many bytes.
@@ -49,7 +49,7 @@ fn is_refused(fault: JournalFault, answer: Answer) -> bool {
     }
 }
 
-/// Whether an opening comes to this.
+/// Whether an opening results in this.
 fn comes_to(alloc: Global, keeper: &mut MemoryKeeper, answer: Answer) -> bool {
     match open_journal(alloc, keeper, Some("journal")) {
         Ok(opened) => {
@@ -136,7 +136,7 @@ pub const NO_A: &[u8] = &[3, 6, 0, 0, 0, 1, 0, 0, 0, 0x61, 0];
 
 const NO_DB: &[u8] = &[3, 8, 0, 0, 0, 2, 0, 0, 0, 0x44, 0, 0x62, 0];
 
-/// What stands, what an opening comes to, and how many bytes are left.
+/// What stands, what an opening results in, and how many bytes are left.
 const ROWS: [(&[&[u8]], Answer, usize); 24] = [
     (&[], Answer::Opens("", 0), 0),
     (&[&[0x53, 0x43, 0x4D, 0x4A, 1, 0]], Answer::Opens("", 0), 0),

@@ -1,52 +1,9 @@
 //! What the tests build their values with.
 use record_journal::{Fate, Journal, KeepFault, Keeper, MemoryKeeper};
 use scm_model::{Change, Config};
-use scm_text::{Items, OutOfMemory, WText};
+use scm_text::OutOfMemory;
 use std::alloc::{AllocError, Global};
-
-/// Appends letters in ASCII. A 0 is left out.
-pub fn append_ascii(text: &mut WText, ascii: &str) -> Result<(), OutOfMemory> {
-    for byte in ascii.as_bytes() {
-        if 0 < *byte {
-            text.append_unit(u16::from(*byte))?;
-        }
-    }
-    Ok(())
-}
-
-/// A text in ASCII. A 0 is left out.
-pub fn text(alloc: Global, ascii: &str) -> Result<WText, OutOfMemory> {
-    let mut text = WText::new(alloc);
-    match append_ascii(&mut text, ascii) {
-        Ok(()) => Ok(text),
-        Err(why) => {
-            drop(text);
-            Err(why)
-        }
-    }
-}
-
-/// A configuration without texts.
-pub fn unnamed(alloc: Global) -> Config {
-    Config {
-        name: WText::new(alloc),
-        display: WText::new(alloc),
-        kind: 0x10,
-        start: 3,
-        error: 1,
-        path: WText::new(alloc),
-        group: WText::new(alloc),
-        tag: 0,
-        needs: Items::new(alloc),
-        description: WText::new(alloc),
-        reset: 0,
-        actions: Items::new(alloc),
-        command: WText::new(alloc),
-        on_exit: false,
-        delayed: false,
-        triggers: Items::new(alloc),
-    }
-}
+use test_values::{append_ascii, unnamed};
 
 /// Names a configuration, with the same display name, and gives it a path.
 pub fn name(config: &mut Config, name: &str, path: &str) -> Result<(), OutOfMemory> {

@@ -5,7 +5,7 @@ ghost use Rattle.scm_core.specs.Managed.{WasMadeFor};
 
 use crate::limits::{LIMITS, new_manager};
 use scm_core::Manager;
-use scm_model::{Answer, Kept, NewService, Principal, Reply, Request, Status, Step};
+use scm_model::{Answer, Kept, NewService, Principal, Reply, Request, Status, Step, zero_status};
 use scm_text::{Items, OutOfMemory, TextRoom, WText};
 use std::alloc::Global;
 use std::test::Fail;
@@ -48,7 +48,8 @@ enum Told {
     Code(u32),
     Plan(u64),
     Launch(u64),
-    Control(u32),
+    /// A service and a control.
+    Control(u64, u32),
     Refused(u32),
     Stale,
     Done,
@@ -125,10 +126,7 @@ fn in_state(state: u32) -> Status {
         kind: 0x10,
         state,
         accepted: 1,
-        win32: 0,
-        specific: 0,
-        checkpoint: 0,
-        hint: 0,
+        ..zero_status()
     }
 }
 
@@ -142,6 +140,7 @@ fn step_of(event: Event) -> Step {
         Event::Unlaunched(process) => Step::LaunchFailed { process, code: 2 },
         Event::Reports(process, state) => Step::Report {
             process,
+            service: 0,
             status: in_state(state),
         },
         Event::TakesControl(process) => Step::ControlTaken { process },
@@ -202,7 +201,7 @@ fn told_by(answer: &Answer) -> Told {
         Answer::Reply(reply) => Told::Code(code_of(reply)),
         Answer::Begun(plan) => Told::Plan(*plan),
         Answer::Launch(process) => Told::Launch(*process),
-        Answer::Control(control) => Told::Control(*control),
+        Answer::Control(order) => Told::Control(order.service, order.code),
         Answer::Refused(code) => Told::Refused(*code),
         Answer::Stale => Told::Stale,
         Answer::Done => Told::Done,
@@ -344,7 +343,7 @@ const STOPPED: [Row; 13] = [
     (0, Event::Reports(1, 4), Told::Done, (1, 1)),
     (0, Event::EndsStart(1), Told::Code(0), (1, 1)),
     (0, Event::Stops(2), Told::Code(0), (1, 1)),
-    (0, Event::TakesControl(1), Told::Control(1), (1, 1)),
+    (0, Event::TakesControl(1), Told::Control(1, 1), (1, 1)),
     (0, Event::Reports(1, 3), Told::Done, (1, 0)),
     (0, Event::Reports(1, 4), Told::Refused(13), (1, 0)),
     (0, Event::Ends(1), Told::Done, (1, 0)),

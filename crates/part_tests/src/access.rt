@@ -49,7 +49,7 @@ const SERVICE_SET_STATUS: u32 = 0x8000;
 
 const SERVICE_ALL_ACCESS: u32 = 0xF_01FF;
 
-/// What is asked of a service, and what it comes to.
+/// What is asked of a service, and what it maps to.
 const SEVERAL: u32 = GENERIC_READ | GENERIC_WRITE | DELETE;
 
 const EACH_OF_SEVERAL: u32 = SERVICE_READS | SERVICE_CHANGE_CONFIG | DELETE;

@@ -2,6 +2,7 @@
 ghost use Rattle.std.specs.Prelude.{◌≡◌, ◌==◌, Some, false, find, filter, is_some, map};
 ghost use Rattle.std.specs.Option.{option_copied};
 ghost use Rattle.std.specs.List.{list_any};
+ghost use Rattle.scm_model.specs.Refused.{zero_status};
 ghost use Rattle.scm_model.specs.Rows.{named};
 ghost use Rattle.scm_text.specs.Fold.{same_text};
 ghost use Rattle.start_plan.specs.Asleep.{ArePending};
@@ -9,7 +10,7 @@ ghost use Rattle.start_plan.specs.Entered.{started_if, HasNumbers};
 ghost use Rattle.start_plan.specs.Moves.{cause_at, entering_at};
 ghost use Rattle.scm_model.specs.Ready.{is_fulfilled, is_ready, is_running, is_up};
 
-use scm_model::{LockRow, Need, Phase, Process, Service, Status, Wanted};
+use scm_model::{LockRow, Need, Phase, Process, Service, Status, Wanted, zero_status};
 use scm_text::{Items, OutOfMemory, WText, same};
 use start_plan::{Entering, Field, Plans};
 use std::alloc::Global;
@@ -122,24 +123,12 @@ fn start_in(rows: &mut Vec<Service>, number: u64, process: u64)
 
 /// A status of this type in a state.
 pub fn status(kind: u32, state: u32) -> Status
-    ensures { result ≡ record {
-      kind = kind;
-      state = state;
-      accepted = 0;
-      win32 = 0;
-      specific = 0;
-      checkpoint = 0;
-      hint = 0;
-    } }
+    ensures { result ≡ record zero_status { kind = kind; state = state } }
 {
     Status {
         kind,
         state,
-        accepted: 0,
-        win32: 0,
-        specific: 0,
-        checkpoint: 0,
-        hint: 0,
+        ..zero_status()
     }
 }
 
@@ -271,6 +260,7 @@ impl Field for Bench {
         self.processes.push_reserved(Process {
             number,
             service,
+            shared: false,
             phase: Phase::Wanted,
             pid: 0,
             controls: Items::new(self.alloc),

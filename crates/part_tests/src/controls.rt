@@ -1,5 +1,5 @@
 use control_dispatch::judge;
-use scm_model::Status;
+use scm_model::{Status, zero_status};
 
 // From winsvc.h.
 const STOP: u32 = 1;
@@ -37,10 +37,7 @@ fn status(state: u32, accepted: u32) -> Status {
         kind: 0x10,
         state,
         accepted,
-        win32: 0,
-        specific: 0,
-        checkpoint: 0,
-        hint: 0,
+        ..zero_status()
     }
 }
 

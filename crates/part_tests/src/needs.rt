@@ -2,7 +2,7 @@ ghost use Rattle.std.specs.Prelude.{◌≡◌, [], OnOk};
 ghost use Rattle.scm_model.specs.Needs.{needs_of};
 ghost use Rattle.scm_model.specs.Walks.{IsAcyclic};
 
-use crate::values::{Needed, needs, text};
+use crate::values::{Needed, needs};
 use Needed::{Group, Service};
 use dependency_index::{DependencyIndex, StateLook, StateOf, Steps};
 use scm_model::Need;
@@ -11,6 +11,7 @@ use std::alloc::Global;
 use std::marker::Brand;
 use std::sync::ledger::{Blank, Ledger};
 use std::test::Fail;
+use test_values::text;
 
 /// Services in list order: each with its number, its name, its group and its needs.
 type Row = (u64, &'static str, &'static str, &'static [Needed]);
@@ -150,7 +151,7 @@ fn are_ordered(alloc: Global, index: &mut DependencyIndex) -> bool {
     true
 }
 
-/// Whether a service would close a cycle. Nothing is told of many services.
+/// Whether a service would close a cycle. `None` if there are more than 7 services.
 fn would_cycle(
     index: &DependencyIndex,
     number: u64,
@@ -188,7 +189,7 @@ fn closes(
     }
 }
 
-/// A row that closes a cycle is told.
+/// A row that closes a cycle is found.
 fn are_cycles(alloc: Global, index: &DependencyIndex) -> bool {
     // A new configuration of `a`, which `c` needs by way of the group, and a new member of it.
     let rows = [

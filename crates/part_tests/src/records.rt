@@ -1,9 +1,11 @@
-use crate::values::{Needed, append, append_units, needs, text};
-use scm_model::{Action, Config};
-use scm_text::{Items, OutOfMemory, WText};
+use crate::values::{Needed, append_units, needs};
+use scm_model::Config;
+use scm_text::OutOfMemory;
 use service_record::{RecordFault, check_change, check_new, read_record, record_bytes};
 use std::alloc::{AllocError, Global};
+use std::mem::replace;
 use std::test::Fail;
+use test_values::{append_ascii, restart, text, unnamed};
 
 /// The configuration of a service `x` that runs `y z`, needs the group `g` and is restarted a
 /// second after a failure.
@@ -24,55 +26,32 @@ const RECORD: [u8; 80] = [
     1, // whether a stop with an error is a failure
 ];
 
-/// A restart a second after a failure.
-fn actions(alloc: Global) -> Result<Items<Action>, OutOfMemory> {
-    let restart = Action {
-        what: 1,
-        delay: 1000,
-    };
-    match Vec::from_array(alloc, [restart]) {
-        Ok(actions) => Ok(Items::from_vec(actions)),
-        Err(_) => Err(OutOfMemory),
-    }
-}
-
 /// The configuration, but for its texts.
-fn unnamed(alloc: Global) -> Result<Config, OutOfMemory> {
-    let (Ok(needs), Ok(actions)) = (needs(alloc, &[Needed::Group("g")]), actions(alloc)) else {
+fn untold(alloc: Global) -> Result<Config, OutOfMemory> {
+    let (Ok(needs), Ok(actions)) = (needs(alloc, &[Needed::Group("g")]), restart(alloc)) else {
         return Err(OutOfMemory);
     };
-    Ok(Config {
-        name: WText::new(alloc),
-        display: WText::new(alloc),
-        kind: 0x10,
-        start: 3,
-        error: 1,
-        path: WText::new(alloc),
-        group: WText::new(alloc),
-        tag: 0x105,
-        needs,
-        description: WText::new(alloc),
-        reset: 0xFFFF_FFFF,
-        actions,
-        command: WText::new(alloc),
-        on_exit: true,
-        delayed: false,
-        triggers: Items::new(alloc),
-    })
+    let mut config = unnamed(alloc);
+    config.on_exit = true;
+    config.tag = 0x105;
+    config.reset = 0xFFFF_FFFF;
+    drop(replace(&mut config.needs, needs));
+    drop(replace(&mut config.actions, actions));
+    Ok(config)
 }
 
 /// Its texts: a name, and a path that ends in units.
 fn fill(config: &mut Config, name: &str, path: &str, more: &[u16]) -> Result<(), OutOfMemory> {
-    append(&mut config.name, name)?;
-    append(&mut config.path, path)?;
+    append_ascii(&mut config.name, name)?;
+    append_ascii(&mut config.path, path)?;
     append_units(&mut config.path, more)?;
-    append(&mut config.group, "h")?;
+    append_ascii(&mut config.group, "h")?;
     append_units(&mut config.command, &[0x163])
 }
 
 /// The configuration of a service with this name that runs this path, and else the same.
 fn configured(alloc: Global, name: &str, path: &str, more: &[u16]) -> Result<Config, OutOfMemory> {
-    let mut config = unnamed(alloc)?;
+    let mut config = untold(alloc)?;
     match fill(&mut config, name, path, more) {
         Ok(()) => Ok(config),
         Err(why) => {
@@ -194,7 +173,7 @@ const REFUSED: [Row; 9] = [
     ("x", "x", &[0xD83D, 0xDE00], "", 0),
 ];
 
-/// What such a configuration is refused with. Nothing is told without memory.
+/// What such a configuration is refused with. `None` if out of memory.
 fn refusal_of(alloc: Global, row: Row) -> Option<u32> {
     let (name, path, more, account, _) = row;
     match (configured(alloc, name, path, more), text(alloc, account)) {

@@ -2,7 +2,7 @@ ghost use Rattle.std.specs.Prelude.{◌≡◌, []};
 ghost use Rattle.start_plan.specs.Asleep.{ArePending};
 
 use crate::bench::Bench;
-use crate::values::{Needed, add, append, config, needs, stopped, text};
+use crate::values::{Needed, add, config, needs, stopped};
 use Event::{Expired, Failed, Freed, Gone, Launched, Locked, Put, Settled};
 use Fate::{Absent, Decided, Undecided};
 use Setup::{Full, Group, Pair};
@@ -11,6 +11,7 @@ use scm_text::{Items, OutOfMemory, WText};
 use start_plan::Plans;
 use std::alloc::Global;
 use std::test::Fail;
+use test_values::{append_ascii, text};
 
 const STOPPED: u32 = 1;
 
@@ -59,9 +60,9 @@ enum Fate {
 
 /// The texts of a service in the group.
 fn set_texts(config: &mut Config, name: &str) -> Result<(), OutOfMemory> {
-    append(&mut config.name, name)?;
-    append(&mut config.display, name)?;
-    append(&mut config.group, "g")
+    append_ascii(&mut config.name, name)?;
+    append_ascii(&mut config.display, name)?;
+    append_ascii(&mut config.group, "g")
 }
 
 /// The configuration of a service of its own process, in the group.
@@ -94,9 +95,12 @@ fn start(setup: Setup) -> u32 {
 
 fn add_both(alloc: Global, services: &mut Items<Service>, setup: Setup) -> Result<(), OutOfMemory> {
     let first = named(alloc, "a", start(setup), Items::new(alloc))?;
-    add(services, stopped(1, first))?;
+    add(services, stopped(alloc, 1, first))?;
     let needs = needs(alloc, &[needed(setup)])?;
-    add(services, stopped(2, named(alloc, "b", ON_DEMAND, needs)?))
+    add(
+        services,
+        stopped(alloc, 2, named(alloc, "b", ON_DEMAND, needs)?),
+    )
 }
 
 fn services(alloc: Global, setup: Setup) -> Result<Items<Service>, OutOfMemory> {
@@ -194,7 +198,7 @@ fn fate_of(plans: &Plans) -> Fate {
 /// the states.
 type Row = (Setup, u64, &'static [u64], &'static [Event], Fate, [u32; 2]);
 
-/// Whether a row comes to what it states.
+/// Whether a row results in what it states.
 fn is_come_to(alloc: Global, plans: &mut Plans, bench: &mut Bench, row: &Row) -> bool
     requires plans { plans.old.plans ≡ [] }
     requires awaited { plans.old.awaited ≡ [] }

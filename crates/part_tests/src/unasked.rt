@@ -1,10 +1,11 @@
-use crate::values::{add, config, stopped, text};
+use crate::values::{add, config, stopped};
 use failure_actions::{Failure, on_failure};
 use scm_model::{Action, Config, Service};
 use scm_text::{Items, OutOfMemory, WText};
 use start_triggers::auto_order;
 use std::alloc::Global;
 use std::mem::replace;
+use test_values::text;
 
 /// The service is started with the machine.
 const AUTOMATIC: u32 = 2;
@@ -24,7 +25,7 @@ fn restarts(alloc: Global) -> Result<Items<Action>, OutOfMemory> {
 /// The moment of a failure, how many count then, and how long its restart is put off.
 type Row = (u64, u32, u32);
 
-/// The moment of the first failure that comes to something else.
+/// The moment of the first failure that results in something else.
 fn other(config: &Config, rows: &[Row]) -> Option<u64> {
     let (mut count, mut last) = (0, 0);
     for (moment, failures, delay) in rows {
@@ -65,7 +66,7 @@ fn service(alloc: Global, number: u64, group: WText, tag: u32) -> Service {
     let mut config = config(alloc, AUTOMATIC, Items::new(alloc));
     drop(replace(&mut config.group, group));
     config.tag = tag;
-    stopped(number, config)
+    stopped(alloc, number, config)
 }
 
 /// A number, a group and a tag.

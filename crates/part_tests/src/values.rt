@@ -3,6 +3,8 @@ use crate::bench::status;
 use scm_model::{Config, Need, Service};
 use scm_text::{Items, OutOfMemory, WText};
 use std::alloc::Global;
+use std::mem::replace;
+use test_values::{service, text, unnamed};
 
 /// What a service needs.
 #[derive(Clone, Copy)]
@@ -19,28 +21,6 @@ pub fn append_units(text: &mut WText, units: &[u16]) -> Result<(), OutOfMemory> 
         }
     }
     Ok(())
-}
-
-/// Appends letters in ASCII. A 0 is left out.
-pub fn append(text: &mut WText, ascii: &str) -> Result<(), OutOfMemory> {
-    for byte in ascii.as_bytes() {
-        if 0 < *byte {
-            text.append_unit(u16::from(*byte))?;
-        }
-    }
-    Ok(())
-}
-
-/// A text in ASCII. A 0 is left out.
-pub fn text(alloc: Global, ascii: &str) -> Result<WText, OutOfMemory> {
-    let mut text = WText::new(alloc);
-    match append(&mut text, ascii) {
-        Ok(()) => Ok(text),
-        Err(why) => {
-            drop(text);
-            Err(why)
-        }
-    }
 }
 
 fn need(alloc: Global, needed: Needed) -> Result<Need, OutOfMemory> {
@@ -81,37 +61,15 @@ pub fn needs(alloc: Global, each: &[Needed]) -> Result<Items<Need>, OutOfMemory>
 
 /// A configuration without texts, of a service that is started so and has a process of its own.
 pub fn config(alloc: Global, start: u32, needs: Items<Need>) -> Config {
-    Config {
-        name: WText::new(alloc),
-        display: WText::new(alloc),
-        kind: 0x10,
-        start,
-        error: 1,
-        path: WText::new(alloc),
-        group: WText::new(alloc),
-        tag: 0,
-        needs,
-        description: WText::new(alloc),
-        reset: 0,
-        actions: Items::new(alloc),
-        command: WText::new(alloc),
-        on_exit: false,
-        delayed: false,
-        triggers: Items::new(alloc),
-    }
+    let mut config = unnamed(alloc);
+    config.start = start;
+    drop(replace(&mut config.needs, needs));
+    config
 }
 
 /// A stopped service.
-pub fn stopped(number: u64, config: Config) -> Service {
-    Service {
-        number,
-        config,
-        status: status(0x10, 1),
-        marked: false,
-        process: 0,
-        failures: 0,
-        last_failure: 0,
-    }
+pub fn stopped(alloc: Global, number: u64, config: Config) -> Service {
+    service(alloc, number, config, status(0x10, 1))
 }
 
 /// Appends a service.

@@ -1,14 +1,15 @@
 //! Books in memory, and what their one caller asks.
 ghost use Rattle.std.specs.Prelude.{◌≡◌, ◌≢◌, ◌≤◌, false, true, IfSome, IsTrue};
 ghost use Rattle.scm_model.specs.Ranges.{in_range};
+ghost use Rattle.scm_model.specs.Refused.{zero_status};
 ghost use Rattle.scm_book.specs.Called.{is_start};
 ghost use Rattle.scm_book.specs.Passes.{HasPlan, IsOf};
 
-use book_calls::{Told, begin_start, call, end_start, limits, new_book};
+use book_calls::{Site, Told, begin_start, call, end_start, limits, new_book};
 use outside::FixedClock;
 use record_journal::MemoryKeeper;
 use scm_book::{Book, Opened, Pass};
-use scm_model::{NewService, Principal, Request, Status};
+use scm_model::{NewService, Principal, Request, Status, zero_status};
 use scm_text::{Items, WText};
 use std::alloc::Global;
 use std::sync::Wait;
@@ -20,11 +21,10 @@ pub const MOMENT: u64 = 7;
 
 pub type TestBook = Book<MemoryKeeper>;
 
-/// A book, its administrator's pass, and one that is nobody's.
+/// A book, and its administrator's pass.
 pub struct Stage {
     pub book: TestBook,
     pub caller: Pass,
-    pub runner: Pass,
 }
 
 /// An administrator joins a book in which nothing took place.
@@ -32,19 +32,11 @@ fn staged<R: Wait>(rt: &R, opened: Opened<MemoryKeeper>) -> Option<Stage>
     requires book { IsOf opened.book opened.pass }
     requires nobody { opened.pass.caller ≡ 0 }
     requires alone { opened.pass.alone ≡ true }
-    ensures { IfSome result (λ s. IsOf s.book s.caller × (s.caller.caller ≢ 0)
-        × IsOf s.book s.runner × (s.runner.caller ≡ 0)) }
+    ensures { IfSome result (λ s. IsOf s.book s.caller × (s.caller.caller ≢ 0)) }
 {
     let Opened { book, pass } = opened;
     match book.join_alone(rt, pass, 0, Principal::Admin) {
-        Ok(mut caller) => {
-            let runner = book.join_runner(&mut caller);
-            Some(Stage {
-                book,
-                caller,
-                runner,
-            })
-        }
+        Ok(caller) => Some(Stage { book, caller }),
         Err(back) => {
             drop(back);
             drop(book);
@@ -56,8 +48,7 @@ fn staged<R: Wait>(rt: &R, opened: Opened<MemoryKeeper>) -> Option<Stage>
 /// An administrator joins, with room for so many steps.
 pub fn begin_within<R: Wait>(rt: &R, alloc: Global, steps: u64) -> Option<Stage>
     requires { steps ≤ 4194304 }
-    ensures { IfSome result (λ s. IsOf s.book s.caller × (s.caller.caller ≢ 0)
-        × IsOf s.book s.runner × (s.runner.caller ≡ 0)) }
+    ensures { IfSome result (λ s. IsOf s.book s.caller × (s.caller.caller ≢ 0)) }
 {
     match new_book(alloc, limits(steps), Vec::new(alloc)) {
         Some(opened) => staged(rt, opened),
@@ -67,10 +58,18 @@ pub fn begin_within<R: Wait>(rt: &R, alloc: Global, steps: u64) -> Option<Stage>
 
 /// An administrator joins, with room for all that a row does.
 pub fn begin<R: Wait>(rt: &R, alloc: Global) -> Option<Stage>
-    ensures { IfSome result (λ s. IsOf s.book s.caller × (s.caller.caller ≢ 0)
-        × IsOf s.book s.runner × (s.runner.caller ≡ 0)) }
+    ensures { IfSome result (λ s. IsOf s.book s.caller × (s.caller.caller ≢ 0)) }
 {
     begin_within(rt, alloc, 256)
+}
+
+/// A pass that is nobody's.
+pub fn runner(book: &TestBook, by: &mut Pass) -> Pass
+    requires { IsOf book.now by.old × (by.old.caller ≢ 0) }
+    ensures by { IsOf book.now by.new × (by.new.caller ≢ 0) }
+    ensures runner { IsOf book.now result × (result.caller ≡ 0) }
+{
+    book.join_runner(by)
 }
 
 /// What the caller asks, by the handles that it has. The first one that is given is that of the
@@ -140,15 +139,17 @@ fn named(alloc: Global, name: WText, path: &str, needs: &[u8]) -> Option<Request
     }
 }
 
-const RUNNING: Status = Status {
-    kind: 0x10,
-    state: 4,
-    accepted: 1,
-    win32: 0,
-    specific: 0,
-    checkpoint: 0,
-    hint: 0,
-};
+/// A status of a process of its own.
+pub fn status(state: u32, accepted: u32) -> Status
+    ensures { result ≡ record zero_status { kind = 16; state = state; accepted = accepted } }
+{
+    Status {
+        kind: 0x10,
+        state,
+        accepted,
+        ..zero_status()
+    }
+}
 
 /// The request of a question. A start has none here.
 fn request_of(alloc: Global, asked: Ask<'_>) -> Option<Request>
@@ -165,7 +166,7 @@ fn request_of(alloc: Global, asked: Ask<'_>) -> Option<Request>
         },
         Ask::Runs(handle) => Some(Request::SetStatus {
             handle,
-            status: RUNNING,
+            status: status(4, 1),
         }),
         Ask::Stops(handle) => Some(Request::Control { handle, control: 1 }),
         Ask::Starts(_) => None,
@@ -173,20 +174,14 @@ fn request_of(alloc: Global, asked: Ask<'_>) -> Option<Request>
 }
 
 /// Makes a call that is no start, and tells its code.
-fn code_of<R: Wait>(
-    rt: &R,
-    alloc: Global,
-    book: &TestBook,
-    caller: &mut Pass,
-    asked: Ask<'_>,
-) -> Option<u32>
-    requires book { IsOf book.now caller.old }
+fn code_of<R: Wait>(at: &Site<'_, R>, caller: &mut Pass, asked: Ask<'_>) -> Option<u32>
+    requires book { IsOf at.now.book.now caller.old }
     requires caller { caller.old.caller ≢ 0 }
-    ensures book { IsOf book.now caller.new }
+    ensures book { IsOf at.now.book.now caller.new }
     ensures caller { caller.new.caller ≢ 0 }
 {
-    match request_of(alloc, asked) {
-        Some(request) => match call(rt, book, caller, 0, request) {
+    match request_of(at.alloc, asked) {
+        Some(request) => match call(at.rt, at.book, caller, 0, request) {
             Ok(told) => Some(told.code),
             Err(_) => None,
         },
@@ -195,49 +190,37 @@ fn code_of<R: Wait>(
 }
 
 /// Asks, and tells the code. A start is to wait, and has code 0 then.
-pub fn code_for<R: Wait>(
-    rt: &R,
-    alloc: Global,
-    book: &TestBook,
-    caller: &mut Pass,
-    asked: Ask<'_>,
-) -> Option<u32>
-    requires book { IsOf book.now caller.old }
+pub fn code_for<R: Wait>(at: &Site<'_, R>, caller: &mut Pass, asked: Ask<'_>) -> Option<u32>
+    requires book { IsOf at.now.book.now caller.old }
     requires caller { caller.old.caller ≢ 0 }
-    ensures book { IsOf book.now caller.new }
+    ensures book { IsOf at.now.book.now caller.new }
     ensures caller { caller.new.caller ≢ 0 }
 {
     match asked {
-        Ask::Starts(handle) => match begin_start(rt, alloc, book, caller, handle) {
+        Ask::Starts(handle) => match begin_start(at.rt, at.alloc, at.book, caller, handle) {
             Some(_) => Some(0),
             None => None,
         },
-        _ => code_of(rt, alloc, book, caller, asked),
+        _ => code_of(at, caller, asked),
     }
 }
 
 /// Whether each question has the code beside it.
-pub fn tells<R: Wait>(
-    rt: &R,
-    alloc: Global,
-    book: &TestBook,
-    caller: &mut Pass,
-    rows: &[(Ask<'_>, u32)],
-) -> bool
-    requires book { IsOf book.now caller.old }
+pub fn tells<R: Wait>(at: &Site<'_, R>, caller: &mut Pass, rows: &[(Ask<'_>, u32)]) -> bool
+    requires book { IsOf at.now.book.now caller.old }
     requires caller { caller.old.caller ≢ 0 }
-    ensures book { IsOf book.now caller.new }
+    ensures book { IsOf at.now.book.now caller.new }
     ensures caller { caller.new.caller ≢ 0 }
 {
     for (asked, code) in rows {
-        if code_for(rt, alloc, book, caller, *asked) != Some(*code) {
+        if code_for(at, caller, *asked) != Some(*code) {
             return false;
         }
     }
     true
 }
 
-/// The code that a start is told, once it is decided.
+/// The code that a start is answered with, once it is decided.
 pub fn decided<R: Wait>(rt: &R, book: &TestBook, caller: &mut Pass, plan: u64) -> u32
     requires book { IsOf book.now caller.old }
     requires plan { HasPlan book.now.opening caller.old plan }

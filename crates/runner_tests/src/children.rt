@@ -1,16 +1,16 @@
 ghost use Rattle.std.specs.Prelude.{◌≡◌, ◌≢◌, ◌≤◌, IfSome};
 ghost use Rattle.scm_book.specs.Passes.{IsOf};
 
-use crate::books::{Ask, CLOCK, NOTHING, Stage, TestBook, begin_within, tells};
+use crate::books::{Ask, CLOCK, NOTHING, Stage, TestBook, begin_within, runner, status, tells};
 use crate::fates::{Fates, add_child, add_source};
 use crate::launches::launch;
 use crate::plays::{Play, is_played};
-use book_calls::close;
+use book_calls::{Site, close};
 use child_runner::{ChildEnded, ChildServed, LaunchEnd, launch_one, serve_child};
 use outside::MemorySource;
 use process_runner::MemorySpawner;
 use scm_book::{EndedEnd, LaunchRoom, Pass, ReportEnd};
-use scm_model::{Status, Step};
+use scm_model::Step;
 use scm_trail::Trail;
 use std::alloc::Global;
 use std::sync::Wait;
@@ -23,18 +23,9 @@ const BEGIN: [(Ask<'static>, u32); 3] = [
     (Ask::Starts(2), 0),
 ];
 
-const STOPPED: Status = Status {
-    kind: 0x10,
-    state: 1,
-    accepted: 0,
-    win32: 0,
-    specific: 0,
-    checkpoint: 0,
-    hint: 0,
-};
-
 /// What a child writes, which of its reads and waits fail (the last of a list goes first), how it
 /// is served, and what the history then tells.
+#[derive(Clone, Copy)]
 struct Row {
     output: &'static str,
     reads: &'static [bool],
@@ -42,6 +33,15 @@ struct Row {
     how: ChildServed,
     told: u64,
 }
+
+/// A child that writes nothing, and ends.
+const ENDED: Row = Row {
+    output: "",
+    reads: &[],
+    waits: &[],
+    how: ChildServed::Ended,
+    told: 9,
+};
 
 const RUNNING: &str = "STATUS 16 4 1 0 0 0 0\n";
 
@@ -62,24 +62,12 @@ const ROWS: [Row; 8] = [
     },
     Row {
         output: "STATUS 16 4 1 0 0 0 0",
-        reads: &[],
-        waits: &[],
-        how: ChildServed::Ended,
-        told: 9,
+        ..ENDED
     },
-    Row {
-        output: "",
-        reads: &[],
-        waits: &[],
-        how: ChildServed::Ended,
-        told: 9,
-    },
+    ENDED,
     Row {
         output: "STATUS 16 04 1 0 0 0 0\n",
-        reads: &[],
-        waits: &[],
-        how: ChildServed::Ended,
-        told: 9,
+        ..ENDED
     },
     // The read after the whole line.
     Row {
@@ -159,29 +147,27 @@ fn add_row(alloc: Global, fates: &mut Fates, row: &Row) -> bool {
 
 /// Starts a service, launches its child and serves that to its end.
 fn serve<R: Wait>(
-    rt: &R,
-    alloc: Global,
-    book: &TestBook,
+    at: &Site<'_, R>,
     caller: &mut Pass,
     room: &mut LaunchRoom,
     spawner: &mut MemorySpawner,
 ) -> Option<ChildEnded>
-    requires caller { IsOf book.now caller.old × (caller.old.caller ≢ 0) }
+    requires caller { IsOf at.now.book.now caller.old × (caller.old.caller ≢ 0) }
     requires path { 2048 ≤ room.old.path.room }
-    ensures { IfSome result (λ ended. IsOf book.now ended.spent) }
+    ensures { IfSome result (λ ended. IsOf at.now.book.now ended.spent) }
 {
-    if !tells(rt, alloc, book, caller, &BEGIN) {
+    if !tells(at, caller, &BEGIN) {
         return None;
     }
-    let mut runner = book.join_runner(caller);
-    match launch_one(rt, alloc, book, &mut runner, room, spawner, &CLOCK) {
+    let mut runner = at.book.join_runner(caller);
+    match launch_one(at.rt, at.alloc, at.book, &mut runner, room, spawner, &CLOCK) {
         LaunchEnd::Started {
             process,
             mut link,
             feed,
         } => {
             drop(feed);
-            let ended = serve_child(rt, alloc, book, runner, process, &mut link, &CLOCK);
+            let ended = serve_child(at.rt, at.alloc, at.book, runner, process, &mut link, &CLOCK);
             drop(link);
             Some(ended)
         }
@@ -214,13 +200,14 @@ fn play<R: Wait>(
     requires stage { IsOf stage.book stage.caller × (stage.caller.caller ≢ 0) }
     requires path { 2048 ≤ room.old.path.room }
 {
-    let Stage {
-        book,
-        mut caller,
-        runner,
-    } = stage;
-    drop(runner);
-    let served = serve(rt, alloc, &book, &mut caller, room, spawner);
+    let Stage { book, mut caller } = stage;
+    let at = Site {
+        rt,
+        alloc,
+        book: &book,
+    };
+    let served = serve(&at, &mut caller, room, spawner);
+    drop(at);
     drop(caller);
     match served {
         Some(ended) => Some(history(rt, book, ended)),
@@ -274,32 +261,25 @@ fn is_served<R: Wait>(rt: &R, alloc: Global, row: &Row) -> bool {
 
 /// Whether a process that reports STOPPED ends while a second one runs its service, and changes
 /// nothing.
-pub fn ends_late<R: Wait>(
-    rt: &R,
-    alloc: Global,
-    book: &TestBook,
-    caller: &mut Pass,
-    first: &mut Pass,
-    room: &mut LaunchRoom,
-    spawner: &mut MemorySpawner,
-) -> bool
-    requires caller { IsOf book.now caller.old × (caller.old.caller ≢ 0) }
-    requires first { IsOf book.now first.old }
-    requires path { 2048 ≤ room.old.path.room }
+pub fn ends_late<R: Wait>(at: &Site<'_, R>, caller: &mut Pass, spawner: &mut MemorySpawner) -> bool
+    requires { IsOf at.now.book.now caller.old × (caller.old.caller ≢ 0) }
 {
-    let begins = tells(rt, alloc, book, caller, &BEGIN);
-    let Some(former) = launch(rt, alloc, book, first, room, spawner) else {
+    let mut first = runner(at.book, caller);
+    let begins = tells(at, caller, &BEGIN);
+    let Some(former) = launch(at, &mut first, spawner) else {
+        drop(first);
         return false;
     };
-    let stopped = book.report(rt, first, 0, former, &STOPPED);
-    let starts = tells(rt, alloc, book, caller, &[(Ask::Starts(2), 0)]);
-    let mut second = book.join_runner(caller);
-    let later = launch(rt, alloc, book, &mut second, room, spawner);
-    let runs = tells(rt, alloc, book, caller, &[(Ask::Runs(2), 0)]);
-    let ended = book.ended(rt, first, 0, former);
+    let stopped = at.book.report(at.rt, &mut first, 0, former, &status(1, 0));
+    let starts = tells(at, caller, &[(Ask::Starts(2), 0)]);
+    let mut second = runner(at.book, caller);
+    let later = launch(at, &mut second, spawner);
+    let runs = tells(at, caller, &[(Ask::Runs(2), 0)]);
+    let ended = at.book.ended(at.rt, &mut first, 0, former);
     // Only a service that runs is granted this.
-    let running = tells(rt, alloc, book, caller, &[(Ask::Stops(2), 0)]);
+    let running = tells(at, caller, &[(Ask::Stops(2), 0)]);
     drop(second);
+    drop(first);
     begins
         && former == 1
         && stopped == ReportEnd::Taken

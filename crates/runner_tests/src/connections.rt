@@ -51,8 +51,8 @@ pub struct HeldOut<'a> {
 /// How many bytes the second connection is answered.
 const ANSWERED: usize = 208;
 
-/// How many bytes a connection is answered up to its start: to a bind, to the opening of the manager,
-/// to one creation and to the start.
+/// How many bytes a connection is answered up to its start: to a bind, to the opening of the
+/// manager, to one creation and to the start.
 const STARTED: usize = 56 + 48 + 52 + 28;
 
 impl<'a> HeldOut<'a> {

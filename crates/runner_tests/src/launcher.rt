@@ -3,12 +3,12 @@ ghost use Rattle.std.specs.Prelude.{◌≡◌, ◌≢◌, IfSome};
 ghost use Rattle.std.specs.Thread.{IsSync};
 ghost use Rattle.scm_book.specs.Passes.{HasPlan, IsOf};
 
-use crate::books::{Ask, NOTHING, Stage, TestBook, begin, decided, state, tells};
+use crate::books::{Ask, NOTHING, Stage, TestBook, begin, decided, runner, state, tells};
 use crate::clocks::Hurried;
 use crate::events::{Event, Events};
 use crate::fates::{Fates, add_child};
 use crate::held::HeldSpawner;
-use book_calls::begin_start;
+use book_calls::{Site, begin_start};
 use child_runner::BellQuit;
 use outside::FixedClock;
 use process_runner::MemorySpawner;
@@ -33,14 +33,16 @@ fn begin_a<R: Wait>(rt: &R, alloc: Global, book: &TestBook, caller: &mut Pass) -
     ensures book { IsOf book.now caller.new }
     ensures plan { IfSome result (HasPlan book.now.opening caller.new) }
 {
-    if tells(rt, alloc, book, caller, &CREATED) {
+    let at = Site { rt, alloc, book };
+    if tells(&at, caller, &CREATED) {
         begin_start(rt, alloc, book, caller, 2)
     } else {
         None
     }
 }
 
-/// The code that a start is told, and the states of its service at its launch and at its report.
+/// The code that a start is answered with, and the states of its service at its launch and at its
+/// report.
 #[derive(Clone, Copy)]
 struct StartTold {
     code: u32,
@@ -135,7 +137,7 @@ fn started(launched: Launched<HeldSpawner<'_>>) -> usize {
     started
 }
 
-/// Whether the start is told code 0, and its service START_PENDING and then RUNNING.
+/// Whether the answer to the start is code 0, and its service was START_PENDING and then RUNNING.
 fn is_told(told: Option<StartTold>) -> bool {
     match told {
         Some(told) => told.code == 0 && told.pending == 2 && told.running == 4,
@@ -143,17 +145,12 @@ fn is_told(told: Option<StartTold>) -> bool {
     }
 }
 
-/// Whether a visit is told so beside one child, over a new book.
+/// Whether a visit gets these answers beside one child, over a new book.
 fn is_served<R: Threads + Wait + Sync>(rt: &R, alloc: Global, fates: Fates) -> bool {
     let spawner = MemorySpawner::new(alloc, fates);
     match begin(rt, alloc) {
-        Some(
-            Stage {
-                book,
-                caller,
-                runner,
-            },
-        ) => {
+        Some(Stage { book, mut caller }) => {
+            let runner = runner(&book, &mut caller);
             let events = Events::new();
             let Beside { told, started } = serve(
                 rt, alloc, &book, caller, runner, spawner, &events,
@@ -224,13 +221,8 @@ fn tick<R: Threads + Wait + time::Clock + Sync>(
 /// The same over a new book.
 fn tick_in<R: Threads + Wait + time::Clock + Sync>(rt: &R, alloc: Global) -> Option<u32> {
     match begin(rt, alloc) {
-        Some(
-            Stage {
-                book,
-                caller,
-                runner,
-            },
-        ) => {
+        Some(Stage { book, mut caller }) => {
+            let runner = runner(&book, &mut caller);
             let code = tick(rt, alloc, &book, caller, runner);
             drop(book);
             code

@@ -1,10 +1,11 @@
-ghost use Rattle.std.specs.Prelude.{◌≡◌, ◌≢◌, ◌≤◌, IfSome};
+ghost use Rattle.std.specs.Prelude.{◌≢◌, ◌≤◌, IfSome};
 ghost use Rattle.scm_model.specs.declared.flat.Phase.TheVariants as phases;
 ghost use Rattle.scm_book.specs.Passes.{HoldsProcess, IsOf};
 
-use crate::books::{Ask, CLOCK, NOTHING, TestBook, tells};
+use crate::books::{Ask, CLOCK, NOTHING, runner, tells};
 use crate::fates::{Fates, add_child, add_fault};
 use crate::plays::{Play, is_played};
+use book_calls::Site;
 use child_runner::{LaunchEnd, launch_one};
 use process_runner::{MemorySpawner, SpawnFault};
 use scm_book::{LaunchRoom, Pass};
@@ -13,22 +14,19 @@ use std::sync::Wait;
 use std::test::Fail;
 
 /// Launches what is wanted first, lets the ends of the child go, and tells the process.
-pub fn launch<R: Wait>(
-    rt: &R,
-    alloc: Global,
-    book: &TestBook,
+fn launch_in<R: Wait>(
+    at: &Site<'_, R>,
     runner: &mut Pass,
     room: &mut LaunchRoom,
     spawner: &mut MemorySpawner,
 ) -> Option<u64>
-    requires book { IsOf book.now runner.old }
+    requires book { IsOf at.now.book.now runner.old }
     requires path { 2048 ≤ room.old.path.room }
-    ensures book { IsOf book.now runner.new }
-    ensures path { room.new.path.room ≡ room.old.path.room }
-    ensures held { IfSome result (λ process. HoldsProcess book.now.opening runner.new process
+    ensures book { IsOf at.now.book.now runner.new }
+    ensures held { IfSome result (λ process. HoldsProcess at.now.book.now.opening runner.new process
         phases.Launched) }
 {
-    match launch_one(rt, alloc, book, runner, room, spawner, &CLOCK) {
+    match launch_one(at.rt, at.alloc, at.book, runner, room, spawner, &CLOCK) {
         LaunchEnd::Started {
             process,
             link,
@@ -42,21 +40,39 @@ pub fn launch<R: Wait>(
     }
 }
 
+/// The same, with new room.
+pub fn launch<R: Wait>(
+    at: &Site<'_, R>,
+    runner: &mut Pass,
+    spawner: &mut MemorySpawner,
+) -> Option<u64>
+    requires { IsOf at.now.book.now runner.old }
+    ensures book { IsOf at.now.book.now runner.new }
+    ensures held { IfSome result (λ process. HoldsProcess at.now.book.now.opening runner.new process
+        phases.Launched) }
+{
+    match LaunchRoom::new(at.alloc) {
+        Ok(mut room) => {
+            let process = launch_in(at, runner, &mut room, spawner);
+            drop(room);
+            process
+        }
+        Err(_) => None,
+    }
+}
+
 /// The code with which the launch that is wanted first fails.
-fn failure<R: Wait>(
-    rt: &R,
-    alloc: Global,
-    book: &TestBook,
+fn failure_in<R: Wait>(
+    at: &Site<'_, R>,
     runner: &mut Pass,
     room: &mut LaunchRoom,
     spawner: &mut MemorySpawner,
 ) -> Option<u32>
-    requires book { IsOf book.now runner.old }
+    requires book { IsOf at.now.book.now runner.old }
     requires path { 2048 ≤ room.old.path.room }
-    ensures book { IsOf book.now runner.new }
-    ensures path { room.new.path.room ≡ room.old.path.room }
+    ensures { IsOf at.now.book.now runner.new }
 {
-    match launch_one(rt, alloc, book, runner, room, spawner, &CLOCK) {
+    match launch_one(at.rt, at.alloc, at.book, runner, room, spawner, &CLOCK) {
         LaunchEnd::Failed { code, .. } => Some(code),
         LaunchEnd::Started {
             process: _,
@@ -71,27 +87,37 @@ fn failure<R: Wait>(
     }
 }
 
+/// The same, with new room.
+fn failure<R: Wait>(at: &Site<'_, R>, runner: &mut Pass, spawner: &mut MemorySpawner) -> Option<u32>
+    requires { IsOf at.now.book.now runner.old }
+    ensures { IsOf at.now.book.now runner.new }
+{
+    match LaunchRoom::new(at.alloc) {
+        Ok(mut room) => {
+            let code = failure_in(at, runner, &mut room, spawner);
+            drop(room);
+            code
+        }
+        Err(_) => None,
+    }
+}
+
 /// Whether a start fails with each of these codes, one after another.
 fn fail<R: Wait>(
-    rt: &R,
-    alloc: Global,
-    book: &TestBook,
+    at: &Site<'_, R>,
     caller: &mut Pass,
     runner: &mut Pass,
-    room: &mut LaunchRoom,
     spawner: &mut MemorySpawner,
     codes: &[u32],
 ) -> bool
-    requires caller { IsOf book.now caller.old × (caller.old.caller ≢ 0) }
-    requires runner { IsOf book.now runner.old }
-    requires path { 2048 ≤ room.old.path.room }
-    ensures caller { IsOf book.now caller.new × (caller.new.caller ≢ 0) }
-    ensures runner { IsOf book.now runner.new }
-    ensures path { room.new.path.room ≡ room.old.path.room }
+    requires caller { IsOf at.now.book.now caller.old × (caller.old.caller ≢ 0) }
+    requires runner { IsOf at.now.book.now runner.old }
+    ensures caller { IsOf at.now.book.now caller.new × (caller.new.caller ≢ 0) }
+    ensures runner { IsOf at.now.book.now runner.new }
 {
     for code in codes {
-        let starts = tells(rt, alloc, book, caller, &[(Ask::Starts(2), 0)]);
-        if !starts || failure(rt, alloc, book, runner, room, spawner) != Some(*code) {
+        let starts = tells(at, caller, &[(Ask::Starts(2), 0)]);
+        if !starts || failure(at, runner, spawner) != Some(*code) {
             return false;
         }
     }
@@ -117,23 +143,19 @@ const CREATED: [(Ask<'static>, u32); 2] = [
 
 /// Whether four starts fail, each with the code of its fault, and the fifth starts its program.
 pub fn fails_then_starts<R: Wait>(
-    rt: &R,
-    alloc: Global,
-    book: &TestBook,
+    at: &Site<'_, R>,
     caller: &mut Pass,
-    runner: &mut Pass,
-    room: &mut LaunchRoom,
     spawner: &mut MemorySpawner,
 ) -> bool
-    requires caller { IsOf book.now caller.old × (caller.old.caller ≢ 0) }
-    requires runner { IsOf book.now runner.old }
-    requires path { 2048 ≤ room.old.path.room }
+    requires { IsOf at.now.book.now caller.old × (caller.old.caller ≢ 0) }
 {
-    let made = tells(rt, alloc, book, caller, &CREATED);
+    let mut first = runner(at.book, caller);
+    let made = tells(at, caller, &CREATED);
     let codes = [2, 3, 5, 31];
-    let failed = fail(rt, alloc, book, caller, runner, room, spawner, &codes);
-    let starts = tells(rt, alloc, book, caller, &[(Ask::Starts(2), 0)]);
-    let fifth = launch(rt, alloc, book, runner, room, spawner);
+    let failed = fail(at, caller, &mut first, spawner, &codes);
+    let starts = tells(at, caller, &[(Ask::Starts(2), 0)]);
+    let fifth = launch(at, &mut first, spawner);
+    drop(first);
     let started = is_started(spawner, "/a b", "-x");
     made && failed && starts && fifth == Some(5) && started
 }

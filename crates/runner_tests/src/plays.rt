@@ -1,15 +1,16 @@
-// What a test needs over a book in which nothing took place: its passes, room for a launch, and a
-// spawner in memory.
-ghost use Rattle.std.specs.Prelude.{◌≢◌, ◌≤◌};
+// What a test needs over a book in which nothing took place: its caller's pass, and a spawner in
+// memory.
+ghost use Rattle.std.specs.Prelude.{◌≢◌};
 ghost use Rattle.scm_book.specs.Passes.{IsOf};
 
-use crate::books::{Stage, TestBook, begin};
+use crate::books::{Stage, begin};
 use crate::children::ends_late;
 use crate::controls::stops_once;
 use crate::fates::Fates;
 use crate::launches::fails_then_starts;
+use book_calls::Site;
 use process_runner::MemorySpawner;
-use scm_book::{LaunchRoom, Pass};
+use scm_book::Pass;
 use std::alloc::Global;
 use std::sync::Wait;
 
@@ -23,56 +24,32 @@ pub enum Play {
 
 /// Whether it takes place as it should.
 fn takes_place<R: Wait>(
-    rt: &R,
-    alloc: Global,
+    at: &Site<'_, R>,
     play: Play,
-    book: &TestBook,
     caller: &mut Pass,
-    runner: &mut Pass,
-    room: &mut LaunchRoom,
     spawner: &mut MemorySpawner,
 ) -> bool
-    requires caller { IsOf book.now caller.old × (caller.old.caller ≢ 0) }
-    requires runner { IsOf book.now runner.old }
-    requires path { 2048 ≤ room.old.path.room }
+    requires { IsOf at.now.book.now caller.old × (caller.old.caller ≢ 0) }
 {
     match play {
-        Play::FailsThenStarts => fails_then_starts(rt, alloc, book, caller, runner, room, spawner),
-        Play::EndsLate => ends_late(rt, alloc, book, caller, runner, room, spawner),
-        Play::StopsOnce => stops_once(rt, alloc, book, caller, runner, room, spawner),
+        Play::FailsThenStarts => fails_then_starts(at, caller, spawner),
+        Play::EndsLate => ends_late(at, caller, spawner),
+        Play::StopsOnce => stops_once(at, caller, spawner),
     }
 }
 
 /// The same over a new book.
-fn takes_place_in<R: Wait>(
-    rt: &R,
-    alloc: Global,
-    play: Play,
-    room: &mut LaunchRoom,
-    spawner: &mut MemorySpawner,
-) -> bool
-    requires { 2048 ≤ room.old.path.room }
-{
+fn takes_place_in<R: Wait>(rt: &R, alloc: Global, play: Play, spawner: &mut MemorySpawner) -> bool {
     match begin(rt, alloc) {
-        Some(
-            Stage {
-                book,
-                mut caller,
-                mut runner,
-            },
-        ) => {
-            let is_so = takes_place(
+        Some(Stage { book, mut caller }) => {
+            let at = Site {
                 rt,
                 alloc,
-                play,
-                &book,
-                &mut caller,
-                &mut runner,
-                room,
-                spawner,
-            );
+                book: &book,
+            };
+            let is_so = takes_place(&at, play, &mut caller, spawner);
+            drop(at);
             drop(caller);
-            drop(runner);
             drop(book);
             is_so
         }
@@ -80,22 +57,10 @@ fn takes_place_in<R: Wait>(
     }
 }
 
-/// The same with new room.
-fn takes_place_by<R: Wait>(rt: &R, alloc: Global, play: Play, spawner: &mut MemorySpawner) -> bool {
-    match LaunchRoom::new(alloc) {
-        Ok(mut room) => {
-            let is_so = takes_place_in(rt, alloc, play, &mut room, spawner);
-            drop(room);
-            is_so
-        }
-        Err(_) => false,
-    }
-}
-
 /// The same by a spawner whose starts come to these fates.
 pub fn is_played<R: Wait>(rt: &R, alloc: Global, play: Play, fates: Fates) -> bool {
     let mut spawner = MemorySpawner::new(alloc, fates);
-    let is_so = takes_place_by(rt, alloc, play, &mut spawner);
+    let is_so = takes_place_in(rt, alloc, play, &mut spawner);
     drop(spawner);
     is_so
 }

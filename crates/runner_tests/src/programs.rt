@@ -2,8 +2,9 @@ ghost use Rattle.std.specs.Prelude.{◌≢◌, ◌≤◌};
 ghost use Rattle.scm_model.specs.declared.flat.Phase.TheVariants as phases;
 ghost use Rattle.scm_book.specs.Passes.{HoldsProcess, IsOf};
 
-use crate::books::{Ask, CLOCK, NOTHING, Stage, TestBook, begin, tells};
+use crate::books::{Ask, CLOCK, NOTHING, Stage, begin, runner, tells};
 use crate::quits::AfterLooks;
+use book_calls::Site;
 use child_link::{Link, PipeFeed, PipeLink, read_line_step};
 use child_runner::{ControlsEnded, ControlsSent, LaunchEnd, launch_one, send_controls};
 use process_runner::{ProcessSpawner, Spawner};
@@ -74,20 +75,18 @@ fn next_status<L: Link>(alloc: Global, link: &mut L, process: u64) -> Option<Sta
 
 /// Makes the report of a child's next line, and tells its state where that was taken.
 fn report_next<R: Wait, L: Link>(
-    rt: &R,
-    alloc: Global,
-    book: &TestBook,
+    at: &Site<'_, R>,
     runner: &mut Pass,
     process: u64,
     link: &mut L,
 ) -> Option<u32>
-    requires book { IsOf book.now runner.old }
-    requires process { HoldsProcess book.now.opening runner.old process phases.Launched }
-    ensures book { IsOf book.now runner.new }
-    ensures process { HoldsProcess book.now.opening runner.new process phases.Launched }
+    requires book { IsOf at.now.book.now runner.old }
+    requires process { HoldsProcess at.now.book.now.opening runner.old process phases.Launched }
+    ensures book { IsOf at.now.book.now runner.new }
+    ensures process { HoldsProcess at.now.book.now.opening runner.new process phases.Launched }
 {
-    let status = next_status(alloc, link, process)?;
-    match book.report(rt, runner, 0, process, &status) {
+    let status = next_status(at.alloc, link, process)?;
+    match at.book.report(at.rt, runner, 0, process, &status) {
         ReportEnd::Taken => Some(status.state),
         _ => None,
     }
@@ -95,31 +94,29 @@ fn report_next<R: Wait, L: Link>(
 
 /// Whether a child reports RUNNING, is sent a STOP, reports STOPPED and ends.
 fn obeys<R: Wait>(
-    rt: &R,
-    alloc: Global,
-    book: &TestBook,
+    at: &Site<'_, R>,
     caller: &mut Pass,
     runner: &mut Pass,
     process: u64,
     link: &mut PipeLink,
     feed: PipeFeed,
 ) -> bool
-    requires caller { IsOf book.now caller.old × (caller.old.caller ≢ 0) }
-    requires runner { IsOf book.now runner.old }
-    requires process { HoldsProcess book.now.opening runner.old process phases.Launched }
+    requires caller { IsOf at.now.book.now caller.old × (caller.old.caller ≢ 0) }
+    requires runner { IsOf at.now.book.now runner.old }
+    requires process { HoldsProcess at.now.book.now.opening runner.old process phases.Launched }
 {
-    let running = report_next(rt, alloc, book, runner, process, link);
-    let granted = tells(rt, alloc, book, caller, &[(Ask::Stops(2), 0)]);
-    let sender = book.join_runner(caller);
+    let running = report_next(at, runner, process, link);
+    let granted = tells(at, caller, &[(Ask::Stops(2), 0)]);
+    let sender = at.book.join_runner(caller);
     let quit = AfterLooks::new(1);
     let ControlsEnded { how, spent } = send_controls(
-        rt, alloc, book, sender, process, feed, &CLOCK, &quit,
+        at.rt, at.alloc, at.book, sender, process, feed, &CLOCK, &quit,
     );
     drop(spent);
     drop(quit);
-    let stopped = report_next(rt, alloc, book, runner, process, link);
+    let stopped = report_next(at, runner, process, link);
     let waited = link.wait();
-    let ended = book.ended(rt, runner, 0, process);
+    let ended = at.book.ended(at.rt, runner, 0, process);
     running == Some(4)
         && granted
         && how == ControlsSent::Shut
@@ -130,36 +127,37 @@ fn obeys<R: Wait>(
 
 /// Whether the program of a new service is started and obeys.
 fn starts<R: Wait, P: Spawner<Link = PipeLink, Feed = PipeFeed>>(
-    rt: &R,
-    alloc: Global,
-    book: &TestBook,
+    at: &Site<'_, R>,
     caller: &mut Pass,
-    runner: &mut Pass,
     room: &mut LaunchRoom,
     spawner: &mut P,
     path: &str,
 ) -> bool
-    requires caller { IsOf book.now caller.old × (caller.old.caller ≢ 0) }
-    requires runner { IsOf book.now runner.old }
+    requires caller { IsOf at.now.book.now caller.old × (caller.old.caller ≢ 0) }
     requires path { 2048 ≤ room.old.path.room }
 {
+    let mut by = runner(at.book, caller);
     let begins = [
         (Ask::OpensManager, 0),
         (Ask::Creates("A", path, NOTHING), 0),
         (Ask::Starts(2), 0),
     ];
-    let made = tells(rt, alloc, book, caller, &begins);
-    match launch_one(rt, alloc, book, runner, room, spawner, &CLOCK) {
+    let made = tells(at, caller, &begins);
+    match launch_one(at.rt, at.alloc, at.book, &mut by, room, spawner, &CLOCK) {
         LaunchEnd::Started {
             process,
             mut link,
             feed,
         } => {
-            let obeyed = obeys(rt, alloc, book, caller, runner, process, &mut link, feed);
+            let obeyed = obeys(at, caller, &mut by, process, &mut link, feed);
             drop(link);
+            drop(by);
             made && obeyed
         }
-        LaunchEnd::Failed { .. } | LaunchEnd::Empty => false,
+        LaunchEnd::Failed { .. } | LaunchEnd::Empty => {
+            drop(by);
+            false
+        }
     }
 }
 
@@ -174,25 +172,15 @@ fn starts_in<R: Wait, P: Spawner<Link = PipeLink, Feed = PipeFeed>>(
     requires { 2048 ≤ room.old.path.room }
 {
     match begin(rt, alloc) {
-        Some(
-            Stage {
-                book,
-                mut caller,
-                mut runner,
-            },
-        ) => {
-            let starts = starts(
+        Some(Stage { book, mut caller }) => {
+            let at = Site {
                 rt,
                 alloc,
-                &book,
-                &mut caller,
-                &mut runner,
-                room,
-                spawner,
-                path,
-            );
+                book: &book,
+            };
+            let starts = starts(&at, &mut caller, room, spawner, path);
+            drop(at);
             drop(caller);
-            drop(runner);
             drop(book);
             starts
         }

@@ -2,7 +2,7 @@
 use process_runner::Quit;
 use std::sync::atomic::{AtomicU64, Ordering};
 
-/// Asks for the end behind so many looks.
+/// Asks for the end after so many looks.
 #[derive(Drop)]
 pub struct AfterLooks {
     looks: AtomicU64,

@@ -75,8 +75,8 @@ fn add_peers(alloc: Global, waiting: &mut VecDeque<MemoryPeer>, scene: Scene) ->
     }
 }
 
-/// Adds `T`, which tells nothing, and `D`, which is started first and tells that it runs. Where only
-/// one is to be started, another one could be.
+/// Adds `T`, which tells nothing, and `D`, which is started first and tells that it runs. Where
+/// only one is to be started, another one could be.
 fn add_children(alloc: Global, fates: &mut Fates, scene: Scene) -> bool {
     let last: &[u8] = match scene {
         Scene::Two => b"",
@@ -138,7 +138,7 @@ fn is_started_once(started: &[Items<Text>]) -> bool {
     }
 }
 
-/// What serving comes to, over this book.
+/// The outcome of serving over this book.
 fn serve<'a, R: Threads + Wait + time::Clock + Sync>(
     rt: &R,
     alloc: Global,

@@ -4,31 +4,11 @@ ghost use Rattle.std.specs.List.{AllByRecursion};
 
 use record_table::RecordTable;
 use scm_model::{Config, Service, zero_status};
-use scm_text::{Items, OutOfMemory, WText};
+use scm_text::OutOfMemory;
 use std::alloc::Global;
+use std::mem::replace;
 use std::test::Fail;
-
-/// Appends letters in ASCII.
-fn append(text: &mut WText, ascii: &str) -> Result<(), OutOfMemory> {
-    for byte in ascii.as_bytes() {
-        if 0 < *byte {
-            text.append_unit(u16::from(*byte))?;
-        }
-    }
-    Ok(())
-}
-
-/// A text in ASCII.
-fn text(alloc: Global, ascii: &str) -> Result<WText, OutOfMemory> {
-    let mut text = WText::new(alloc);
-    match append(&mut text, ascii) {
-        Ok(()) => Ok(text),
-        Err(why) => {
-            drop(text);
-            Err(why)
-        }
-    }
-}
+use test_values::{service, text, unnamed};
 
 /// The name, the display name and the group of a service.
 type Texts = (&'static str, &'static str, &'static str);
@@ -41,46 +21,18 @@ fn config(alloc: Global, (name, display, group): Texts) -> Result<Config, OutOfM
     ) else {
         return Err(OutOfMemory);
     };
-    Ok(Config {
-        name,
-        display,
-        kind: 0x10,
-        start: 3,
-        error: 1,
-        path: WText::new(alloc),
-        group,
-        tag: 0,
-        needs: Items::new(alloc),
-        description: WText::new(alloc),
-        reset: 0,
-        actions: Items::new(alloc),
-        command: WText::new(alloc),
-        on_exit: false,
-        delayed: false,
-        triggers: Items::new(alloc),
-    })
-}
-
-fn service(number: u64, config: Config) -> Service
-    ensures number { result.number ≡ number }
-    ensures config { result.config ≡ config }
-{
-    Service {
-        number,
-        config,
-        status: zero_status(),
-        marked: false,
-        process: 0,
-        failures: 0,
-        last_failure: 0,
-    }
+    let mut config = unnamed(alloc);
+    drop(replace(&mut config.name, name));
+    drop(replace(&mut config.display, display));
+    drop(replace(&mut config.group, group));
+    Ok(config)
 }
 
 /// A service with these texts.
 fn made(alloc: Global, number: u64, texts: Texts) -> Result<Service, OutOfMemory>
     ensures { IfOk result (λ row. row.number ≡ number) }
 {
-    Ok(service(number, config(alloc, texts)?))
+    Ok(service(alloc, number, config(alloc, texts)?, zero_status()))
 }
 
 /// A service comes.

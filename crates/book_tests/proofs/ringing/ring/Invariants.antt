@@ -3,4 +3,4 @@ use Rattle.scm_book.specs.Passes.{IsOf}
 use Rattle.book_tests.proofs.ringing.ring.Given as goal
 
 abbrev pub invariant-loop-row : goal.invariant-loop-row
-invariant-loop-row g l = IsOf l.book l.pass × (l.pass.caller ≢ 0)
+invariant-loop-row g l = IsOf l.at.book.now l.pass × (l.pass.caller ≢ 0)

@@ -5,6 +5,6 @@ use Rattle.runner_tests.proofs.books.tells.Given as goal
 -- the pass is still its caller's
 abbrev pub invariant-loop-asked : goal.invariant-loop-asked
 invariant-loop-asked g l = record {
-  book : IsOf l.book l.caller;
+  book : IsOf l.at.book.now l.caller;
   caller : l.caller.caller ≢ 0;
 }

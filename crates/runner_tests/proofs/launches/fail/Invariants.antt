@@ -1,12 +1,11 @@
-use Rattle.std.proofs.Common.{◌≡◌, ◌≢◌}
+use Rattle.std.proofs.Common.{◌≢◌}
 use Rattle.scm_book.specs.Passes.{IsOf}
 use Rattle.runner_tests.proofs.launches.fail.Given as goal
 
--- the passes are still of the book, and the room is still there
+-- the passes are still of the book
 abbrev pub invariant-loop-code : goal.invariant-loop-code
 invariant-loop-code g l = record {
-  book : IsOf l.book l.caller;
+  book : IsOf l.at.book.now l.caller;
   caller : l.caller.caller ≢ 0;
-  runner : IsOf l.book l.runner;
-  path : l.room.path.room ≡ l.fn.room.path.room;
+  runner : IsOf l.at.book.now l.runner;
 }
