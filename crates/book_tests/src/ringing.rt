@@ -41,6 +41,7 @@ fn counted(book: &Book<MemoryKeeper>) -> Counts {
 enum Rung {
     Nothing,
     Common,
+    First,
     CommonAndFirst,
     All,
 }
@@ -54,6 +55,7 @@ fn rung_since(book: &Book<MemoryKeeper>, before: Counts) -> Option<Rung> {
     match (common, first, second) {
         (false, false, false) => Some(Rung::Nothing),
         (true, false, false) => Some(Rung::Common),
+        (false, true, false) => Some(Rung::First),
         (true, true, false) => Some(Rung::CommonAndFirst),
         (true, true, true) => Some(Rung::All),
         _ => None,
@@ -154,7 +156,7 @@ fn ends<R: Wait>(rt: &R, book: &Book<MemoryKeeper>, other: &mut Pass, process: u
     let end = book.ended(rt, other, 0, process);
     let ended = rung_since(book, before);
     control == ControlLook::Control(STOP)
-        && taken == Some(Rung::CommonAndFirst)
+        && taken == Some(Rung::First)
         && end == EndedEnd::Taken
         && ended == Some(Rung::CommonAndFirst)
 }

@@ -30,6 +30,8 @@ use Rattle.scm_book.specs.declared.answers.CallEnd.{CallEnd}
 use Rattle.scm_book.specs.declared.answers.CallEnd.TheVariants as calls
 use Rattle.scm_book.specs.declared.answers.StartEnd.{StartEnd}
 use Rattle.scm_book.specs.declared.answers.StartEnd.TheVariants as starts
+use Rattle.scm_book.specs.declared.calling.Recorded.{Recorded}
+use Rattle.scm_book.specs.declared.calling.Recorded.TheVariants as recorded
 use Rattle.scm_book.specs.declared.fault.MakeFault.{MakeFault}
 use Rattle.scm_book.specs.declared.fault.MakeFault.TheVariants as makes
 use Rattle.scm_book.specs.Called.{CallTold, Calls, IfTold, IsBegun, IsReply, LeavesWhose, StartTold, StartsAs, WantsMemory, called}
@@ -38,7 +40,7 @@ use Rattle.scm_book.specs.Called.{refusal_of}
 use Rattle.scm_book.specs.Holds.{Opens}
 use Rattle.scm_book.specs.Naming.{whose_after}
 use Rattle.scm_book.specs.Passes.{Known, MadeSo, room_behind}
-use Rattle.scm_book.specs.Turns.{CallEnds}
+use Rattle.scm_book.specs.Turns.{CallEnds, call_told}
 use Rattle.scm_book.proofs.Coming.{shaped}
 use Rattle.scm_book.proofs.InHand.{seen_outside}
 
@@ -159,6 +161,12 @@ pub call_is : (from k : Known) → from ≡ k → (caller : ℕ) → caller ≡ 
     → step ≡ Call caller asked appended.NotAsked → step ≡ called k asked
 call_is from k same caller whose asked step is = is ∙ ap (λ (n : ℕ). Call n asked appended.NotAsked) (whose
     ∙ ap (λ (x : Known). x.caller) same)
+
+-- where there was no memory for a call, that is what was recorded
+pub none_told : (r : Result Recorded MakeFault) (told : Answer) → call_told r told ≡ Ok None → r ≡ Ok recorded.NoMemory
+none_told (Ok recorded.Call) told is = absurd cc
+none_told (Ok recorded.NoMemory) told is = refl
+none_told (Err fault) told is = absurd cc
 
 -- ## A refusal is read off the step behind the call, which is as it was where there was no memory
 

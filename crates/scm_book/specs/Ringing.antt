@@ -8,11 +8,13 @@ use Rattle.scm_model.specs.declared.calls.Request.{Request}
 use Rattle.scm_model.specs.declared.calls.Request.TheVariants as request
 use Rattle.scm_model.specs.declared.steps.Kept.{Kept}
 use Rattle.scm_model.specs.declared.steps.Step.{Step}
-use Rattle.scm_model.specs.declared.steps.Step.TheVariants.{Joined, Call, LaunchFailed, Ended, ControlTaken, Raised, NoMemory}
+use Rattle.scm_model.specs.declared.steps.Step.TheVariants.{Joined, Call, EndStart, LaunchTaken, LaunchFailed, Ended, ControlTaken, Raised}
+use Rattle.scm_model.specs.declared.steps.Step.TheVariants.{NoMemory}
 use Rattle.scm_model.specs.Entries.{Entry, with_kept}
+use Rattle.start_plan.specs.Decided.{code_of}
 use Rattle.scm_rules.specs.Histories.{state}
 use Rattle.scm_rules.specs.Launches.{process_of}
-use Rattle.scm_rules.specs.Steps.{step_of}
+use Rattle.scm_rules.specs.Steps.{step_of, wants_launch}
 use Rattle.scm_core.specs.Managed.{process_held}
 use Rattle.book_rule.specs.declared.view.Opening.{Opening}
 use Rattle.scm_book.specs.declared.ringing.Children.{Children}
@@ -42,24 +44,27 @@ is_quiet (request.QueryStatusEx handle level size) = true
 is_quiet (request.GetNotify handle) = true
 is_quiet asked = false
 
--- all other calls ring it, and so does each step but that a caller joins and that there was no memory for a call
+-- all other calls ring it, and so do the steps by which a plan may be decided or a launch wanted: a process is launched, isn't launched,
+-- reports or ends, what is due is done, triggers are raised, a caller goes
 abbrev pub rings_common : Step → Bool
 rings_common (Joined principal) = false
 rings_common (Call caller asked append) = not (is_quiet asked)
+rings_common (EndStart caller plan) = false
+rings_common LaunchTaken = false
+rings_common (ControlTaken process) = false
 rings_common (NoMemory caller) = false
 rings_common step = true
 
--- what is waited for is as it was: the plans, the wanted launches, and the processes with their controls
-pub record IsAwaitedSo (before now : Flat) : Type 0 where
-  pub plans : now.plans ≡ before.plans
-  pub wanted : now.wanted ≡ before.wanted
-  pub processes : now.processes ≡ before.processes
+-- who waits at the common bell waits on: a plan that was undecided still is, and no launch is wanted if none was
+pub record WaitsOn (before now : Flat) : Type 0 where
+  pub plans : (plan : ℕ) → code_of before.plans plan ≡ None → code_of now.plans plan ≡ None
+  pub wanted : wants_launch before.wanted ≡ false → wants_launch now.wanted ≡ false
 
--- after each legal history the step leaves what is waited for as it was
+-- after each legal history the step leaves those that wait waiting
 abbrev pub StirsNobody : Step → Type 0
 StirsNobody step =
     (o : Opening) (log : List Entry) (moment : ℕ) (append : Kept) → Runs o log
-    → IsAwaitedSo (state o.limits o.first log) (state_after o.limits (state o.limits o.first log) moment step append)
+    → WaitsOn (state o.limits o.first log) (state_after o.limits (state o.limits o.first log) moment step append)
 
 -- ## The bells of processes
 

@@ -17,6 +17,8 @@ use Rattle.book_rule.specs.Ways.{Has, Protocol}
 use Rattle.book_rule.specs.Rule.{ClaimsOf}
 use Rattle.book_rule.specs.Seats.{Holding, Identity}
 use Rattle.book_rule.specs.Views.{having_left, having_made}
+use Rattle.scm_book.specs.declared.calling.Recorded.{Recorded}
+use Rattle.scm_book.specs.declared.calling.Recorded.TheVariants as recorded
 use Rattle.scm_book.specs.declared.fault.MakeFault.{MakeFault}
 use Rattle.scm_book.specs.declared.fault.MakeFault.TheVariants as makes
 use Rattle.scm_book.specs.declared.fault.StepFault.{StepFault}
@@ -79,6 +81,12 @@ StepEnds o k moment step (Err fault) k' = Learnt o k k' × StepCause o k'.seen m
 abbrev pub StepEndsBy : Opening → Badge View → ℕ → Step → Badge View → Result Answer StepFault → Type 0
 StepEndsBy o badge moment step badge' r = StepEnds o (of_badge badge) moment step r (of_badge badge')
 
+-- what a call was told: the answer that lies beside what was recorded, or none where there was no memory; or why no step was made
+abbrev pub call_told : Result Recorded MakeFault → Answer → Result (Option Answer) MakeFault
+call_told (Ok recorded.Call) told = Ok (Some told)
+call_told (Ok recorded.NoMemory) told = Ok None
+call_told (Err fault) told = Err fault
+
 -- the outcome of a caller's call: it was made, with this answer; or there was room for it but no memory, and NoMemory stands in its place;
 -- or no step was made
 abbrev pub CallEnds : Opening → Known → ℕ → ℕ → Step → Result (Option Answer) MakeFault → Known → Type 0
@@ -140,8 +148,8 @@ module _ {K : Type 0} where
     DidStep moment step (Err fault) = LeftIt s s' × StepCause b.opening s.me.0.seen moment step fault
 
     -- there was no memory for a call, and that stands in its place; or there was none for that either, and the seat has given the turn up
-    abbrev pub DidNone : ℕ → ℕ → Result (Option Answer) MakeFault → Type 0
-    DidNone moment caller (Ok None) = (told : Answer) × DidSo (way_of tells faulted) b s s' moment (NoMemory caller) told
+    abbrev pub DidNone : ℕ → ℕ → Result Recorded MakeFault → Type 0
+    DidNone moment caller (Ok recorded.NoMemory) = (told : Answer) × DidSo (way_of tells faulted) b s s' moment (NoMemory caller) told
     DidNone moment caller (Err makes.OutOfMemory) = LeftIt s s'
     DidNone moment caller ended = ⊥
 

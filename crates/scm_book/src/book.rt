@@ -1,9 +1,10 @@
 // The book, and its calls.
-ghost use Rattle.std.specs.Prelude.{◌≡◌, ◌≢◌, false, true, IfErr, IfOk, IsTrue, None, Ok};
+ghost use Rattle.std.specs.Prelude.{◌≡◌, ◌≢◌, false, true, IfErr, IfOk, IsTrue, Ok};
 ghost use Rattle.scm_model.specs.Ranges.{in_range};
 ghost use Rattle.scm_rules.specs.Opening.{IsOpening};
 ghost use Rattle.scm_core.specs.Managed.{AreSmall};
 ghost use Rattle.record_journal.specs.Bearing.{Bears};
+ghost use Rattle.scm_book.specs.declared.calling.Recorded.TheVariants.{NoMemory};
 ghost use Rattle.scm_book.specs.Called.{Calls, LeavesWhose, Raises, StartsAs, is_start};
 ghost use Rattle.scm_book.specs.Calls.{BeginsWith, Closes, Goes};
 ghost use Rattle.scm_book.specs.Holds.{Opens};
@@ -11,12 +12,12 @@ ghost use Rattle.scm_book.specs.Joins.{BecomesCaller, JoinCause, Joins, TakesIn,
 ghost use Rattle.scm_book.specs.Joins.{accompanied, fresh};
 ghost use Rattle.scm_book.specs.Passes.{HasPlan, IsOf, KeepsAll, Learnt};
 ghost use Rattle.scm_book.specs.Starts.{EndKeeps, EndLooks};
-ghost use Rattle.scm_book.specs.Turns.{AlwaysMay, CallEnds};
+ghost use Rattle.scm_book.specs.Turns.{AlwaysMay, CallEnds, call_told};
 
 use crate::answers::{CallEnd, EndLook, JoinFault, NotJoined, StartEnd};
 use crate::bell::Bell;
 use crate::bells::Bells;
-use crate::calling::{call_end, start_end};
+use crate::calling::{Recorded, call_end, start_end};
 use crate::doubled::PendingEntry;
 use crate::ending::end_look;
 use crate::fault::MakeFault;
@@ -215,7 +216,8 @@ impl<K: Keeper> Book<K> {
         self.shared.take_in(&mut by.badge, badge);
     }
 
-    /// Makes a caller's call. Where there was no memory for it, the step is as it was.
+    /// Makes a caller's call, and puts its answer into `answer`. If there was no memory for it, the
+    /// step is as it was.
     #[inline(always)]
     fn ask<R: Wait>(
         &self,
@@ -223,7 +225,8 @@ impl<K: Keeper> Book<K> {
         pass: &mut Pass,
         moment: u64,
         call: &mut PendingEntry,
-    ) -> Result<Option<Answer>, MakeFault>
+        answer: &mut Answer,
+    ) -> Result<Recorded, MakeFault>
         requires book { IsOf self.now pass.old }
         requires caller { pass.old.caller ≢ 0 }
         requires may { AlwaysMay self.now.opening pass.old moment call.old.step }
@@ -231,12 +234,12 @@ impl<K: Keeper> Book<K> {
         ensures book { IsOf self.now pass.new }
         ensures opens { Opens self.now.opening }
         ensures asks { CallEnds self.now.opening pass.old moment pass.old.caller call.old.step
-            result pass.new }
-        ensures same { result ≡ Ok None → call.new ≡ call.old }
+            (call_told result answer.new) pass.new }
+        ensures same { result ≡ Ok NoMemory → call.new ≡ call.old }
     {
         let caller = pass.caller;
         self.shared
-            .call_by(rt, moment, call, caller, &mut pass.badge)
+            .call_by(rt, moment, call, answer, caller, &mut pass.badge)
     }
 
     /// Makes a call that is no start. It returns the answer of its entry, which stands at the
@@ -259,8 +262,9 @@ impl<K: Keeper> Book<K> {
             note: None,
         };
         call.write(self.shared.alloc);
-        let ended = self.ask(rt, pass, moment, &mut call);
-        call_end(self.shared.alloc, &call.step, ended)
+        let mut answer = Answer::Done;
+        let ended = self.ask(rt, pass, moment, &mut call, &mut answer);
+        call_end(self.shared.alloc, &call.step, ended, answer)
     }
 
     /// Raises the triggers with a subtype, a UUID as it lies in memory. It returns the code that is
@@ -274,8 +278,9 @@ impl<K: Keeper> Book<K> {
     {
         let caller = pass.caller;
         let mut raise = PendingEntry::new(self.shared.alloc, Step::Raised { caller, subtype });
-        let ended = self.ask(rt, pass, moment, &mut raise);
-        call_end(self.shared.alloc, &raise.step, ended)
+        let mut answer = Answer::Done;
+        let ended = self.ask(rt, pass, moment, &mut raise, &mut answer);
+        call_end(self.shared.alloc, &raise.step, ended, answer)
     }
 
     /// Begins a start. It returns the answer of its entry, as with `call`.
@@ -303,8 +308,9 @@ impl<K: Keeper> Book<K> {
             note: None,
         };
         call.write(self.shared.alloc);
-        let ended = self.ask(rt, pass, moment, &mut call);
-        start_end(self.shared.alloc, &call.step, ended)
+        let mut answer = Answer::Done;
+        let ended = self.ask(rt, pass, moment, &mut call, &mut answer);
+        start_end(self.shared.alloc, &call.step, ended, answer)
     }
 
     /// Looks whether a start that waits is decided, and answers it if so. It takes no memory.

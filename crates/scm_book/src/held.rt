@@ -41,6 +41,14 @@ fn tell(step: &mut Step, now: Kept)
     }
 }
 
+/// Puts an answer in the place of one.
+#[inline(always)]
+fn put(place: &mut Answer, told: Answer)
+    ensures { place.new ≡ told }
+{
+    *place = told;
+}
+
 impl<K: Keeper> Guarded for Held<K> {
     ghost use Rattle.scm_book.specs.Holds.{way_of};
 
@@ -134,9 +142,10 @@ impl<K: Keeper> Held<K> {
         }
     }
 
-    /// Does a step for which there is all memory. The trail keeps its note.
+    /// Does a step for which there is all memory, and puts its answer into its place. The trail
+    /// keeps its note.
     #[inline(always)]
-    fn grow(&mut self, moment: u64, step: &mut Step, note: Note) -> Answer
+    fn grow(&mut self, moment: u64, step: &mut Step, note: Note, answer: &mut Answer)
         requires note { note ≡ step.old }
         requires may { IsTrue (may_in self.old moment step.old) }
         requires made { WasMadeFor self.old.manager.room step.old }
@@ -144,14 +153,14 @@ impl<K: Keeper> Held<K> {
         requires text { self.old.manager.text + text_of step.old < 2 ^ 63 }
         requires room { 1 ≤ self.old.trail.room }
         requires text_room { text_of step.old ≤ self.old.trail.text_room }
-        ensures grows { Grows self.old self.new moment step.old result }
+        ensures grows { Grows self.old self.new moment step.old answer.new }
         ensures journal { self.new.journal ≡ self.old.journal }
         ensures keeper { self.new.keeper ≡ self.old.keeper }
         ensures room { self.old.trail.room ≤ self.new.trail.room + 1 }
     {
-        let answer = self.manager.step_at(moment, step);
+        let told = self.manager.step_at(moment, step);
+        put(answer, told);
         self.trail.push(moment, note);
-        answer
     }
 
     /// Makes all that a step can use, appends its change where it makes one, and says what became
@@ -196,13 +205,42 @@ impl<K: Keeper> Held<K> {
         ensures why { IfErr result (λ fault. Why self.old doubled.old.step fault) }
         ensures same { OnErr result (doubled.new ≡ doubled.old) }
     {
-        let kept = self.prepare(doubled)?;
-        Ok(self.finish(moment, doubled, kept))
+        let mut answer = Answer::Done;
+        match self.make_into(moment, doubled, &mut answer) {
+            Ok(()) => Ok(answer),
+            Err(fault) => {
+                drop(answer);
+                Err(fault)
+            }
+        }
     }
 
-    /// Does a step that was prepared.
+    /// Makes a step that isn't owed, as `make_pending` does, and puts its answer into `answer`, so
+    /// that the functions above it don't move it.
     #[inline(always)]
-    fn finish(&mut self, moment: u64, doubled: &mut PendingEntry, kept: Kept) -> Answer
+    pub fn make_into(
+        &mut self,
+        moment: u64,
+        doubled: &mut PendingEntry,
+        answer: &mut Answer,
+    ) -> Result<(), MakeFault>
+        requires may { IsTrue (may_come_in self.old moment doubled.old.step) }
+        requires small { AreSmall self.old.manager.limits }
+        ensures ok { OnOk result (Makes K.held K.faults self.old self.new moment doubled.old.step
+            answer.new) }
+        ensures err { OnErr result (IsAsItWas self.old self.new) }
+        ensures why { IfErr result (λ fault. Why self.old doubled.old.step fault) }
+        ensures same { OnErr result (doubled.new ≡ doubled.old) }
+        ensures untold { OnErr result (answer.new ≡ answer.old) }
+    {
+        let kept = self.prepare(doubled)?;
+        self.finish(moment, doubled, kept, answer);
+        Ok(())
+    }
+
+    /// Does a step that was prepared, and puts its answer into its place.
+    #[inline(always)]
+    fn finish(&mut self, moment: u64, doubled: &mut PendingEntry, kept: Kept, answer: &mut Answer)
         requires noted { IsSome doubled.old.note }
         requires may { IsTrue (may_in self.old moment (with_kept doubled.old.step kept)) }
         requires made { WasMadeFor self.old.manager.room doubled.old.step }
@@ -210,7 +248,8 @@ impl<K: Keeper> Held<K> {
         requires text { self.old.manager.text + text_of doubled.old.step < 2 ^ 63 }
         requires room { 1 ≤ self.old.trail.room }
         requires text_room { text_of doubled.old.step ≤ self.old.trail.text_room }
-        ensures grows { Grows self.old self.new moment (with_kept doubled.old.step kept) result }
+        ensures grows { Grows self.old self.new moment (with_kept doubled.old.step kept)
+            answer.new }
         ensures journal { self.new.journal ≡ self.old.journal }
         ensures keeper { self.new.keeper ≡ self.old.keeper }
         ensures room { self.old.trail.room ≤ self.new.trail.room + 1 }
@@ -220,7 +259,7 @@ impl<K: Keeper> Held<K> {
         };
         note.tell(kept);
         tell(&mut doubled.step, kept);
-        self.grow(moment, &mut doubled.step, note)
+        self.grow(moment, &mut doubled.step, note, answer);
     }
 
     /// Makes a step that isn't owed, as `make_pending` does, and notes it itself.
@@ -247,7 +286,8 @@ impl<K: Keeper> Held<K> {
         ensures { Adds self.old self.new moment (owed_step owed) result }
     {
         let mut step = owed.step();
-        let answer = self.grow(moment, &mut step, owed.note());
+        let mut answer = Answer::Done;
+        self.grow(moment, &mut step, owed.note(), &mut answer);
         drop(step);
         answer
     }

@@ -47,7 +47,7 @@ fn is_quiet(request: &Request) -> bool
 }
 
 /// Whether a step rings the common bell. A step that doesn't decides no plan, and no launch is
-/// wanted by it that wasn't before.
+/// wanted after it if none was before.
 #[tactic(auto, using(crate::proofs::Stirring::stirs_nobody))]
 pub fn rings_common(step: &Step) -> bool
     ensures rings { result ≡ rings_common step.now }
@@ -55,7 +55,11 @@ pub fn rings_common(step: &Step) -> bool
 {
     match step {
         Step::Call { request, .. } => !is_quiet(request),
-        Step::Joined { .. } | Step::NoMemory { .. } => false,
+        Step::Joined { .. }
+        | Step::EndStart { .. }
+        | Step::LaunchTaken
+        | Step::ControlTaken { .. }
+        | Step::NoMemory { .. } => false,
         _ => true,
     }
 }
@@ -118,16 +122,19 @@ impl Owed {
     pub fn ring(self) -> Ring
         ensures { (f : Flat) → result ≡ ring_of f (owed_step self) }
     {
-        let children = match self {
-            Owed::LaunchFailed { process, code: _ } | Owed::Ended { process } => {
-                Children::One(process)
-            }
-            Owed::EndStart { .. } | Owed::LaunchTaken | Owed::Launched { .. } | Owed::Gone { .. } =>
-                Children::Nobody,
-        };
-        Ring {
-            common: true,
-            children,
+        match self {
+            Owed::EndStart { .. } | Owed::LaunchTaken => Ring {
+                common: false,
+                children: Children::Nobody,
+            },
+            Owed::Launched { .. } | Owed::Gone { .. } => Ring {
+                common: true,
+                children: Children::Nobody,
+            },
+            Owed::LaunchFailed { process, code: _ } | Owed::Ended { process } => Ring {
+                common: true,
+                children: Children::One(process),
+            },
         }
     }
 }

@@ -2,7 +2,7 @@ use Rattle.std.proofs.Common.{subst, sym, ◌∙◌}
 use Rattle.book_rule.specs.Seats.{Identity}
 use Rattle.scm_book.specs.Holds.{Opens}
 use Rattle.scm_book.specs.Passes.{Known}
-use Rattle.scm_book.specs.Turns.{AlwaysMay, of_badge}
+use Rattle.scm_book.specs.Turns.{AlwaysMay, call_told, of_badge}
 use Rattle.scm_book.proofs.CallsMade.{asks_so, caller_still}
 use Rattle.scm_book.proofs.Coming.{may_lack}
 use Rattle.scm_book.proofs.InHand.{seen_outside}
@@ -22,8 +22,8 @@ call_by-requires-clause-none g c =
 pub invariant_of-pass : goal.invariant_of-pass
 invariant_of-pass g c =
     let same = caller_still c.self.inside.shared.turn.opening (of_badge c.pass.inside.badge)
-    (of_badge c.call_by.new.badge) c.args.moment c.pass.inside.caller c.args.call.now.step c.requires.stays c.call_by.result
-    c.call_by.ensures.ends in
+    (of_badge c.call_by.new.badge) c.args.moment c.pass.inside.caller c.args.call.now.step c.requires.stays
+    (call_told c.call_by.result c.call_by.new.answer) c.call_by.ensures.ends in
     record { rests = c.call_by.ensures.badge.rests; whose = c.pass.invariant.whose ∙ sym same }
 
 pub returns-clause-opens : goal.returns-clause-opens
@@ -33,4 +33,5 @@ pub returns-clause-asks : goal.returns-clause-asks
 returns-clause-asks g c =
     asks_so c.self.inside.shared.turn c.args.self.now (of_badge c.pass.inside.badge) c.args.pass.now
     (of_badge c.call_by.new.badge) c.self.view_is c.pass.view_is c.args.moment c.pass.inside.caller
-    c.pass.invariant.whose c.args.call.now.step c.call_by.result c.call_by.ensures.ends
+    c.pass.invariant.whose c.args.call.now.step
+    (call_told c.call_by.result c.call_by.new.answer) c.call_by.ensures.ends

@@ -1,7 +1,8 @@
 use Rattle.std.proofs.Common.{ap, refl, subst, sym}
 use Rattle.scm_model.specs.declared.steps.Step.{Step}
 use Rattle.scm_book.specs.Called.{LeavesWhose}
-use Rattle.scm_book.specs.Turns.{CallEnds, of_badge}
+use Rattle.scm_book.specs.Turns.{CallEnds, call_told, of_badge}
+use Rattle.scm_book.proofs.CallsMade.{none_told}
 use Rattle.scm_book.proofs.Coming.{may_raise}
 use Rattle.scm_book.proofs.InHandStill.{raises_keep}
 use Rattle.scm_book.proofs.RaisesMade.{raise_comes, raise_is, told_code}
@@ -23,25 +24,30 @@ pub call_end-requires : goal.call_end-requires
 call_end-requires g c =
     let is = raise_is (of_badge c.pass.inside.badge) c.args.pass.now c.pass.view_is c.pass.inside.caller c.pass.invariant.whose
     c.args.subtype c.new-raise.result.step c.new-raise.ensures in
+    let ended = call_told c.ask-ended.result c.ask-ended.new.answer in
     told_code c.args.self.now.opening c.ask-ended.ensures.opens c.args.pass.now c.ask-ended.new.pass c.args.moment c.args.subtype
-    c.ask-ended.result
-    (subst (λ (s : Step). CallEnds c.args.self.now.opening c.args.pass.now c.args.moment c.args.pass.now.caller s c.ask-ended.result
+    ended
+    (subst (λ (s : Step). CallEnds c.args.self.now.opening c.args.pass.now c.args.moment c.args.pass.now.caller s ended
     c.ask-ended.new.pass) is c.ask-ended.ensures.asks)
 
 pub returns-clause-raises : goal.returns-clause-raises
 returns-clause-raises g c =
     let is = raise_is (of_badge c.pass.inside.badge) c.args.pass.now c.pass.view_is c.pass.inside.caller c.pass.invariant.whose
     c.args.subtype c.new-raise.result.step c.new-raise.ensures in
+    let ended = call_told c.ask-ended.result c.ask-ended.new.answer in
     raise_comes c.args.self.now.opening c.ask-ended.ensures.opens c.args.pass.now c.ask-ended.new.pass c.args.moment c.args.subtype
-    c.new-raise.result.step c.ask-ended.new.call.step is c.ask-ended.result
-    (λ none. ap (λ (d : _). d.step) (c.ask-ended.ensures.same none)) c.call_end.result c.ask-ended.ensures.asks c.call_end.ensures
+    c.new-raise.result.step c.ask-ended.new.call.step is ended
+    (λ none. ap (λ (d : _). d.step) (c.ask-ended.ensures.same
+    (none_told c.ask-ended.result c.ask-ended.new.answer none))) c.call_end.result c.ask-ended.ensures.asks c.call_end.ensures
 
 pub returns-clause-keeps : goal.returns-clause-keeps
 returns-clause-keeps g c =
     let is = raise_is (of_badge c.pass.inside.badge) c.args.pass.now c.pass.view_is c.pass.inside.caller c.pass.invariant.whose
     c.args.subtype c.new-raise.result.step c.new-raise.ensures in
+    let ended = call_told c.ask-ended.result c.ask-ended.new.answer in
     raises_keep c.args.self.now.opening c.ask-ended.ensures.opens c.args.pass.now c.ask-ended.new.pass c.args.moment c.args.subtype
     c.call_end.result
     (raise_comes c.args.self.now.opening c.ask-ended.ensures.opens c.args.pass.now c.ask-ended.new.pass c.args.moment c.args.subtype
-    c.new-raise.result.step c.ask-ended.new.call.step is c.ask-ended.result
-    (λ none. ap (λ (d : _). d.step) (c.ask-ended.ensures.same none)) c.call_end.result c.ask-ended.ensures.asks c.call_end.ensures)
+    c.new-raise.result.step c.ask-ended.new.call.step is ended
+    (λ none. ap (λ (d : _). d.step) (c.ask-ended.ensures.same
+    (none_told c.ask-ended.result c.ask-ended.new.answer none))) c.call_end.result c.ask-ended.ensures.asks c.call_end.ensures)

@@ -2,7 +2,7 @@ use Rattle.std.proofs.Common.{subst}
 use Rattle.scm_model.specs.declared.steps.Step.{Step}
 use Rattle.scm_model.specs.declared.steps.Step.TheVariants.{NoMemory}
 use Rattle.scm_book.specs.Passes.{Known}
-use Rattle.scm_book.specs.Turns.{AlwaysMay, CallEnds}
+use Rattle.scm_book.specs.Turns.{AlwaysMay, CallEnds, call_told}
 use Rattle.scm_book.proofs.Passes.{as_tokens, did_call, has_turn, may_now}
 use Rattle.scm_book.proofs.shared.Shared.call_by.Goals as goal
 
@@ -28,7 +28,8 @@ add_call-ended-requires-clause-none g c =
 pub returns-clause-ends : goal.returns-clause-ends
 returns-clause-ends g c =
     as_tokens (λ (k k' : Known). CallEnds c.args.self.now.turn.opening k c.args.moment c.args.caller c.args.call.now.step
-    c.add_call-ended.result k') c.sit-seat.ensures.knows c.stand.ensures.knows
+    (call_told c.add_call-ended.result c.add_call-ended.new.answer) k') c.sit-seat.ensures.knows c.stand.ensures.knows
     (did_call g.K.Keeper.held g.K.Keeper.faults c.args.self.now.turn c.sit-seat.result c.enter-held.new.seat c.enter-held.result
-    c.enter-held.ensures c.add_call-ended.new.seat c.args.moment c.args.caller c.args.call.now.step c.add_call-ended.result
+    c.enter-held.ensures c.add_call-ended.new.seat c.args.moment c.args.caller c.args.call.now.step
+    (call_told c.add_call-ended.result c.add_call-ended.new.answer)
     c.add_call-ended.ensures.did)
