@@ -1,5 +1,5 @@
 -- The room that a step uses.
-use Rattle.std.specs.Prelude.{ℕ, ◌≡◌, ◌≤◌, ◌<◌, ◌+◌, ◌^◌, length, IfSome, None, Some}
+use Rattle.std.specs.Prelude.{ℕ, Bool, true, false, ◌≡◌, ◌≤◌, ◌<◌, ◌+◌, ◌^◌, length, nat_lt, IfSome, None, Some}
 use Rattle.scm_model.specs.declared.flat.Flat.{Flat}
 use Rattle.scm_model.specs.declared.calls.Request.{Request}
 use Rattle.scm_model.specs.declared.calls.Request.TheVariants as request
@@ -20,7 +20,7 @@ use Rattle.scm_rules.specs.Verdicts.{change_of_call}
 use Rattle.scm_rules.specs.OtherName.{display_by_name, name_by_display, other_name_reply}
 use Rattle.scm_arms_start.specs.Entries.{start_entries}
 use Rattle.scm_arms_process.specs.Raised.{raise_starts}
-use Rattle.scm_tables.specs.Firing.{HasFires, HasPlanNumbers, HasStarts, starts_in}
+use Rattle.scm_tables.specs.Firing.{HasFires, HasPlanNumbers, HasStarts, commands_in, starts_in}
 use Rattle.scm_tables.specs.Tabled.{HasNeedRoom, Tabled}
 use Rattle.scm_core.specs.declared.made.Prepared.{Prepared}
 
@@ -46,6 +46,29 @@ HasRoomForStep t (Call caller asked append) = HasRoomForCall t caller asked
 HasRoomForStep t Tick = HasFires t
 HasRoomForStep t (Raised caller subtype) = HasStarts (raise_starts t.flat caller subtype) t
 HasRoomForStep t step = Unit {0}
+
+-- ## The steps that need no memory
+
+-- whether a call may add a row, or something is made for it beforehand
+abbrev pub call_needs_memory : Request → Bool
+call_needs_memory (request.Close handle) = false
+call_needs_memory (request.CloseNotify handle) = false
+call_needs_memory (request.Control handle control) = false
+call_needs_memory (request.GetNotify handle) = false
+call_needs_memory (request.QuerySecurity handle parts size) = false
+call_needs_memory (request.QueryStatus handle) = false
+call_needs_memory (request.SetSecurity handle parts bytes) = false
+call_needs_memory (request.SetStatus handle status) = false
+call_needs_memory (request.Unlock handle) = false
+call_needs_memory asked = true
+
+-- a tick does while a start or a command is due or will be, and a raise that starts a service
+abbrev pub needs_memory : Flat → Step → Bool
+needs_memory f (Joined principal) = true
+needs_memory f (Call caller asked append) = call_needs_memory asked
+needs_memory f Tick = nat_lt 0 (starts_in f.dues + commands_in f.dues)
+needs_memory f (Raised caller subtype) = nat_lt 0 (raise_starts f caller subtype)
+needs_memory f step = false
 
 -- ## What is made beforehand, so that the step takes no memory
 

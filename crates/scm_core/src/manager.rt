@@ -1,5 +1,6 @@
 ghost use Rattle.std.specs.Prelude.{◌≡◌, ◌+◌, ◌<◌, ◌≤◌, ◌==◌, ◌^◌, max, nat_le, IsTrue, OnOk, OnErr};
-ghost use Rattle.std.specs.Prelude.{IfOk, None, Some, length, filter, is_some, option_copied, []};
+ghost use Rattle.std.specs.Prelude.{IfOk, IsFalse, IsOk, None, Some, length, filter, is_some, []};
+ghost use Rattle.std.specs.Prelude.{option_copied};
 ghost use Rattle.std.specs.List.{list_any};
 ghost use Rattle.scm_rules.specs.Controls.{waiting};
 ghost use Rattle.scm_rules.specs.Needs.{need_rows};
@@ -11,6 +12,7 @@ ghost use Rattle.scm_model.specs.Texts.{text_of};
 ghost use Rattle.scm_rules.specs.Verdicts.{change_of};
 ghost use Rattle.scm_model.specs.Entries.{unkept};
 ghost use Rattle.scm_core.specs.Inside.{promised};
+ghost use Rattle.scm_core.specs.Room.{needs_memory};
 ghost use Rattle.scm_core.specs.Managed.{AreSmall, TakesLaunch, WasMadeFor, process_held};
 ghost use Rattle.scm_model.specs.declared.codes.TheConstants.{SERVICE_RUNNING};
 
@@ -241,10 +243,12 @@ impl Manager {
     }
 
     /// Makes the room that a step uses, in place of that of another step. Where there is no memory,
-    /// all stays as it was, and so does the room for the other step.
+    /// all stays as it was, and so does the room for the other step. That can't be where the step
+    /// adds no row and begins nothing.
     pub fn reserve_for(&mut self, step: &Step) -> Result<(), OutOfMemory>
         ensures ok { OnOk result (self.new ≡ record self.old { room = Some (unkept step.now) }) }
         ensures err { OnErr result (self.new ≡ self.old) }
+        ensures quiet { IsFalse (needs_memory self.old.flat step.now) → IsOk result }
     {
         prepare(&mut self.tables, step, self.alloc, &mut self.made)?;
         promise(&mut self.room, step);

@@ -1,8 +1,8 @@
-ghost use Rattle.std.specs.Prelude.{◌≡◌, ◌≤◌, length, IfSome, OnErr, OnOk};
+ghost use Rattle.std.specs.Prelude.{◌≡◌, ◌≤◌, length, IfSome, IsFalse, IsOk, OnErr, OnOk};
 ghost use Rattle.scm_tables.specs.Promised.{KeepsRooms};
 ghost use Rattle.scm_tables.specs.Tabled.{HasNeedRoom};
 ghost use Rattle.scm_core.specs.Room.{HasRoomForStep, HasRoomForCall, IsMadeFor};
-ghost use Rattle.scm_core.specs.Room.{nothing_made, prepared_for};
+ghost use Rattle.scm_core.specs.Room.{call_needs_memory, needs_memory, nothing_made, prepared_for};
 
 use super::made::{Prepared, clear, keep, make_for_call};
 use scm_arms_process::raise_starts;
@@ -161,6 +161,7 @@ fn prepare_call(
     ensures made { OnOk result (made.new ≡ prepared_for tables.old.limits tables.old.flat caller
         request.now) }
     ensures keeps { KeepsRooms tables.old tables.new }
+    ensures quiet { IsFalse (call_needs_memory request.now) → IsOk result }
     ensures needs { OnErr result (tables.new.spare.needs ≡ tables.old.spare.needs) }
     ensures err { OnErr result (made.new ≡ made.old) }
 {
@@ -169,8 +170,12 @@ fn prepare_call(
             prepare_handle(tables, made)
         }
         Request::Close { .. }
+        | Request::CloseNotify { .. }
         | Request::Control { .. }
+        | Request::GetNotify { .. }
+        | Request::QuerySecurity { .. }
         | Request::QueryStatus { .. }
+        | Request::SetSecurity { .. }
         | Request::SetStatus { .. }
         | Request::Unlock { .. } => {
             clear(made);
@@ -194,6 +199,7 @@ pub fn prepare(
     ensures room { OnOk result (HasRoomForStep tables.new step.now) }
     ensures made { OnOk result (IsMadeFor tables.old.limits tables.old.flat made.new step.now) }
     ensures keeps { KeepsRooms tables.old tables.new }
+    ensures quiet { IsFalse (needs_memory tables.old.flat step.now) → IsOk result }
     ensures needs { OnErr result (tables.new.spare.needs ≡ tables.old.spare.needs) }
     ensures err { OnErr result (made.new ≡ made.old) }
 {

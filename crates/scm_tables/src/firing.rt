@@ -1,5 +1,5 @@
-ghost use Rattle.std.specs.Prelude.{ℕ, ◌≡◌, ◌≤◌, ◌+◌, All, IfSome, IsSome, OnOk, is_some, length};
-ghost use Rattle.std.specs.Prelude.{option_and_then, option_copied, slice_get};
+ghost use Rattle.std.specs.Prelude.{ℕ, ◌≡◌, ◌≤◌, ◌+◌, All, IfSome, IsOk, IsSome, OnOk, is_some};
+ghost use Rattle.std.specs.Prelude.{length, option_and_then, option_copied, slice_get};
 ghost use Rattle.scm_model.specs.Found.{if_found};
 ghost use Rattle.scm_model.specs.Rows.{service_of};
 ghost use Rattle.scm_rules.specs.Due.{next_due};
@@ -87,19 +87,23 @@ impl Tables {
     }
 
     /// Makes room for so many plans without a caller. What a step leaves unused stays for the next
-    /// one.
+    /// one. For no plan it takes no memory.
     pub fn reserve_starts(&mut self, count: usize) -> Result<(), OutOfMemory>
         ensures flat { self.new.flat ≡ self.old.flat }
         ensures limits { self.new.limits ≡ self.old.limits }
         ensures room { OnOk result (HasStarts count self.new) }
+        ensures quiet { count ≡ 0 → IsOk result }
         ensures commands { self.new.spare.commands ≡ self.old.spare.commands }
         ensures keeps { KeepsRooms self.old self.new }
         ensures needs { self.new.spare.needs ≡ self.old.spare.needs }
     {
+        self.widen_starts();
+        if count == 0 {
+            return Ok(());
+        }
         let Ok(plans) = u32::try_from(count) else {
             return Err(OutOfMemory);
         };
-        self.widen_starts();
         self.fill_starts(count)?;
         self.reserve_dues(plans)?;
         self.plans.reserve(plans)
@@ -110,17 +114,21 @@ impl Tables {
         ensures flat { self.new.flat ≡ self.old.flat }
         ensures limits { self.new.limits ≡ self.old.limits }
         ensures room { OnOk result (count ≤ self.new.spare.commands) }
+        ensures enough { count ≤ self.old.spare.commands → IsOk result }
         ensures keeps { KeepsRooms self.old self.new }
         ensures needs { self.new.spare.needs ≡ self.old.spare.needs }
     {
         fill_commands(&mut self.commands, count, self.alloc)
     }
 
-    /// Makes room for all that is due or will be.
+    /// Makes room for all that is due or will be. Where that is no start and no command, it takes
+    /// no memory.
     pub fn reserve_tick(&mut self) -> Result<(), OutOfMemory>
         ensures flat { self.new.flat ≡ self.old.flat }
         ensures limits { self.new.limits ≡ self.old.limits }
         ensures room { OnOk result (HasFires self.new) }
+        ensures quiet { starts_in self.old.flat.dues ≡ 0
+            → commands_in self.old.flat.dues ≡ 0 → IsOk result }
         ensures keeps { KeepsRooms self.old self.new }
         ensures needs { self.new.spare.needs ≡ self.old.spare.needs }
     {

@@ -1,4 +1,4 @@
-ghost use Rattle.std.specs.Prelude.{◌≡◌, ◌≤◌, [], All, IfOk, OnOk, length};
+ghost use Rattle.std.specs.Prelude.{◌≡◌, ◌≤◌, [], All, IfOk, IsOk, OnOk, length};
 ghost use Rattle.scm_tables.specs.Rooms.{IsCommandRoom, IsStartRoom};
 
 use scm_text::{Buffer, OutOfMemory, TextRoom, WText};
@@ -53,6 +53,7 @@ pub fn fill_starts(
     ensures rooms { All (IsStartRoom services) rooms.new.items }
     ensures more { length rooms.old.items ≤ length rooms.new.items }
     ensures count { OnOk result (count ≤ length rooms.new.items) }
+    ensures enough { count ≤ length rooms.old.items → IsOk result }
 {
     while rooms.len() < count {
         let room = start_room(alloc, services)?;
@@ -73,6 +74,7 @@ pub fn fill_commands(
     ensures rooms { All IsCommandRoom rooms.new.items }
     ensures more { length rooms.old.items ≤ length rooms.new.items }
     ensures count { OnOk result (count ≤ length rooms.new.items) }
+    ensures enough { count ≤ length rooms.old.items → IsOk result }
 {
     while rooms.len() < count {
         let room = command_room(alloc)?;
