@@ -1,12 +1,20 @@
--- Numbers come to chains and leave them.
-use Rattle.std.proofs.Common.{ℕ, ◌≡◌, ◌≢◌, ◌⊎◌, ◌<◌, ◌≤◌, ◌+◌, ◌∙◌, zero, suc, Bool, true, false, not, cond, ◌&&◌, ◌||◌, List, [], ◌∷◌}
-use Rattle.std.proofs.Common.{Option, Some, None, is_some, refl, sym, ap, eqb, arith, inl, inr}
+-- Handles come to chains and leave them.
+use Rattle.std.proofs.Common.{ℕ, ◌≡◌, ◌≢◌, ◌⊎◌, ◌<◌, ◌≤◌, ◌+◌, ◌++◌, ◌∙◌, zero, suc, Bool, true, false, not, cond, ◌&&◌, List, [], ◌∷◌}
+use Rattle.std.proofs.Common.{Option, Some, None, is_some, filter, find, length, refl, sym, ap, subst, eqb, arith, inl, inr}
 use Rattle.std.specs.Prelude.{option_and_then, option_map, is_none, IfSome, IfNone, IsSome, IsOk, OnOk, Result, Ok, Err}
-use Rattle.std.specs.Map.{lookup}
+use Rattle.std.specs.List.{AllByRecursion, IsDistinct, list_any}
+use Rattle.std.specs.Map.{keys_of, lookup}
 use Rattle.std.proofs.lemmas.Bool.{eq-eqb, ne_eqb, eqb-true, cases_Bool, cases_eq}
-use Rattle.handle_table.specs.declared.by_caller.Link.{Link}
-use Rattle.handle_table.specs.Linked.{AreLinked, IsChain, holder_of, owns, is_first, is_number, is_of, link_at, newer_of, older_of}
-use Rattle.handle_table.specs.Linked.{with_newer, with_older}
+use Rattle.std.proofs.lemmas.List.{length-map}
+use Rattle.std.proofs.lemmas.Map.Made.{keys_of-map_values, lookup-map_values}
+use Rattle.scm_model.specs.declared.flat.HandleRow.{HandleRow}
+use Rattle.handle_table.specs.declared.rows.Node.{Node}
+use Rattle.handle_table.specs.Handled.{is_handle, matches}
+use Rattle.handle_table.specs.Numbered.{AreNumbered, ordered}
+use Rattle.handle_table.specs.Chained.{AreChained, AreLinked, IsChain, holder_of, is_newest, is_number, newer_of, node_at, older_of}
+use Rattle.handle_table.specs.Chained.{rows_of, with_newer, with_older}
+use Rattle.handle_table.proofs.Counting.{any_below, any_of, held_row}
+use Rattle.handle_table.proofs.Sorting.{as_many, found_is, rising_is, pushed_is, pushed_numbered, removed_is, removed_numbered}
 
 clash : {a : ℕ} → None ≡ Some a → ⊥
 clash e = absurd (cc e)
@@ -243,74 +251,89 @@ module _ (caller older newer newest caller' older' newer' newest' : ℕ → Opti
 
 -- ## Who has none
 
-abbrev Links : Type 0
-Links = List (ℕ × Link)
+abbrev pub Nodes : Type 0
+Nodes = List (ℕ × Node)
 
-abbrev bound : Links → ℕ
+abbrev bound : Nodes → ℕ
 bound [] = 0
-bound (e ∷ links) = suc (e.0 + bound links)
+bound (e ∷ nodes) = suc (e.0 + bound nodes)
 
-bounded : (links : Links) (n : ℕ) → is_some (link_at links n) ≡ true → n < bound links
+bounded : (nodes : Nodes) (n : ℕ) → is_some (node_at nodes n) ≡ true → n < bound nodes
 bounded [] n some = absurd (cc some)
-bounded (e ∷ links) n some =
+bounded (e ∷ nodes) n some =
     elim (cases_Bool (eqb n e.0)) [
       | inl same ↦ omega (arith, eqb-true n e.0 same)
-      | inr other ↦ omega (arith, bounded links n (rw other at some))
+      | inr other ↦ omega (arith, bounded nodes n (rw other at some))
     ]
 
-there : (links : Links) (n c : ℕ) → holder_of links n ≡ Some c → is_some (link_at links n) ≡ true
-there links n c = by (link_at links n)
+there : (nodes : Nodes) (n c : ℕ) → holder_of nodes n ≡ Some c → is_some (node_at nodes n) ≡ true
+there nodes n c = by (node_at nodes n)
   where
-    by : (o : Option Link) → option_map (λ (link : Link). link.caller) o ≡ Some c → is_some o ≡ true
+    by : (o : Option Node) → option_map (λ (node : Node). node.row.caller) o ≡ Some c → is_some o ≡ true
     by None e = absurd (cc e)
-    by (Some link) e = refl
+    by (Some node) e = refl
 
-pub its_caller : (links : Links) (c n : ℕ) → owns links c n ≡ true → holder_of links n ≡ Some c
-its_caller links c n = by (link_at links n)
-  where
-    by : (o : Option Link) → is_of c o ≡ true → option_map (λ (link : Link). link.caller) o ≡ Some c
-    by None e = absurd (cc e)
-    by (Some link) e = ap Some (eqb-true link.caller c e)
+abbrev pub row_part : Node → HandleRow
+row_part node = node.row
 
-pub has_its : (links : Links) (c n : ℕ) → holder_of links n ≡ Some c → owns links c n ≡ true
-has_its links c n = by (link_at links n)
+row_at : (nodes : Nodes) (n : ℕ) → lookup (eqb n) (rows_of nodes) ≡ option_map row_part (node_at nodes n)
+row_at nodes n = lookup-map_values row_part (eqb n) nodes
+
+abbrev has : Nodes → ℕ → ℕ → Bool
+has nodes c n = list_any (is_handle c n) (ordered (rows_of nodes))
+
+its_holder : (nodes : Nodes) (c n : ℕ) → AreNumbered (rows_of nodes) → has nodes c n ≡ true → holder_of nodes n ≡ Some c
+its_holder nodes c n kept is =
+    let his = held_row c n (ordered (rows_of nodes)) (rising_is (rows_of nodes) kept) is in
+    by (node_at nodes n) his.0 (sym (row_at nodes n) ∙ sym (found_is (rows_of nodes) n kept) ∙ his.1) (eqb-true his.0.caller c his.2)
   where
-    by : (o : Option Link) → option_map (λ (link : Link). link.caller) o ≡ Some c → is_of c o ≡ true
+    by : (o : Option Node) (row : HandleRow) → option_map (λ (node : Node). node.row) o ≡ Some row → row.caller ≡ c
+        → option_map (λ (node : Node). node.row.caller) o ≡ Some c
+    by None row e same = absurd (cc e)
+    by (Some node) row e same = cc (e, same)
+
+has_its : (nodes : Nodes) (c n : ℕ) → AreNumbered (rows_of nodes) → holder_of nodes n ≡ Some c → has nodes c n ≡ true
+has_its nodes c n kept e =
+    let its = by (node_at nodes n) e in
+    any_of c n (ordered (rows_of nodes)) its.0 (found_is (rows_of nodes) n kept ∙ row_at nodes n ∙ its.1) (eq-eqb its.0.caller c its.2)
+  where
+    by : (o : Option Node) → option_map (λ (node : Node). node.row.caller) o ≡ Some c
+        → (row : HandleRow) × (option_map (λ (node : Node). node.row) o ≡ Some row) × (row.caller ≡ c)
     by None e = absurd (cc e)
-    by (Some link) e = eq-eqb link.caller c (same_some e)
+    by (Some node) e = (node.row, refl, same_some e)
 
 -- a number that has a newer one leads up to the newest
-climb : (links : Links) (newest : List (ℕ × ℕ)) (c : ℕ) → AreLinked links newest → lookup (eqb c) newest ≡ None → (fuel m : ℕ)
-    → bound links ≤ m + fuel → holder_of links m ≡ Some c → ⊥
-climb links newest c kept none zero m le its = omega (arith, le, bounded links m (there links m c its))
-climb links newest c kept none (suc fuel) m le its = by (newer_of links m) refl (λ next up. climb links newest c kept none fuel next up)
+climb : (nodes : Nodes) (newest : List (ℕ × ℕ)) (c : ℕ) → AreLinked nodes newest → lookup (eqb c) newest ≡ None → (fuel m : ℕ)
+    → bound nodes ≤ m + fuel → holder_of nodes m ≡ Some c → ⊥
+climb nodes newest c kept none zero m le its = omega (arith, le, bounded nodes m (there nodes m c its))
+climb nodes newest c kept none (suc fuel) m le its = by (newer_of nodes m) refl (λ next up. climb nodes newest c kept none fuel next up)
   where
-    by : (o : Option ℕ) → newer_of links m ≡ o → ((next : ℕ) → bound links ≤ next + fuel → holder_of links next ≡ Some c → ⊥) → ⊥
+    by : (o : Option ℕ) → newer_of nodes m ≡ o → ((next : ℕ) → bound nodes ≤ next + fuel → holder_of nodes next ≡ Some c → ⊥) → ⊥
     by None e rest = clash (sym none ∙ kept.is_newest c m its e)
     by (Some next) e rest =
         let older = kept.back m next e in
         rest next (omega (arith, le, kept.order m next older)) (sym (kept.alike m next older) ∙ its)
 
 -- who has a number has a newest one
-pub none_has : (links : Links) (newest : List (ℕ × ℕ)) (c : ℕ) → AreLinked links newest → lookup (eqb c) newest ≡ None → (n : ℕ)
-    → owns links c n ≡ false
-none_has links newest c kept none n =
-    elim (cases_Bool (owns links c n)) [
-      | inl is ↦ absurd (climb links newest c kept none (bound links) n (omega arith) (its_caller links c n is))
+pub none_has : (nodes : Nodes) (newest : List (ℕ × ℕ)) (c : ℕ) → AreChained nodes newest → lookup (eqb c) newest ≡ None → (n : ℕ)
+    → list_any (is_handle c n) (ordered (rows_of nodes)) ≡ false
+none_has nodes newest c kept none n =
+    elim (cases_Bool (has nodes c n)) [
+      | inl is ↦ absurd (climb nodes newest c kept.linked none (bound nodes) n (omega arith) (its_holder nodes c n kept.numbered is))
       | inr isnt ↦ isnt
     ]
 
-pub newest_has : (links : Links) (newest : List (ℕ × ℕ)) (c : ℕ) (o : Option ℕ) → AreLinked links newest → o ≡ lookup (eqb c) newest
-    → IfSome o (λ n. owns links c n ≡ true)
-newest_has links newest c None kept e = tt
-newest_has links newest c (Some n) kept e = has_its links c n (kept.first c n (sym e)).0
+pub newest_has : (nodes : Nodes) (newest : List (ℕ × ℕ)) (c : ℕ) (o : Option ℕ) → AreChained nodes newest → o ≡ lookup (eqb c) newest
+    → IfSome o (λ n. list_any (is_handle c n) (ordered (rows_of nodes)) ≡ true)
+newest_has nodes newest c None kept e = tt
+newest_has nodes newest c (Some n) kept e = has_its nodes c n kept.numbered (kept.linked.first c n (sym e)).0
 
-pub no_newest_has : (links : Links) (newest : List (ℕ × ℕ)) (c : ℕ) (o : Option ℕ) → AreLinked links newest → o ≡ lookup (eqb c) newest
-    → IfNone o ((n : ℕ) → owns links c n ≡ false)
-no_newest_has links newest c None kept e = none_has links newest c kept (sym e)
-no_newest_has links newest c (Some n) kept e = tt
+pub no_newest_has : (nodes : Nodes) (newest : List (ℕ × ℕ)) (c : ℕ) (o : Option ℕ) → AreChained nodes newest → o ≡ lookup (eqb c) newest
+    → IfNone o ((n : ℕ) → list_any (is_handle c n) (ordered (rows_of nodes)) ≡ false)
+no_newest_has nodes newest c None kept e = none_has nodes newest c kept (sym e)
+no_newest_has nodes newest c (Some n) kept e = tt
 
--- ## Links are set
+-- ## Neighbours are set
 
 is_it_number : (o : Option ℕ) (n : ℕ) → o ≡ Some n → is_number n o ≡ true
 is_it_number None n e = absurd (clash e)
@@ -320,182 +343,197 @@ isnt_number : (o : Option ℕ) (n : ℕ) → (o ≡ Some n → ⊥) → is_numbe
 isnt_number None n other = refl
 isnt_number (Some m) n other = ne_eqb m n (λ same. other (ap Some same))
 
-abbrev set_to : Bool → (Link → Link) → Option Link → Option Link
+abbrev set_to : Bool → (Node → Node) → Option Node → Option Node
 set_to b change o = cond b (option_map change o) o
 
--- what a change of a link leaves alone
-same_of : {T : Type 0} (part : Link → T) (change : Link → Link) → ((link : Link) → part (change link) ≡ part link)
-    → (b : Bool) (o : Option Link) → option_map part (set_to b change o) ≡ option_map part o
+-- what a change of a node leaves alone
+same_of : {T : Type 0} (part : Node → T) (change : Node → Node) → ((node : Node) → part (change node) ≡ part node)
+    → (b : Bool) (o : Option Node) → option_map part (set_to b change o) ≡ option_map part o
 same_of part change same true None = refl
-same_of part change same true (Some link) = ap Some (same link)
+same_of part change same true (Some node) = ap Some (same node)
 same_of part change same false o = refl
 
-same_next : (part : Link → Option ℕ) (change : Link → Link) → ((link : Link) → part (change link) ≡ part link)
-    → (b : Bool) (o : Option Link) → option_and_then part (set_to b change o) ≡ option_and_then part o
+same_next : (part : Node → Option ℕ) (change : Node → Node) → ((node : Node) → part (change node) ≡ part node)
+    → (b : Bool) (o : Option Node) → option_and_then part (set_to b change o) ≡ option_and_then part o
 same_next part change same true None = refl
-same_next part change same true (Some link) = same link
+same_next part change same true (Some node) = same node
 same_next part change same false o = refl
 
-still_none : (b : Bool) (change : Link → Link) → set_to b change None ≡ None
+still_none : (b : Bool) (change : Node → Node) → set_to b change None ≡ None
 still_none true change = refl
 still_none false change = refl
 
-still_some : (b : Bool) (change : Link → Link) (o : Option Link) → is_some o ≡ true → is_some (set_to b change o) ≡ true
+still_some : (b : Bool) (change : Node → Node) (o : Option Node) → is_some o ≡ true → is_some (set_to b change o) ≡ true
 still_some b change None e = absurd (cc e)
-still_some true change (Some link) e = refl
-still_some false change (Some link) e = refl
+still_some true change (Some node) e = refl
+still_some false change (Some node) e = refl
 
-newer_set : (o : Option Link) (newer : Option ℕ) → is_some o ≡ true → option_and_then (λ (link : Link). link.newer)
+newer_set : (o : Option Node) (newer : Option ℕ) → is_some o ≡ true → option_and_then (λ (node : Node). node.newer)
     (option_map (with_newer newer) o) ≡ newer
 newer_set None newer e = absurd (cc e)
-newer_set (Some link) newer e = refl
+newer_set (Some node) newer e = refl
 
-older_set : (o : Option Link) (older : Option ℕ) → is_some o ≡ true → option_and_then (λ (link : Link). link.older)
+older_set : (o : Option Node) (older : Option ℕ) → is_some o ≡ true → option_and_then (λ (node : Node). node.older)
     (option_map (with_older older) o) ≡ older
 older_set None older e = absurd (cc e)
-older_set (Some link) older e = refl
+older_set (Some node) older e = refl
 
-some_older : (links : Links) (n m : ℕ) → older_of links n ≡ Some m → is_some (link_at links n) ≡ true
-some_older links n m = by (link_at links n)
+some_older : (nodes : Nodes) (n m : ℕ) → older_of nodes n ≡ Some m → is_some (node_at nodes n) ≡ true
+some_older nodes n m = by (node_at nodes n)
   where
-    by : (o : Option Link) → option_and_then (λ (link : Link). link.older) o ≡ Some m → is_some o ≡ true
+    by : (o : Option Node) → option_and_then (λ (node : Node). node.older) o ≡ Some m → is_some o ≡ true
     by None e = absurd (cc e)
-    by (Some link) e = refl
+    by (Some node) e = refl
 
-some_newer : (links : Links) (n m : ℕ) → newer_of links n ≡ Some m → is_some (link_at links n) ≡ true
-some_newer links n m = by (link_at links n)
+some_newer : (nodes : Nodes) (n m : ℕ) → newer_of nodes n ≡ Some m → is_some (node_at nodes n) ≡ true
+some_newer nodes n m = by (node_at nodes n)
   where
-    by : (o : Option Link) → option_and_then (λ (link : Link). link.newer) o ≡ Some m → is_some o ≡ true
+    by : (o : Option Node) → option_and_then (λ (node : Node). node.newer) o ≡ Some m → is_some o ≡ true
     by None e = absurd (cc e)
-    by (Some link) e = refl
+    by (Some node) e = refl
 
-owned_by : (links : Links) (n m : ℕ) → older_of links m ≡ Some n → (x : ℕ) × (holder_of links m ≡ Some x)
-owned_by links n m = by (link_at links m)
+owned_by : (nodes : Nodes) (n m : ℕ) → older_of nodes m ≡ Some n → (x : ℕ) × (holder_of nodes m ≡ Some x)
+owned_by nodes n m = by (node_at nodes m)
   where
-    by : (o : Option Link) → option_and_then (λ (link : Link). link.older) o ≡ Some n → (x : ℕ)
-        × (option_map (λ (link : Link). link.caller) o ≡ Some x)
+    by : (o : Option Node) → option_and_then (λ (node : Node). node.older) o ≡ Some n → (x : ℕ)
+        × (option_map (λ (node : Node). node.row.caller) o ≡ Some x)
     by None e = absurd (cc e)
-    by (Some link) e = (link.caller, refl)
+    by (Some node) e = (node.row.caller, refl)
 
--- ## Maps of links
+-- ## Maps of nodes
 
 abbrev newest_in : List (ℕ × ℕ) → ℕ → Option ℕ
 newest_in newest c = lookup (eqb c) newest
 
-abbrev IsAbove : Links → ℕ → Type 0
-IsAbove links k = (x n : ℕ) → owns links x n ≡ true → n < k
+abbrev last_node : HandleRow → Option ℕ → Node
+last_node row older = record { row = row; older = older; newer = None }
 
-module _ (links mid new : Links) (newest newest' : List (ℕ × ℕ)) (c k : ℕ) (last : Option ℕ) (kept : AreLinked links newest)
-    (above : IsAbove links k) (is : last ≡ newest_in newest c)
-    (set : (n : ℕ) → link_at mid n ≡ set_to (is_number n last) (with_newer (Some k)) (link_at links n))
-    (put : (n : ℕ) → link_at new n ≡ cond (eqb k n) (Some (record { caller = c; older = last; newer = None })) (link_at mid n)) where
-  here : link_at new k ≡ Some (record { caller = c; older = last; newer = None })
-  here = put k ∙ ap (λ (b : Bool). cond b (Some (record { caller = c; older = last; newer = None })) (link_at mid k)) (eq-eqb k k refl)
+once_rows : (nodes : Nodes) → IsDistinct eqb (keys_of nodes) → IsDistinct eqb (keys_of (rows_of nodes))
+once_rows nodes once = subst (IsDistinct eqb) (sym (keys_of-map_values row_part nodes)) once
 
-  apart : (n : ℕ) → n ≢ k → link_at new n ≡ set_to (is_number n last) (with_newer (Some k)) (link_at links n)
-  apart n other = put n ∙ ap (λ (b : Bool). cond b (Some (record { caller = c; older = last; newer = None })) (link_at mid n))
-      (ne_eqb k n (λ same. other (sym same))) ∙ set n
+pub row_found : (nodes : Nodes) (newest : List (ℕ × ℕ)) (n : ℕ) → AreChained nodes newest
+    → option_map row_part (node_at nodes n) ≡ find (matches n) (ordered (rows_of nodes))
+row_found nodes newest n kept = sym (found_is (rows_of nodes) n kept.numbered ∙ row_at nodes n)
 
-  added_grows : ((x : ℕ) → newest_in newest' x ≡ cond (eqb c x) (Some k) (newest_in newest x))
-      → Grows (holder_of links) (older_of links) (newer_of links) (newest_in newest) (holder_of new) (older_of new) (newer_of new)
-      (newest_in newest') k c
+pub as_many_rows : (nodes : Nodes) → length (ordered (rows_of nodes)) ≡ length nodes
+as_many_rows nodes = as_many (rows_of nodes) ∙ length-map nodes (λ (entry : ℕ × Node). (entry.0, entry.1.row))
+
+module _ (nodes mid new : Nodes) (newest newest' : List (ℕ × ℕ)) (row : HandleRow) (last : Option ℕ) (kept : AreChained nodes newest)
+    (below : AllByRecursion (λ (other : HandleRow). other.number < row.number) (ordered (rows_of nodes)))
+    (is : last ≡ newest_in newest row.caller)
+    (set : (n : ℕ) → node_at mid n ≡ set_to (is_number n last) (with_newer (Some row.number)) (node_at nodes n))
+    (put : (n : ℕ) → node_at new n ≡ cond (eqb row.number n) (Some (last_node row last)) (node_at mid n))
+    (once : IsDistinct eqb (keys_of new)) where
+  here : node_at new row.number ≡ Some (last_node row last)
+  here = put row.number ∙ ap (λ (b : Bool). cond b (Some (last_node row last)) (node_at mid row.number)) (eq-eqb row.number row.number refl)
+
+  apart : (n : ℕ) → n ≢ row.number → node_at new n ≡ set_to (is_number n last) (with_newer (Some row.number)) (node_at nodes n)
+  apart n other = put n ∙ ap (λ (b : Bool). cond b (Some (last_node row last)) (node_at mid n))
+      (ne_eqb row.number n (λ same. other (sym same))) ∙ set n
+
+  added_grows : ((x : ℕ) → newest_in newest' x ≡ cond (eqb row.caller x) (Some row.number) (newest_in newest x))
+      → Grows (holder_of nodes) (older_of nodes) (newer_of nodes) (newest_in newest) (holder_of new) (older_of new) (newer_of new)
+      (newest_in newest') row.number row.caller
   added_grows renewed = record {
-    caller_k = ap (option_map (λ (link : Link). link.caller)) here;
+    caller_k = ap (option_map (λ (node : Node). node.row.caller)) here;
     caller_n = λ n other.
-        ap (option_map (λ (link : Link). link.caller)) (apart n other) ∙ same_of (λ (link : Link). link.caller) (with_newer (Some k))
-        (λ link. refl) (is_number n last) (link_at links n);
-    older_k = ap (option_and_then (λ (link : Link). link.older)) here ∙ is;
+        ap (option_map (λ (node : Node). node.row.caller)) (apart n other)
+        ∙ same_of (λ (node : Node). node.row.caller) (with_newer (Some row.number)) (λ node. refl) (is_number n last) (node_at nodes n);
+    older_k = ap (option_and_then (λ (node : Node). node.older)) here ∙ is;
     older_n = λ n other.
-        ap (option_and_then (λ (link : Link). link.older)) (apart n other)
-        ∙ same_next (λ (link : Link). link.older) (with_newer (Some k)) (λ link. refl) (is_number n last) (link_at links n);
-    newer_k = ap (option_and_then (λ (link : Link). link.newer)) here;
+        ap (option_and_then (λ (node : Node). node.older)) (apart n other)
+        ∙ same_next (λ (node : Node). node.older) (with_newer (Some row.number)) (λ node. refl) (is_number n last) (node_at nodes n);
+    newer_k = ap (option_and_then (λ (node : Node). node.newer)) here;
     newer_last = λ n other e.
-        ap (option_and_then (λ (link : Link). link.newer)) (apart n other
-        ∙ ap (λ (b : Bool). set_to b (with_newer (Some k)) (link_at links n)) (is_it_number last n (is ∙ e)))
-        ∙ newer_set (link_at links n) (Some k) (there links n c (kept.first c n e).0);
+        ap (option_and_then (λ (node : Node). node.newer)) (apart n other
+        ∙ ap (λ (b : Bool). set_to b (with_newer (Some row.number)) (node_at nodes n)) (is_it_number last n (is ∙ e)))
+        ∙ newer_set (node_at nodes n) (Some row.number) (there nodes n row.caller (kept.linked.first row.caller n e).0);
     newer_n = λ n other isnt.
-        ap (option_and_then (λ (link : Link). link.newer)) (apart n other
-        ∙ ap (λ (b : Bool). set_to b (with_newer (Some k)) (link_at links n)) (isnt_number last n (λ e. isnt (sym is ∙ e))));
-    newest_c = renewed c ∙ ap (λ (b : Bool). cond b (Some k) (newest_in newest c)) (eq-eqb c c refl);
-    newest_x = λ x other. renewed x ∙ ap (λ (b : Bool). cond b (Some k) (newest_in newest x)) (ne_eqb c x (λ same. other (sym same)));
+        ap (option_and_then (λ (node : Node). node.newer)) (apart n other
+        ∙ ap (λ (b : Bool). set_to b (with_newer (Some row.number)) (node_at nodes n)) (isnt_number last n (λ e. isnt (sym is ∙ e))));
+    newest_c = renewed row.caller
+        ∙ ap (λ (b : Bool). cond b (Some row.number) (newest_in newest row.caller)) (eq-eqb row.caller row.caller refl);
+    newest_x = λ x other. renewed x
+        ∙ ap (λ (b : Bool). cond b (Some row.number) (newest_in newest x)) (ne_eqb row.caller x (λ same. other (sym same)));
   }
 
-  pub added : ((x : ℕ) → newest_in newest' x ≡ cond (eqb c x) (Some k) (newest_in newest x)) → AreLinked new newest'
-  added renewed =
-      grown (holder_of links) (older_of links) (newer_of links) (newest_in newest) (holder_of new) (older_of new) (newer_of new)
-      (newest_in newest') k c kept (owned_by links)
-      (λ n x e. above x n (has_its links x n e)) (added_grows renewed)
-
-  pub has_added : (x n : ℕ) → owns new x n ≡ (eqb c x && eqb k n || owns links x n)
-  has_added x n =
-      elim (cases_eq n k) [
-        | inl same ↦
-            rw (same, here, eq-eqb k k refl, gone) (elim (eqb c x) as (λ b. b ≡ (b && true || false)) [ true ↦ refl | false ↦ refl ])
-        | inr other ↦
-            rw (apart n other, ne_eqb k n (λ same. other (sym same)))
-            (unset (is_number n last) (link_at links n) ∙ elim (eqb c x) as (λ b. owns links x n ≡ (b && false || owns links x n))
-            [ true ↦ refl | false ↦ refl ])
-      ]
+  puts : (n : ℕ) → lookup (eqb n) (rows_of new) ≡ cond (eqb row.number n) (Some row) (lookup (eqb n) (rows_of nodes))
+  puts n = row_at new n ∙ ap (option_map row_part) (put n) ∙ by (eqb row.number n)
     where
-      gone : owns links x k ≡ false
-      gone = elim (cases_Bool (owns links x k)) [ inl there ↦ absurd (omega (arith, above x k there)) | inr isnt ↦ isnt ]
+      by : (b : Bool) → option_map row_part (cond b (Some (last_node row last)) (node_at mid n)) ≡ cond b (Some row)
+          (lookup (eqb n) (rows_of nodes))
+      by true = refl
+      by false = ap (option_map row_part) (set n)
+          ∙ same_of row_part (with_newer (Some row.number)) (λ node. refl) (is_number n last) (node_at nodes n) ∙ sym (row_at nodes n)
 
-      unset : (b : Bool) (o : Option Link) → is_of x (set_to b (with_newer (Some k)) o) ≡ is_of x o
-      unset true None = refl
-      unset true (Some link) = refl
-      unset false o = refl
+  added_numbered : AreNumbered (rows_of new)
+  added_numbered = pushed_numbered (rows_of nodes) (rows_of new) row kept.numbered (once_rows new once) puts
 
-module _ (links one two new : Links) (newest : List (ℕ × ℕ)) (k : ℕ) (link : Link) (kept : AreLinked links newest)
-    (found : link_at links k ≡ Some link)
-    (cut : (n : ℕ) → link_at one n ≡ cond (eqb k n) None (link_at links n))
-    (joined : (n : ℕ) → link_at two n ≡ set_to (is_number n link.older) (with_newer link.newer) (link_at one n))
-    (closed : (n : ℕ) → link_at new n ≡ set_to (is_number n link.newer) (with_older link.older) (link_at two n)) where
-  its_link : holder_of links k ≡ Some link.caller
-  its_link = ap (option_map (λ (l : Link). l.caller)) found
+  pub added : ((x : ℕ) → newest_in newest' x ≡ cond (eqb row.caller x) (Some row.number) (newest_in newest x)) → AreChained new newest'
+  added renewed = record {
+    numbered = added_numbered;
+    linked =
+        grown (holder_of nodes) (older_of nodes) (newer_of nodes) (newest_in newest) (holder_of new) (older_of new) (newer_of new)
+        (newest_in newest') row.number row.caller kept.linked (owned_by nodes)
+        (λ n x e. any_below x n row.number (ordered (rows_of nodes)) below (has_its nodes x n kept.numbered e)) (added_grows renewed);
+  }
 
-  its_older : older_of links k ≡ link.older
-  its_older = ap (option_and_then (λ (l : Link). l.older)) found
+  pub is_added : ordered (rows_of new) ≡ ordered (rows_of nodes) ++ row ∷ []
+  is_added = pushed_is (rows_of nodes) (rows_of new) row kept.numbered added_numbered puts below
 
-  its_newer : newer_of links k ≡ link.newer
-  its_newer = ap (option_and_then (λ (l : Link). l.newer)) found
+module _ (nodes one two new : Nodes) (newest : List (ℕ × ℕ)) (k : ℕ) (node : Node) (kept : AreChained nodes newest)
+    (found : node_at nodes k ≡ Some node)
+    (cut : (n : ℕ) → node_at one n ≡ cond (eqb k n) None (node_at nodes n))
+    (joined : (n : ℕ) → node_at two n ≡ set_to (is_number n node.older) (with_newer node.newer) (node_at one n))
+    (closed : (n : ℕ) → node_at new n ≡ set_to (is_number n node.newer) (with_older node.older) (node_at two n))
+    (once : IsDistinct eqb (keys_of new)) where
+  its_caller : holder_of nodes k ≡ Some node.row.caller
+  its_caller = ap (option_map (λ (node : Node). node.row.caller)) found
 
-  gone : link_at new k ≡ None
+  its_older : older_of nodes k ≡ node.older
+  its_older = ap (option_and_then (λ (node : Node). node.older)) found
+
+  its_newer : newer_of nodes k ≡ node.newer
+  its_newer = ap (option_and_then (λ (node : Node). node.newer)) found
+
+  gone : node_at new k ≡ None
   gone =
-      closed k ∙ ap (set_to (is_number k link.newer) (with_older link.older)) (joined k
-      ∙ ap (set_to (is_number k link.older) (with_newer link.newer)) (cut k
-      ∙ ap (λ (b : Bool). cond b None (link_at links k)) (eq-eqb k k refl))
-      ∙ still_none (is_number k link.older) (with_newer link.newer)) ∙ still_none (is_number k link.newer) (with_older link.older)
+      closed k ∙ ap (set_to (is_number k node.newer) (with_older node.older)) (joined k
+      ∙ ap (set_to (is_number k node.older) (with_newer node.newer)) (cut k
+      ∙ ap (λ (b : Bool). cond b None (node_at nodes k)) (eq-eqb k k refl))
+      ∙ still_none (is_number k node.older) (with_newer node.newer)) ∙ still_none (is_number k node.newer) (with_older node.older)
 
-  stays : (n : ℕ) → n ≢ k → link_at one n ≡ link_at links n
-  stays n other = cut n ∙ ap (λ (b : Bool). cond b None (link_at links n)) (ne_eqb k n (λ same. other (sym same)))
+  stays : (n : ℕ) → n ≢ k → node_at one n ≡ node_at nodes n
+  stays n other = cut n ∙ ap (λ (b : Bool). cond b None (node_at nodes n)) (ne_eqb k n (λ same. other (sym same)))
 
-  same_caller : (n : ℕ) → n ≢ k → holder_of new n ≡ holder_of links n
+  same_caller : (n : ℕ) → n ≢ k → holder_of new n ≡ holder_of nodes n
   same_caller n other =
-      ap (option_map (λ (l : Link). l.caller)) (closed n) ∙ same_of (λ (l : Link). l.caller) (with_older link.older) (λ l. refl)
-      (is_number n link.newer) (link_at two n)
-      ∙ ap (option_map (λ (l : Link). l.caller)) (joined n) ∙ same_of (λ (l : Link). l.caller) (with_newer link.newer) (λ l. refl)
-      (is_number n link.older) (link_at one n)
-      ∙ ap (option_map (λ (l : Link). l.caller)) (stays n other)
+      ap (option_map (λ (node : Node). node.row.caller)) (closed n)
+      ∙ same_of (λ (node : Node). node.row.caller) (with_older node.older) (λ node. refl) (is_number n node.newer) (node_at two n)
+      ∙ ap (option_map (λ (node : Node). node.row.caller)) (joined n)
+      ∙ same_of (λ (node : Node). node.row.caller) (with_newer node.newer) (λ node. refl) (is_number n node.older) (node_at one n)
+      ∙ ap (option_map (λ (node : Node). node.row.caller)) (stays n other)
 
-  older_two : (n : ℕ) → n ≢ k → older_of two n ≡ older_of links n
+  older_two : (n : ℕ) → n ≢ k → older_of two n ≡ older_of nodes n
   older_two n other =
-      ap (option_and_then (λ (l : Link). l.older)) (joined n) ∙ same_next (λ (l : Link). l.older) (with_newer link.newer) (λ l. refl)
-      (is_number n link.older) (link_at one n)
-      ∙ ap (option_and_then (λ (l : Link). l.older)) (stays n other)
+      ap (option_and_then (λ (node : Node). node.older)) (joined n)
+      ∙ same_next (λ (node : Node). node.older) (with_newer node.newer) (λ node. refl) (is_number n node.older) (node_at one n)
+      ∙ ap (option_and_then (λ (node : Node). node.older)) (stays n other)
 
   newer_new : (n : ℕ) → newer_of new n ≡ newer_of two n
-  newer_new n = ap (option_and_then (λ (l : Link). l.newer)) (closed n)
-      ∙ same_next (λ (l : Link). l.newer) (with_older link.older) (λ l. refl) (is_number n link.newer) (link_at two n)
+  newer_new n = ap (option_and_then (λ (node : Node). node.newer)) (closed n)
+      ∙ same_next (λ (node : Node). node.newer) (with_older node.older) (λ node. refl) (is_number n node.newer) (node_at two n)
 
-  some_one : (n : ℕ) → n ≢ k → is_some (link_at links n) ≡ true → is_some (link_at one n) ≡ true
+  some_one : (n : ℕ) → n ≢ k → is_some (node_at nodes n) ≡ true → is_some (node_at one n) ≡ true
   some_one n other some = ap is_some (stays n other) ∙ some
 
-  some_two : (n : ℕ) → n ≢ k → is_some (link_at links n) ≡ true → is_some (link_at two n) ≡ true
-  some_two n other some = ap is_some (joined n) ∙ still_some (is_number n link.older) (with_newer link.newer) (link_at one n)
+  some_two : (n : ℕ) → n ≢ k → is_some (node_at nodes n) ≡ true → is_some (node_at two n) ≡ true
+  some_two n other some = ap is_some (joined n) ∙ still_some (is_number n node.older) (with_newer node.newer) (node_at one n)
       (some_one n other some)
 
-  pub has_newest : is_first link ≡ true → IsSome (newest_in newest link.caller)
-  has_newest none = by (newest_in newest link.caller) (kept.is_newest link.caller k its_link (its_newer ∙ is_none_of link.newer none))
+  pub has_newest : is_newest node ≡ true → IsSome (newest_in newest node.row.caller)
+  has_newest none = by (newest_in newest node.row.caller)
+      (kept.linked.is_newest node.row.caller k its_caller (its_newer ∙ is_none_of node.newer none))
     where
       by : (o : Option ℕ) → o ≡ Some k → IsSome o
       by None e = absurd (clash e)
@@ -505,71 +543,72 @@ module _ (links one two new : Links) (newest : List (ℕ × ℕ)) (k : ℕ) (lin
       is_none_of None e = refl
       is_none_of (Some n) e = absurd (cc e)
 
-  pub has_removed : (x n : ℕ) → owns new x n ≡ (not (eqb k n) && owns links x n)
-  has_removed x n =
-      elim (cases_eq n k) [
-        | inl same ↦ rw (same, gone, eq-eqb k k refl) refl
-        | inr other ↦
-            rw (ne_eqb k n (λ same. other (sym same)))
-            (ap (is_of x) (closed n) ∙ older_unset (is_number n link.newer) (link_at two n) ∙ ap (is_of x) (joined n)
-            ∙ newer_unset (is_number n link.older) (link_at one n) ∙ ap (is_of x) (stays n other))
-      ]
+  takes : (n : ℕ) → lookup (eqb n) (rows_of new) ≡ cond (eqb k n) None (lookup (eqb n) (rows_of nodes))
+  takes n =
+      row_at new n ∙ ap (option_map row_part) (closed n)
+      ∙ same_of row_part (with_older node.older) (λ node. refl) (is_number n node.newer) (node_at two n)
+      ∙ ap (option_map row_part) (joined n)
+      ∙ same_of row_part (with_newer node.newer) (λ node. refl) (is_number n node.older) (node_at one n)
+      ∙ ap (option_map row_part) (cut n) ∙ by (eqb k n)
     where
-      older_unset : (b : Bool) (o : Option Link) → is_of x (set_to b (with_older link.older) o) ≡ is_of x o
-      older_unset true None = refl
-      older_unset true (Some l) = refl
-      older_unset false o = refl
+      by : (b : Bool) → option_map row_part (cond b None (node_at nodes n)) ≡ cond b None (lookup (eqb n) (rows_of nodes))
+      by true = refl
+      by false = sym (row_at nodes n)
 
-      newer_unset : (b : Bool) (o : Option Link) → is_of x (set_to b (with_newer link.newer) o) ≡ is_of x o
-      newer_unset true None = refl
-      newer_unset true (Some l) = refl
-      newer_unset false o = refl
+  rest_numbered : AreNumbered (rows_of new)
+  rest_numbered = removed_numbered (rows_of nodes) (rows_of new) k kept.numbered (once_rows new once) takes
 
-  module _ (newest' : List (ℕ × ℕ)) (renewed : (x : ℕ) → newest_in newest' x ≡ cond (is_first link && eqb link.caller x) link.older
+  pub is_removed : ordered (rows_of new) ≡ filter (λ (row : HandleRow). not (matches k row)) (ordered (rows_of nodes))
+  is_removed = removed_is (rows_of nodes) (rows_of new) k kept.numbered rest_numbered takes
+
+  module _ (newest' : List (ℕ × ℕ)) (renewed : (x : ℕ) → newest_in newest' x ≡ cond (is_newest node && eqb node.row.caller x) node.older
       (newest_in newest x)) where
-    removed_shrinks : Shrinks (holder_of links) (older_of links) (newer_of links) (newest_in newest) (holder_of new) (older_of new)
-        (newer_of new) (newest_in newest') k link.caller
+    removed_shrinks : Shrinks (holder_of nodes) (older_of nodes) (newer_of nodes) (newest_in newest) (holder_of new) (older_of new)
+        (newer_of new) (newest_in newest') k node.row.caller
     removed_shrinks = record {
-      caller_k = ap (option_map (λ (l : Link). l.caller)) gone;
+      caller_k = ap (option_map (λ (node : Node). node.row.caller)) gone;
       caller_n = same_caller;
-      older_k = ap (option_and_then (λ (l : Link). l.older)) gone;
+      older_k = ap (option_and_then (λ (node : Node). node.older)) gone;
       older_next = λ n other next.
-          ap (option_and_then (λ (l : Link). l.older)) (closed n ∙ ap (λ (b : Bool). set_to b (with_older link.older) (link_at two n))
-          (is_it_number link.newer n (sym its_newer ∙ next)))
-          ∙ older_set (link_at two n) link.older (some_two n other (some_older links n k (kept.back k n next))) ∙ sym its_older;
+          ap (option_and_then (λ (node : Node). node.older)) (closed n ∙ ap (λ (b : Bool). set_to b (with_older node.older) (node_at two n))
+          (is_it_number node.newer n (sym its_newer ∙ next)))
+          ∙ older_set (node_at two n) node.older (some_two n other (some_older nodes n k (kept.linked.back k n next))) ∙ sym its_older;
       older_n = λ n other isnt.
-          ap (option_and_then (λ (l : Link). l.older)) (closed n ∙ ap (λ (b : Bool). set_to b (with_older link.older) (link_at two n))
-          (isnt_number link.newer n (λ e. isnt (its_newer ∙ e))))
+          ap (option_and_then (λ (node : Node). node.older)) (closed n ∙ ap (λ (b : Bool). set_to b (with_older node.older) (node_at two n))
+          (isnt_number node.newer n (λ e. isnt (its_newer ∙ e))))
           ∙ older_two n other;
-      newer_k = ap (option_and_then (λ (l : Link). l.newer)) gone;
+      newer_k = ap (option_and_then (λ (node : Node). node.newer)) gone;
       newer_next = λ n other before.
-          newer_new n ∙ ap (option_and_then (λ (l : Link). l.newer)) (joined n
-          ∙ ap (λ (b : Bool). set_to b (with_newer link.newer) (link_at one n)) (is_it_number link.older n (sym its_older ∙ before)))
-          ∙ newer_set (link_at one n) link.newer (some_one n other (some_newer links n k (kept.forth n k before))) ∙ sym its_newer;
+          newer_new n ∙ ap (option_and_then (λ (node : Node). node.newer)) (joined n
+          ∙ ap (λ (b : Bool). set_to b (with_newer node.newer) (node_at one n)) (is_it_number node.older n (sym its_older ∙ before)))
+          ∙ newer_set (node_at one n) node.newer (some_one n other (some_newer nodes n k (kept.linked.forth n k before))) ∙ sym its_newer;
       newer_n = λ n other isnt.
-          newer_new n ∙ ap (option_and_then (λ (l : Link). l.newer)) (joined n
-          ∙ ap (λ (b : Bool). set_to b (with_newer link.newer) (link_at one n)) (isnt_number link.older n (λ e. isnt (its_older ∙ e)))
+          newer_new n ∙ ap (option_and_then (λ (node : Node). node.newer)) (joined n
+          ∙ ap (λ (b : Bool). set_to b (with_newer node.newer) (node_at one n)) (isnt_number node.older n (λ e. isnt (its_older ∙ e)))
           ∙ stays n other);
       newest_c = λ none.
-          renewed link.caller ∙ ap (λ (b : Bool). cond b link.older (newest_in newest link.caller))
-          (both (ap is_none (sym its_newer ∙ none)) (eq-eqb link.caller link.caller refl)) ∙ sym its_older;
-      newest_x = λ x other. renewed x ∙ ap (λ (b : Bool). cond b link.older (newest_in newest x)) (neither x other);
+          renewed node.row.caller ∙ ap (λ (b : Bool). cond b node.older (newest_in newest node.row.caller))
+          (both (ap is_none (sym its_newer ∙ none)) (eq-eqb node.row.caller node.row.caller refl)) ∙ sym its_older;
+      newest_x = λ x other. renewed x ∙ ap (λ (b : Bool). cond b node.older (newest_in newest x)) (neither x other);
     }
       where
         both : {a b : Bool} → a ≡ true → b ≡ true → (a && b) ≡ true
         both a b = rw (a, b) refl
 
-        neither : (x : ℕ) → (newer_of links k ≡ None → x ≡ link.caller → ⊥) → (is_first link && eqb link.caller x) ≡ false
-        neither x other = by link.newer its_newer
+        neither : (x : ℕ) → (newer_of nodes k ≡ None → x ≡ node.row.caller → ⊥) → (is_newest node && eqb node.row.caller x) ≡ false
+        neither x other = by node.newer its_newer
           where
-            by : (o : Option ℕ) → newer_of links k ≡ o → (is_none o && eqb link.caller x) ≡ false
-            by None e = ne_eqb link.caller x (λ same. other e (sym same))
+            by : (o : Option ℕ) → newer_of nodes k ≡ o → (is_none o && eqb node.row.caller x) ≡ false
+            by None e = ne_eqb node.row.caller x (λ same. other e (sym same))
             by (Some n) e = refl
 
-    pub removed : AreLinked new newest'
-    removed =
-        shrunk (holder_of links) (older_of links) (newer_of links) (newest_in newest) (holder_of new) (older_of new) (newer_of new)
-        (newest_in newest') k link.caller kept its_link removed_shrinks
+    pub removed : AreChained new newest'
+    removed = record {
+      numbered = rest_numbered;
+      linked =
+          shrunk (holder_of nodes) (older_of nodes) (newer_of nodes) (newest_in newest) (holder_of new) (older_of new) (newer_of new)
+          (newest_in newest') k node.row.caller kept.linked its_caller removed_shrinks;
+    }
 
 -- what holds where there is a value
 pub when_ok : {T E P : Type 0} (r : Result T E) → OnOk r P → IsOk r → P

@@ -239,16 +239,6 @@ fewer (row ∷ rows) gone n rising found =
 
 -- ## Numbers under their callers
 
-pub any_pushed : (p : HandleRow → Bool) (rows : List HandleRow) (new : HandleRow)
-    → list_any p (rows ++ new ∷ []) ≡ (p new || list_any p rows)
-any_pushed p [] new = refl
-any_pushed p (row ∷ rows) new = ap (λ b. p row || b) (any_pushed p rows new) ∙ swap (p row) (p new) (list_any p rows)
-  where
-    swap : (a b c : Bool) → (a || (b || c)) ≡ (b || (a || c))
-    swap true true c = refl
-    swap true false c = refl
-    swap false b c = refl
-
 any_later : (caller m n : ℕ) (rows : List HandleRow) → m ≤ n → AllByRecursion (λ (row : HandleRow). n < row.number) rows
     → list_any (is_handle caller m) rows ≡ false
 any_later caller m n [] le all = refl
@@ -262,32 +252,6 @@ its_number caller m row is = eqb-true row.number m (right (eqb row.caller caller
     right : (a b : Bool) → (a && b) ≡ true → b ≡ true
     right true b e = e
     right false b e = absurd (cc e)
-
--- with the handle with a number gone, the others are there still
-pub one_gone : (n : ℕ) (rows : List HandleRow) (caller m : ℕ) → list_any (is_handle caller m)
-    (filter (λ (row : HandleRow). not (matches n row)) rows) ≡ (not (eqb n m) && list_any (is_handle caller m) rows)
-one_gone n [] caller m = elim (eqb n m) as (λ b. false ≡ (not b && false)) [ true ↦ refl | false ↦ refl ]
-one_gone n (row ∷ rows) caller m =
-    elim (cases_Bool (matches n row)) [
-      | inl is ↦
-          rw is (one_gone n rows caller m ∙ elim (cases_Bool (eqb n m)) [
-            | inl same ↦ rw same refl
-            | inr apart ↦ rw (
-              apart,
-              both_false (eqb row.caller caller) (eqb row.number m) (ap (λ k. eqb k m) (eqb-true row.number n is)
-                  ∙ apart),
-            ) refl
-          ])
-      | inr isnt ↦
-          rw (isnt, one_gone n rows caller m) (elim (cases_Bool (eqb n m)) [
-            | inl same ↦ rw (
-              same,
-              both_false (eqb row.caller caller) (eqb row.number m) (ap (eqb row.number) (sym (eqb-true n m same))
-                  ∙ isnt),
-            ) refl
-            | inr apart ↦ rw apart refl
-          ])
-    ]
 
 -- a handle that is there has a number below those to come
 pub any_below : (caller n next : ℕ) (rows : List HandleRow) → AllByRecursion (λ (row : HandleRow). row.number < next) rows
@@ -318,6 +282,21 @@ held_row caller n (row ∷ rows) rising some =
           let rest = held_row caller n rows rising.1 (sym (ap (λ b. b || list_any (is_handle caller n) rows)
           (both_false (eqb row.caller caller) (eqb row.number n) other)) ∙ some) in
           (rest.0, (ap (λ b. cond b (Some row) (find (matches n) rows)) other ∙ rest.1), rest.2)
+    ]
+
+-- a row that is found is its caller's
+pub any_of : (caller n : ℕ) (rows : List HandleRow) (row : HandleRow) → find (matches n) rows ≡ Some row → eqb row.caller caller ≡ true
+    → list_any (is_handle caller n) rows ≡ true
+any_of caller n [] row found his = absurd (cc found)
+any_of caller n (other ∷ rows) row found his =
+    elim (cases_Bool (matches n other)) [
+      | inl is ↦ rw (
+        both_true (eqb other.caller caller) (eqb other.number n) is,
+        same_row n other row rows is found,
+        his,
+      ) refl
+      | inr isnt ↦ rw (both_false (eqb other.caller caller) (eqb other.number n) isnt)
+          (any_of caller n rows row (next_row n other row rows isnt found) his)
     ]
 
 -- who has no number has no handle

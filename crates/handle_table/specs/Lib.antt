@@ -1,5 +1,5 @@
+pub mod Chained
 pub mod Counted
 pub mod Handled
 pub mod Kept
-pub mod Linked
 pub mod Numbered

@@ -1,9 +1,8 @@
 //! The handles that callers hold: found by number, with a count for each service and each caller.
 #![tactic(auto)]
 
-mod by_caller;
-mod by_number;
 mod counts;
+mod rows;
 mod table;
 
 pub use table::HandleTable;

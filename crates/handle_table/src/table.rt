@@ -7,9 +7,8 @@ ghost use Rattle.scm_model.specs.Rows.{is_of_service};
 ghost use Rattle.row_slab.specs.Rowed.{AreRisingBy};
 ghost use Rattle.handle_table.specs.Handled.{matches, is_owned_by, is_handle, is_row_of};
 
-use super::by_caller::ByCaller;
-use super::by_number::ByNumber;
 use super::counts::Counts;
+use super::rows::HandleRows;
 use scm_model::{HandleKind, HandleRow};
 use scm_text::OutOfMemory;
 use std::alloc::Global;
@@ -19,10 +18,9 @@ use std::marker::Model;
 /// more there is room. A caller's rows are found without a look at those of others.
 #[derive(Drop)]
 pub struct HandleTable {
-    rows: ByNumber,
+    rows: HandleRows,
     services: Counts,
     callers: Counts,
-    held: ByCaller,
     next: u64,
 }
 
@@ -67,10 +65,9 @@ impl HandleTable {
         ensures next { result.next ≡ 1 }
     {
         HandleTable {
-            rows: ByNumber::new(alloc),
+            rows: HandleRows::new(alloc),
             services: Counts::new(alloc),
             callers: Counts::new(alloc),
-            held: ByCaller::new(alloc),
             next: 1,
         }
     }
@@ -93,8 +90,7 @@ impl HandleTable {
     {
         self.rows.reserve()?;
         self.services.reserve()?;
-        self.callers.reserve()?;
-        self.held.reserve()
+        self.callers.reserve()
     }
 
     /// Gives a caller a handle, and answers its number. It takes no memory.
@@ -111,7 +107,6 @@ impl HandleTable {
         let number = self.next;
         raise_kind(&mut self.services, kind);
         self.callers.raise(caller);
-        self.held.add(caller, number);
         self.rows.push(HandleRow {
             number,
             caller,
@@ -177,7 +172,6 @@ impl HandleTable {
         let row = self.rows.remove(number)?;
         lower_kind(&mut self.services, row.kind);
         self.callers.lower(row.caller);
-        self.held.remove(number);
         Some(row)
     }
 
@@ -214,6 +208,6 @@ impl HandleTable {
         ensures rising { AreRisingBy (λ row. row.number) self.now.rows }
     {
         let _len = self.rows.len();
-        self.held.newest_of(caller)
+        self.rows.newest_of(caller)
     }
 }

@@ -1,9 +1,9 @@
-use Rattle.std.proofs.Common.{◌&&◌, ℕ, ◌-◌, ◌∙◌, cond, not, sym, ap, refl, eqb}
+use Rattle.std.proofs.Common.{ℕ, ◌-◌, ◌∙◌, cond, not, sym, ap, refl, eqb}
 use Rattle.std.proofs.lemmas.Bool.{eq-eqb}
 use Rattle.scm_model.specs.declared.flat.HandleRow.{HandleRow}
 use Rattle.scm_model.specs.Rows.{is_of_service}
 use Rattle.handle_table.specs.Handled.{matches, is_owned_by, is_row_of}
-use Rattle.handle_table.proofs.Counting.{one_gone, one_at_least, lowered, stays_none, below_filter}
+use Rattle.handle_table.proofs.Counting.{one_at_least, lowered, stays_none, below_filter}
 use Rattle.handle_table.proofs.table.HandleTable.remove.Goals as goal
 
 pub invariant_of-self : goal.invariant_of-self
@@ -12,7 +12,6 @@ invariant_of-self c =
     rw same (record {
       services = c.self.invariant.services;
       callers = c.self.invariant.callers;
-      listed = c.self.invariant.listed;
       below = c.self.invariant.below;
     })
 
@@ -40,8 +39,5 @@ invariant_of-self-2 c =
       callers = λ (caller : ℕ).
           c.lower.ensures.counts caller ∙ ap (λ m. cond (eqb gone.caller caller) (m - 1) m) (c.self.invariant.callers caller)
           ∙ sym (lowered (is_owned_by caller) rows gone c.args.number rising found);
-      listed = λ (caller number : ℕ).
-          c.remove-2.ensures caller number ∙ ap (λ b. not (eqb c.args.number number) && b) (c.self.invariant.listed caller number)
-          ∙ sym (one_gone c.args.number rows caller number);
       below = below_filter c.self.inside.next (λ (row : HandleRow). not (matches c.args.number row)) rows c.self.invariant.below;
     })
