@@ -1,5 +1,5 @@
 ghost use Rattle.std.specs.Prelude.{◌≡◌, ◌<◌, ◌==◌, ◌++◌, ◌∷◌, [], length, drop, take};
-ghost use Rattle.std.specs.Prelude.{option_to_list};
+ghost use Rattle.std.specs.Prelude.{filter, not, option_to_list};
 
 use arrayvec::ArrayVec;
 use scm_model::Order;
@@ -68,5 +68,12 @@ impl Controls {
             return None;
         }
         Some(self.orders.remove(0))
+    }
+
+    /// The orders of a service no longer wait.
+    pub fn release(&mut self, service: u64)
+        ensures { self.new ≡ filter (λ order. not (order.service == service)) self.old }
+    {
+        self.orders.retain(|order| order.service != service);
     }
 }

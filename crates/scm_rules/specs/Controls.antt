@@ -1,6 +1,6 @@
 -- RControlService: a control that waits for a service's process.
-use Rattle.std.specs.Prelude.{ℕ, Bool, not, ◌&&◌, ◌||◌, ◌==◌, ◌++◌, ◌-◌, ◌^◌, min, nat_lt, List, [], ◌∷◌, Option, None, Some, drop, filter}
-use Rattle.std.specs.Prelude.{length, map, option_map, if◌then◌else◌}
+use Rattle.std.specs.Prelude.{ℕ, Bool, false, not, ◌&&◌, ◌||◌, ◌==◌, ◌++◌, ◌+◌, ◌-◌, ◌^◌, min, nat_lt, List, [], ◌∷◌, Option, None, Some, drop, filter}
+use Rattle.std.specs.Prelude.{find, length, map, option_map, if◌then◌else◌}
 use Rattle.std.specs.List.{list_any}
 use Rattle.scm_model.specs.declared.flat.Flat.{Flat}
 use Rattle.scm_model.specs.declared.flat.Limits.{Limits}
@@ -21,7 +21,7 @@ use Rattle.scm_model.specs.declared.codes.TheConstants.{ERROR_INVALID_SERVICE_CO
 use Rattle.scm_model.specs.declared.codes.TheConstants.{ERROR_SERVICE_NOT_ACTIVE, SERVICE_STOPPED}
 use Rattle.control_dispatch.specs.Judging.{judge}
 use Rattle.dependency_index.specs.Naming.{is_for}
-use Rattle.scm_rules.specs.Launches.{process_of}
+use Rattle.scm_rules.specs.Launches.{is_by, process_of}
 use Rattle.scm_rules.specs.Query.{status_in}
 
 -- ## Controls that wait
@@ -34,18 +34,30 @@ controls_in (Some row) = row.controls
 abbrev pub controls_of : Flat → ℕ → List Order
 controls_of f process = controls_in (process_of f process)
 
--- how many wait for a process that is listed
-abbrev pub waiting : Flat → ℕ → Option ℕ
-waiting f process = option_map (λ (row : Process). length row.controls) (process_of f process)
-
 -- the order that waits first
 abbrev pub first_control : List Order → Option Order
 first_control [] = None
 first_control (order ∷ orders) = Some order
 
--- whether an order waits
-abbrev pub waits : List Order → Bool
-waits orders = nat_lt 0 (length orders)
+-- whether this is a service's process, which is still to be sent that the service is to start
+abbrev pub is_asked_by : ℕ → Service → Bool
+is_asked_by process row = is_by process row && row.asked
+
+abbrev pub first_asked : Flat → ℕ → Option Service
+first_asked f process = find (is_asked_by process) f.services
+
+-- what is sent to a process next: that a service is to start, the first in order, which has code 0, and else the order that waits first
+abbrev pub next_by : Option Service → Option Order → Option Order
+next_by None order = order
+next_by (Some row) order = Some (record { service = row.number; code = 0 })
+
+abbrev pub next_order : Flat → ℕ → Option Order
+next_order f process = next_by (first_asked f process) (first_control (controls_of f process))
+
+-- how many services to start and orders are still to be sent to a process that is listed
+abbrev pub waiting : Flat → ℕ → Option ℕ
+waiting f process =
+    option_map (λ (row : Process). length row.controls + length (filter (is_asked_by process) f.services)) (process_of f process)
 
 -- a control for a service, as its process receives it
 abbrev pub order_to : ℕ → ℕ → Order
@@ -62,17 +74,33 @@ with_control l f process order = record f { processes = map (controlled_if l.con
 abbrev pub dequeued_if : ℕ → Process → Process
 dequeued_if process row = if row.number == process then record row { controls = drop 1 row.controls } else row
 
+-- the service with this number is asked no more
+abbrev pub unasked_if : ℕ → Service → Service
+unasked_if number row = if row.number == number then record row { asked = false } else row
+
+-- the service that was found is asked no more
+abbrev pub unasked_in : Option Service → List Service → List Service
+unasked_in = if_found (λ (row : Service). map (unasked_if row.number))
+
+-- where none was found, the order that waits first leaves
+abbrev pub dequeued_in : Option Service → ℕ → List Process → List Process
+dequeued_in None process rows = map (dequeued_if process) rows
+dequeued_in (Some row) process rows = rows
+
+-- what is sent first is taken
 abbrev pub with_control_taken : Flat → ℕ → Flat
-with_control_taken f process = record f { processes = map (dequeued_if process) f.processes }
+with_control_taken f process = record f {
+  services = unasked_in (first_asked f process) f.services;
+  processes = dequeued_in (first_asked f process) process f.processes;
+}
 
 -- the answer when an order is taken: the order, or Done if none waits
 abbrev pub control_sent : Option Order → Answer
 control_sent None = answer.Done
 control_sent (Some order) = answer.Control order
 
--- takes the order that waits first
 abbrev pub control_taken : Flat → ℕ → StepResult
-control_taken f process = record { answer = control_sent (first_control (controls_of f process)); flat = with_control_taken f process }
+control_taken f process = record { answer = control_sent (next_order f process); flat = with_control_taken f process }
 
 -- ## The call
 

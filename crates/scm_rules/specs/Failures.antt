@@ -1,5 +1,5 @@
 -- Failures of services: how they are counted, and what becomes due by them.
-use Rattle.std.specs.Prelude.{ℕ, Bool, not, ◌&&◌, ◌==◌, ◌+◌, ◌-◌, ◌^◌, min, Option, None, Some, map, option_and_then, if◌then◌else◌}
+use Rattle.std.specs.Prelude.{ℕ, Bool, not, ◌&&◌, ◌==◌, ◌+◌, ◌-◌, ◌^◌, min, List, [], ◌∷◌, Option, None, Some, map, option_and_then, if◌then◌else◌}
 use Rattle.scm_model.specs.declared.flat.Action.{Action}
 use Rattle.scm_model.specs.declared.flat.DueKind.{DueKind}
 use Rattle.scm_model.specs.declared.flat.Flat.{Flat}
@@ -35,6 +35,11 @@ abbrev pub with_failure : Service → Flat → Flat
 with_failure row f =
     if_found (with_action row.number) (on_failure row.config row.failures row.last_failure f.moment).action
     (record f { services = map (counted_if row.number f.moment) f.services })
+
+-- one failure after another, each of a service as it stood before
+abbrev pub all_failed : List Service → Flat → Flat
+all_failed [] f = f
+all_failed (row ∷ rows) f = all_failed rows (with_failure row f)
 
 -- whether a report that is taken is a failure of the service: it stops with an error, which counts with this service
 abbrev pub is_failure : Status → Service → Bool

@@ -1,5 +1,5 @@
 -- Processes: what is launched, and what becomes of it.
-use Rattle.std.specs.Prelude.{ℕ, Bool, false, true, not, ◌==◌, List, [], ◌∷◌, Option, None, Some, find, filter, map, option_and_then}
+use Rattle.std.specs.Prelude.{ℕ, Bool, false, true, not, ◌==◌, List, [], ◌∷◌, Option, None, Some, filter, map, option_and_then}
 use Rattle.std.specs.Prelude.{if◌then◌else◌}
 use Rattle.scm_model.specs.declared.flat.Flat.{Flat}
 use Rattle.scm_model.specs.declared.flat.Phase.{Phase}
@@ -13,9 +13,9 @@ use Rattle.scm_model.specs.declared.steps.Answer.TheVariants as answer
 use Rattle.scm_model.specs.Found.{if_found}
 use Rattle.scm_model.specs.Notices.{notified_of_move}
 use Rattle.scm_model.specs.Outcomes.{StepResult}
-pub use Rattle.scm_model.specs.Processes.{is_launched, is_running_phase, process_of, service_of_process}
+pub use Rattle.scm_model.specs.Processes.{currents, currents_in, is_by, is_launched, is_running_phase, process_of, service_of_process}
 use Rattle.scm_model.specs.Rows.{service_of}
-use Rattle.start_plan.specs.Decided.{aims_at, decided_in}
+use Rattle.start_plan.specs.Decided.{aims_among, decided_in}
 use Rattle.status_machine.specs.Moves.{take_end}
 
 -- ## Reads
@@ -60,27 +60,30 @@ without_process f number = record f {
   wanted = wanted_of_others number f.wanted;
 }
 
--- a service falls whose current process this is: it is STOPPED, with this code
+-- ## Falls
+
+-- a service falls: it is STOPPED, with this code, and has no process
+abbrev pub fallen : ℕ → Service → Service
+fallen code row = record row { status = take_end row.status code; process = 0; asked = false }
+
+-- each service falls whose current process this is
 abbrev pub fallen_if : ℕ → ℕ → Service → Service
-fallen_if process code row = if row.process == process then record row { status = take_end row.status code; process = 0 } else row
+fallen_if process code row = if is_by process row then fallen code row else row
 
--- the service whose current process this is
-abbrev pub current_of : Flat → ℕ → Option Service
-current_of f process = find (λ (row : Service). row.process == process) f.services
-
--- registrations are notified that a service fell, which no longer has a process
-abbrev pub notified_of_fall : ℕ → ℕ → Option Service → List Registration → List Registration
-notified_of_fall process code = if_found (λ row. notified_of_move 0 row (fallen_if process code row))
+-- registrations are notified that services fell, one after another
+abbrev pub notified_of_falls : ℕ → List Service → List Registration → List Registration
+notified_of_falls code [] rows = rows
+notified_of_falls code (row ∷ others) rows = notified_of_falls code others (notified_of_move 0 row (fallen code row) rows)
 
 abbrev pub with_fallen : Flat → ℕ → ℕ → Flat
 with_fallen f process code = record f {
   services = map (fallen_if process code) f.services;
-  registrations = notified_of_fall process code (current_of f process) f.registrations;
+  registrations = notified_of_falls code (currents process f.services) f.registrations;
 }
 
--- the undecided plans with this target, if any, are decided
-abbrev pub with_decided : Flat → Option ℕ → ℕ → Flat
-with_decided f target code = record f { plans = if_found (λ service. decided_in (aims_at service) code) target f.plans }
+-- the undecided plans are decided that aim at a service whose current process this is
+abbrev pub with_decided_for : Flat → ℕ → ℕ → Flat
+with_decided_for f process code = record f { plans = decided_in (aims_among (currents_in process f.services)) code f.plans }
 
 -- ## What is launched
 
@@ -115,10 +118,10 @@ launch_taken f = record {
   };
 }
 
--- a process is launched, and the starts of its service succeed
+-- a process is launched, and the starts of its services succeed
 abbrev pub launched : Flat → ℕ → ℕ → Flat
-launched f process pid = with_decided (with_launched f process pid) (service_of_process f process) 0
+launched f process pid = with_decided_for (with_launched f process pid) process 0
 
--- a launch failed: the starts of its service fail, the service falls, and the process leaves
+-- a launch failed: the starts of its services fail, the services fall, and the process leaves
 abbrev pub launch_failed : Flat → ℕ → ℕ → Flat
-launch_failed f process code = without_process (with_fallen (with_decided f (service_of_process f process) code) process code) process
+launch_failed f process code = without_process (with_fallen (with_decided_for f process code) process code) process

@@ -1,7 +1,8 @@
 -- RSetServiceStatus, and what a process tells of its service.
-use Rattle.std.specs.Prelude.{ℕ, Bool, false, not, ◌&&◌, ◌==◌, List, [], ◌∷◌, Option, None, Some, Result, Ok, Err, is_none, map}
-use Rattle.std.specs.Prelude.{if◌then◌else◌}
+use Rattle.std.specs.Prelude.{ℕ, Bool, false, not, ◌&&◌, ◌==◌, List, [], ◌∷◌, Option, None, Some, Result, Ok, Err, filter, find, is_none, map}
+use Rattle.std.specs.Prelude.{unwrap_or, if◌then◌else◌}
 use Rattle.scm_model.specs.declared.flat.Flat.{Flat}
+use Rattle.scm_model.specs.declared.flat.Order.{Order}
 use Rattle.scm_model.specs.declared.flat.Process.{Process}
 use Rattle.scm_model.specs.declared.flat.Registration.{Registration}
 use Rattle.scm_model.specs.declared.flat.Service.{Service}
@@ -18,36 +19,69 @@ use Rattle.scm_model.specs.declared.codes.TheConstants.{ERROR_ACCESS_DENIED, ERR
 use Rattle.scm_model.specs.declared.codes.TheConstants.{SERVICE_STOPPED}
 use Rattle.status_machine.specs.Moves.{take_report, takes}
 use Rattle.scm_rules.specs.Failures.{failed_by, with_failure}
-use Rattle.scm_rules.specs.Launches.{is_launched, process_of}
-pub use Rattle.scm_rules.specs.Launches.{current_of}
+use Rattle.scm_rules.specs.Launches.{is_by, is_launched, process_of, service_of_process}
 use Rattle.scm_rules.specs.Rights.{lacks}
 use Rattle.scm_model.specs.declared.calls.Request.TheVariants as request
 
 -- ## Reports
 
+-- the number of the service that a report of a process names; 0 names the one that the process was launched for
+abbrev pub reporter : Flat → ℕ → ℕ → ℕ
+reporter f process service = if service == 0 then unwrap_or (service_of_process f process) 0 else service
+
+-- whether a report of a process names a service, and this is its current process
+abbrev pub is_reporter : Flat → ℕ → ℕ → Service → Bool
+is_reporter f process service row = row.number == reporter f process service && is_by process row
+
+abbrev pub reporting : Flat → ℕ → ℕ → Option Service
+reporting f process service = find (is_reporter f process service) f.services
+
 -- a service that is STOPPED has no process any more
 abbrev pub process_in_state : ℕ → ℕ → ℕ
 process_in_state state process = if state == SERVICE_STOPPED then 0 else process
 
--- a report that is taken replaces the status
+-- a report that is taken replaces the status; a service that is STOPPED isn't asked to start any more
 abbrev pub moved_by : Service → Result Status ℕ → Service
-moved_by row (Ok status) = record row { status = status; process = process_in_state status.state row.process }
+moved_by row (Ok status) = record row {
+  status = status;
+  process = process_in_state status.state row.process;
+  asked = row.asked && not (status.state == SERVICE_STOPPED);
+}
 moved_by row (Err code) = row
 
+-- the service with this number takes the report
 abbrev pub reported_if : ℕ → Status → Service → Service
-reported_if process report row = if row.process == process then moved_by row (take_report row.status report) else row
+reported_if number report row = if row.number == number then moved_by row (take_report row.status report) else row
 
 -- registrations are notified of the state that a report brings a service to
 abbrev pub notified_of_report : List Process → Status → Option Service → List Registration → List Registration
 notified_of_report processes report =
-    if_found (λ row. notified_of_move (pid_of processes (reported_if row.process report row)) row (reported_if row.process report row))
+    if_found (λ row. notified_of_move (pid_of processes (reported_if row.number report row)) row (reported_if row.number report row))
 
--- the service whose current process this is takes the report, which may be a failure of it
-abbrev pub with_report : Flat → ℕ → Status → Flat
-with_report f process report =
-    if_found with_failure (failed_by report (current_of f process)) (record f {
-      services = map (reported_if process report) f.services;
-      registrations = notified_of_report f.processes report (current_of f process) f.registrations;
+-- the orders of a service leave its process, where others may live there too
+abbrev pub released_if : ℕ → ℕ → Process → Process
+released_if process service row =
+    if row.number == process && row.shared
+    then record row { controls = filter (λ (order : Order). not (order.service == service)) row.controls } else row
+
+-- whether a service takes a report that stops it
+abbrev pub is_stopped_by : Status → Service → Bool
+is_stopped_by report row = takes row.status report && report.state == SERVICE_STOPPED
+
+abbrev pub released_by : Status → Service → List Process → List Process
+released_by report row processes = if is_stopped_by report row then map (released_if row.process row.number) processes else processes
+
+-- the services with a report taken by the one that was found
+abbrev pub reported_in : Status → Option Service → List Service → List Service
+reported_in report = if_found (λ row. map (reported_if row.number report))
+
+-- the service, if there is one, takes the report of its current process, which may be a failure of it
+abbrev pub with_report_of : Flat → Option Service → Status → Flat
+with_report_of f service report =
+    if_found with_failure (failed_by report service) (record f {
+      services = reported_in report service f.services;
+      processes = if_found (released_by report) service f.processes;
+      registrations = notified_of_report f.processes report service f.registrations;
     })
 
 -- how a report of the current process is answered
@@ -55,13 +89,16 @@ abbrev pub report_answer : Result Status ℕ → Answer
 report_answer (Ok status) = answer.Done
 report_answer (Err code) = answer.Refused code
 
--- a report of a process that is not its service's current one is stale
+-- a report is stale that names no service whose current process it is
 abbrev pub report_told : Option Service → Status → Answer
 report_told None report = answer.Stale
 report_told (Some row) report = report_answer (take_report row.status report)
 
-abbrev pub reported : Flat → ℕ → Status → StepResult
-reported f process report = record { answer = report_told (current_of f process) report; flat = with_report f process report }
+abbrev pub reported : Flat → ℕ → ℕ → Status → StepResult
+reported f process service report = record {
+  answer = report_told (reporting f process service) report;
+  flat = with_report_of f (reporting f process service) report;
+}
 
 -- ## A report by a call
 
@@ -79,18 +116,6 @@ set_status_refusals f caller handle report =
 
 abbrev pub set_status_verdict : Flat → ℕ → ℕ → Status → ℕ
 set_status_verdict f caller handle report = first_refusal (set_status_refusals f caller handle report)
-
--- the services with a report taken by the one that was found
-abbrev pub reported_in : Status → Option Service → List Service → List Service
-reported_in report = if_found (λ row. map (reported_if row.process report))
-
--- the service, if there is one, takes a report as if its current process had made it
-abbrev pub with_report_of : Flat → Option Service → Status → Flat
-with_report_of f service report =
-    if_found with_failure (failed_by report service) (record f {
-      services = reported_in report service f.services;
-      registrations = notified_of_report f.processes report service f.registrations;
-    })
 
 abbrev pub set_status_done : Flat → ℕ → ℕ → Status → CallResult
 set_status_done f caller handle report = record { reply = reply.Code 0; flat = with_report_of f (held_service f caller handle) report }

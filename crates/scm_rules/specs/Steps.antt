@@ -22,7 +22,7 @@ use Rattle.scm_model.specs.Outcomes.{StepResult}
 use Rattle.scm_model.specs.Ranges.{in_range}
 use Rattle.start_plan.specs.Decided.{code_of, without_plans_of}
 use Rattle.start_plan.specs.Settle.{settled}
-use Rattle.scm_rules.specs.Controls.{control_taken, controls_of, waits}
+use Rattle.scm_rules.specs.Controls.{control_taken, next_order}
 use Rattle.scm_rules.specs.Launches.{is_launched, is_taken, launch_failed, launch_taken, launched, process_of}
 use Rattle.scm_rules.specs.Reports.{reported}
 use Rattle.scm_rules.specs.Ends.{process_ended}
@@ -66,7 +66,7 @@ effect_of l f (EndStart caller plan) = record {
 effect_of l f LaunchTaken = launch_taken f
 effect_of l f (Launched process pid) = record { answer = answer.Done; flat = launched f process pid }
 effect_of l f (LaunchFailed process code) = record { answer = answer.Done; flat = launch_failed f process code }
-effect_of l f (Report process service status) = reported f process status
+effect_of l f (Report process service status) = reported f process service status
 effect_of l f (Ended process) = process_ended f process
 effect_of l f (ControlTaken process) = control_taken f process
 effect_of l f Tick = record { answer = answer.Done; flat = ticked l f }
@@ -128,10 +128,9 @@ may_come l f moment (EndStart caller plan) = is_caller f caller && can_end f cal
 may_come l f moment LaunchTaken = wants_launch f.wanted
 may_come l f moment (Launched process pid) = is_taken (process_of f process)
 may_come l f moment (LaunchFailed process code) = is_taken (process_of f process) && not (code == 0)
--- no line names a service yet
-may_come l f moment (Report process service status) = service == 0 && is_launched (process_of f process)
+may_come l f moment (Report process service status) = is_launched (process_of f process)
 may_come l f moment (Ended process) = is_launched (process_of f process)
-may_come l f moment (ControlTaken process) = waits (controls_of f process)
+may_come l f moment (ControlTaken process) = is_some (next_order f process)
 may_come l f moment Tick = list_any (is_due (max f.moment moment)) f.dues
 may_come l f moment (Raised caller subtype) = is_caller f caller
 may_come l f moment (Gone caller) = is_caller f caller

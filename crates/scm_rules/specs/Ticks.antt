@@ -1,5 +1,5 @@
 -- What is due takes place.
-use Rattle.std.specs.Prelude.{ℕ, Bool, true, not, ◌&&◌, ◌==◌, ◌+◌, ◌-◌, ◌^◌, ◌++◌, min, nat_lt, zero, suc, List, [], ◌∷◌, filter, length}
+use Rattle.std.specs.Prelude.{ℕ, Bool, false, true, not, ◌&&◌, ◌==◌, ◌+◌, ◌-◌, ◌^◌, ◌++◌, min, nat_lt, zero, suc, List, [], ◌∷◌, filter, length}
 use Rattle.std.specs.Prelude.{if◌then◌else◌}
 use Rattle.scm_model.specs.declared.flat.Due.{Due}
 use Rattle.scm_model.specs.declared.flat.DueKind.{DueKind}
@@ -37,7 +37,7 @@ wanted_command process command = record { process = process; command = true; wor
 -- a process of no service, which is to be launched
 abbrev pub with_wanted_command : List ℕ → Flat → Flat
 with_wanted_command command f = record f {
-  processes = f.processes ++ wanted_process f.next.process 0 ∷ [];
+  processes = f.processes ++ wanted_process f.next.process 0 false ∷ [];
   wanted = f.wanted ++ wanted_command f.next.process command ∷ [];
   next = record f.next { process = f.next.process + 1 };
 }

@@ -1,7 +1,7 @@
 -- What is true of every state that a run reaches.
-use Rattle.std.specs.Prelude.{ℕ, Bool, ◌≡◌, ◌<◌, ◌≤◌, true, false, ◌==◌, ◌||◌, ◌&&◌, IsTrue, IfSome, None, List, AllPairs, All, filter}
+use Rattle.std.specs.Prelude.{ℕ, Bool, ◌≡◌, ◌<◌, ◌≤◌, true, false, not, ◌==◌, ◌||◌, ◌&&◌, IsTrue, IfSome, None, List, AllPairs, All, filter, find}
 use Rattle.std.specs.Prelude.{is_none, length, map}
-use Rattle.std.specs.List.{list_any}
+use Rattle.std.specs.List.{list_all, list_any}
 use Rattle.scm_text.specs.Fold.{same_text}
 use Rattle.scm_model.specs.declared.flat.Flat.{Flat}
 use Rattle.scm_model.specs.declared.flat.Limits.{Limits}
@@ -28,7 +28,7 @@ use Rattle.scm_model.specs.Walks.{IsAcyclic}
 use Rattle.service_record.specs.Checks.{check_new}
 use Rattle.start_plan.specs.Settle.{is_due_still, settled, stays}
 use Rattle.start_plan.specs.Started.{TriedOnce}
-use Rattle.scm_rules.specs.Launches.{is_running_phase}
+use Rattle.scm_model.specs.Processes.{is_by, is_running_phase, is_shared}
 use Rattle.scm_rules.specs.Needs.{need_rows}
 use Rattle.scm_rules.specs.Due.{is_due_of}
 
@@ -74,9 +74,18 @@ HasListed processes row = (row.process == 0 || has_process processes row.process
 abbrev pub is_started_by : Process → Service → Bool
 is_started_by process row = row.number == process.service && row.process == process.number && row.status.state == SERVICE_START_PENDING
 
--- until a service's process is launched, it is that service's current one, which is START_PENDING
+-- whether a service is START_PENDING where this is its current process
+abbrev pub starts_if_by : Process → Service → Bool
+starts_if_by process row = not (is_by process.number row) || row.status.state == SERVICE_START_PENDING
+
+-- until a service's process is launched, it is that service's current one, and each service whose current one it is is START_PENDING
 abbrev pub HasStarting : List Service → Process → Type 0
-HasStarting services row = (row.service == 0 || is_running_phase row.phase || list_any (is_started_by row) services) ≡ true
+HasStarting services row =
+    (row.service == 0 || is_running_phase row.phase || list_any (is_started_by row) services && list_all (starts_if_by row) services) ≡ true
+
+-- a service is asked to start by a process that other services may live in too
+abbrev pub IsAskedRight : List Process → Service → Type 0
+IsAskedRight processes row = row.asked ≡ true → is_shared (find (λ (p : Process). p.number == row.process) processes) ≡ true
 
 -- ## Plans
 
@@ -137,6 +146,7 @@ pub record IsValid (l : Limits) (f : Flat) : Type 0 where
   pub current : All (HasListed f.processes) f.services
   pub wanted : map (λ (row : Wanted). row.process) f.wanted ≡ map (λ (row : Process). row.number) (filter is_to_launch f.processes)
   pub starting : All (HasStarting f.services) f.processes
+  pub asked : All (IsAskedRight f.processes) f.services
   -- plans try no service twice; an undecided one has one deadline, a decided one has a caller, and no other deadline stands
   pub tried : TriedOnce f.plans
   pub known : All (HasCaller f) f.plans
