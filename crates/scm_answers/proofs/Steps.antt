@@ -1,5 +1,5 @@
 -- What each step is told answers its request.
-use Rattle.std.proofs.Common.{ℕ, ◌≡◌, ◌==◌, Bool, true, false, cond, IsTrue, List, Option, None, Some, Result, Ok, Err, refl}
+use Rattle.std.proofs.Common.{ℕ, ◌≡◌, ◌==◌, Bool, true, false, cond, IsTrue, List, [], ◌∷◌, Option, None, Some, Result, Ok, Err, refl}
 use Rattle.std.specs.Prelude.{All}
 use Rattle.scm_model.specs.declared.flat.Flat.{Flat}
 use Rattle.scm_model.specs.declared.flat.Limits.{Limits}
@@ -23,11 +23,11 @@ use Rattle.scm_calls.specs.declared.kinds.ReplyKind.{ReplyKind}
 use Rattle.scm_calls.specs.declared.kinds.ReplyKind.TheVariants as kind
 use Rattle.scm_calls.specs.Replies.{Fits, kind_of}
 use Rattle.status_machine.specs.Moves.{take_report}
-use Rattle.scm_rules.specs.Controls.{control_sent, control_taken, controls_of, first_control}
-use Rattle.scm_rules.specs.Launches.{first_wanted, launch_taken, launch_told}
+use Rattle.scm_rules.specs.Controls.{control_sent, control_taken, next_order}
+use Rattle.scm_rules.specs.Launches.{currents, first_wanted, launch_taken, launch_told}
 use Rattle.scm_rules.specs.Ends.{end_told, process_ended}
 use Rattle.scm_rules.specs.Raise.{raise_verdict}
-use Rattle.scm_rules.specs.Reports.{current_of, report_answer, report_told, reported}
+use Rattle.scm_rules.specs.Reports.{report_answer, report_told, reported, reporting}
 use Rattle.scm_rules.specs.Start.{start_done, start_verdict}
 use Rattle.scm_rules.specs.Valid.{HasShortName}
 use Rattle.scm_rules.specs.Steps.{call_answer, answered_by, finished, may, step_of}
@@ -80,9 +80,9 @@ report_untold : (g : Flat) (found : Option Service) (report : Status) → HasNoR
 report_untold g None report = tt
 report_untold g (Some row) report = report_answered g (take_report row.status report)
 
-end_untold : (g : Flat) (found : Option Service) → HasNoReply (finished g (end_told found)).answer
-end_untold g None = tt
-end_untold g (Some row) = tt
+end_untold : (g : Flat) (falling : List Service) → HasNoReply (finished g (end_told falling)).answer
+end_untold g [] = tt
+end_untold g (row ∷ rows) = tt
 
 -- nor has what is taken in hand
 launch_untold : (g : Flat) (found : Option ℕ) → HasNoReply (finished g (launch_told found)).answer
@@ -100,12 +100,12 @@ answers_step l f moment (Call caller asked append) s ok = answers_call l f momen
 answers_step l f moment (EndStart caller plan) s ok = λ handle words. (refl, tt)
 answers_step l f moment LaunchTaken s ok = launch_untold (settled l (launch_taken (with_moment f moment)).flat) (first_wanted f.wanted)
 answers_step l f moment (ControlTaken process) s ok = control_untold (settled l (control_taken (with_moment f moment) process).flat)
-    (first_control (controls_of f process))
+    (next_order f process)
 answers_step l f moment (Report process service status) s ok = report_untold
-    (settled l (reported (with_moment f moment) process status).flat)
-    (current_of f process) status
+    (settled l (reported (with_moment f moment) process service status).flat)
+    (reporting f process service) status
 answers_step l f moment (Ended process) s ok = end_untold (settled l (process_ended (with_moment f moment) process).flat)
-    (current_of f process)
+    (currents process f.services)
 answers_step l f moment (Raised caller subtype) s ok = (raise_verdict f caller, refl)
 answers_step l f moment step s ok = tt
 

@@ -101,10 +101,10 @@ module _ (l : Limits) (n : ℕ) (look : ℕ → Live) (i process plan due : ℕ)
   begins entries is = ap (λ o. if_found (with_start 1 []) o rest) held_is ∙ ap begun is
 
   pub asks : (t : ℕ) (more : List ℕ) → start_order rest i ≡ t ∷ more → t / 2 ≡ 0 → 0 < t → t ≤ n → 0 < l.processes
-      → Goes l rest (asked_start i ∷ []) (under_way n (at_one look t (pending process)) (wanted_process process t ∷ [])
+      → Goes l rest (asked_start i ∷ []) (under_way n (at_one look t (pending process)) (wanted_process process t false ∷ [])
       (wanted_row process [] ∷ []) plan i (t ∷ more) (t ∷ []) (process + 1) due)
   asks t more is half first within space =
-      let g = under_way n (at_one look t (pending process)) (wanted_process process t ∷ []) (wanted_row process [] ∷ []) plan i (t ∷ more)
+      let g = under_way n (at_one look t (pending process)) (wanted_process process t false ∷ []) (wanted_row process [] ∷ []) plan i (t ∷ more)
       (t ∷ []) (process + 1) due in
       goes_one l rest g (Call 1 asked appended.NotAsked) refl refl
       (stepped l rest (Call 1 asked appended.NotAsked) (record { answer = answer.Begun plan; flat = begun (t ∷ more) }) g g

@@ -1,5 +1,5 @@
 -- All services of a start are launched, one after another.
-use Rattle.std.proofs.Common.{eqb, ℕ, zero, suc, ◌≡◌, ◌∙◌, ◌+◌, ◌/◌, ◌<◌, ◌≤◌, ◌^◌, ◌==◌, ◌||◌, ◌&&◌, ◌⊎◌, inl, inr, true, false, cond}
+use Rattle.std.proofs.Common.{eqb, ℕ, zero, suc, ◌≡◌, ◌∙◌, ◌+◌, ◌/◌, ◌<◌, ◌≤◌, ◌^◌, ◌==◌, ◌||◌, ◌&&◌, ◌⊎◌, inr, true, false, cond}
 use Rattle.std.proofs.Common.{List, [], ◌∷◌, ◌++◌, length, ap, sym, refl, subst, arith, ne_eqb, eq-eqb}
 use Rattle.std.proofs.lemmas.Bool.{or_from}
 use Rattle.std.proofs.lemmas.List.Folds.{list_any-append}
@@ -9,14 +9,16 @@ use Rattle.scm_model.specs.declared.steps.Step.TheVariants.{LaunchTaken, Launche
 use Rattle.scm_model.specs.Entries.{Entry}
 use Rattle.start_plan.specs.Entered.{wanted_process, wanted_row}
 use Rattle.scm_rules.specs.Launches.{is_launched}
-use Rattle.scm_rules.specs.Reports.{current_of, report_told}
+use Rattle.scm_rules.specs.Reports.{report_told, reporting}
 use Rattle.scm_generate.specs.Listed.{at_once, told, up, ups}
 use Rattle.scm_generate.proofs.Goes.{Goes, all_stay, goes_both, goes_on, goes_one, stepped}
 use Rattle.scm_generate.proofs.Graph.{Climbs}
-use Rattle.scm_generate.proofs.Launching.{Climbing, IsRun, goes_up, launched_found, length_ran, ran, reports_all, takes, taking}
-use Rattle.scm_generate.proofs.Launching.{told_report, up_last}
+use Rattle.scm_generate.proofs.Launching.{Climbing, goes_up, launched_found, length_ran, ran, reports_all, reports_of, takes, taking}
+use Rattle.scm_generate.proofs.Launching.{told_report, unreleased_ran, up_last}
+use Rattle.scm_generate.proofs.Owned.{IsRun, Owned, RunsIn, below_apart, below_more, owned_beside, owned_same, stopped, stopped_rests}
+use Rattle.scm_generate.proofs.Owned.{weaker_on}
 use Rattle.scm_generate.proofs.Settling.{HasUp, IsAtRest, at_one, decided, enters_next, pending, runs, under_way}
-use Rattle.scm_generate.proofs.Shape.{Live, rows}
+use Rattle.scm_generate.proofs.Shape.{Live, row_at, rows}
 use Rattle.scm_generate.proofs.Untold.{report_alone}
 use Rattle.scm_text.specs.Numbers.{has}
 
@@ -24,16 +26,8 @@ use Rattle.scm_text.specs.Numbers.{has}
 abbrev pub Untried : List ℕ → ℕ → Type 0
 Untried tried s = (k : ℕ) → s < k → has tried k ≡ false
 
-weaker_on : (first p q : ℕ) (live : Live) → p ≤ q → IsAtRest live ⊎ IsRun first p live → IsAtRest live ⊎ IsRun first q live
-weaker_on first p q live le (inl rests) = inl rests
-weaker_on first p q live le (inr run) = inr (record {
-  status = run.status;
-  low = run.low;
-  high = (let h = run.high in omega (arith, h, le));
-})
-
 module _ (l : Limits) (n : ℕ) (look : ℕ → Live) (plan target s t : ℕ) (rest tried done : List ℕ) (first due : ℕ)
-    (small : n < 2 ^ 64) (low : 0 < first) (some : 0 < s) (lt : s ≤ n) (climbing : Climbing look first s done)
+    (small : n < 2 ^ 64) (low : 0 < first) (some : 0 < s) (lt : s ≤ n) (climbing : Climbing n look first s done)
     (half : t / 2 ≡ s) (within : t ≤ n) (passed : (target == s) ≡ false) (untried : Untried tried s)
     (space : length (s ∷ done) < l.processes) where
   abbrev p : ℕ
@@ -57,7 +51,7 @@ module _ (l : Limits) (n : ℕ) (look : ℕ → Live) (plan target s t : ℕ) (r
 
   abbrev next_wanting : ℕ → Flat
   next_wanting process =
-      under_way n (next_looked process) (ran first (s ∷ done) ++ wanted_process process t ∷ []) (wanted_row process [] ∷ []) plan target
+      under_way n (next_looked process) (ran first (s ∷ done) ++ wanted_process process t false ∷ []) (wanted_row process [] ∷ []) plan target
       (t ∷ rest) (tried ++ t ∷ []) (process + 1) due
 
   running_here : (looked s).status.state ≡ 4
@@ -74,21 +68,23 @@ module _ (l : Limits) (n : ℕ) (look : ℕ → Live) (plan target s t : ℕ) (r
       (ap (λ o. is_launched o && true) (launched_found l n look plan target s (t ∷ rest) tried done first due low some lt climbing)) refl
       (stepped l launched (Report p 0 (told 4 1))
       (record {
-        answer = report_told (current_of launched p) (told 4 1);
+        answer = report_told (reporting launched p 0) (told 4 1);
         flat = under_way n looked (ran first (s ∷ done)) [] plan target (s ∷ t ∷ rest) tried (p + 1) due;
       })
       (next_wanting (p + 1)) (next_wanting (p + 1))
-      (ap (λ f. record { answer = report_told (current_of launched p) (told 4 1); flat = f })
-      (report_alone launched p (told 4 1) (rows looked n) refl refl (reports_all l n look plan target s
-      (t ∷ rest) tried done first due low some lt climbing)))
+      (ap (λ f. record { answer = report_told (reporting launched p 0) (told 4 1); flat = f })
+      (report_alone launched (reporting launched p 0) (told 4 1) (row_at s (look s)) (rows looked n) refl refl
+      (reports_of l n look plan target s (t ∷ rest) tried done first due low some lt climbing launched refl refl)
+      (unreleased_ran (told 4 1) (row_at s (look s)) first (s ∷ done))
+      (reports_all l n look plan target s (t ∷ rest) tried done first due low some lt climbing)))
       (enters_next l n looked (ran first (s ∷ done)) plan target s t rest tried (p + 1) due small some lt running_here passed
       (let a = above in omega (arith, a)) within still up_for (untried t above)
       (let e = length_ran first (s ∷ done) in omega (arith, e, space)))
-      (told_report (next_wanting (p + 1)) (current_of launched p) (told 4 1))
+      (told_report (next_wanting (p + 1)) (reporting launched p 0) (told 4 1))
       (all_stay (next_wanting (p + 1)) (next_looked (p + 1)) n refl refl))
 
   abbrev wanting : Flat
-  wanting = under_way n look (ran first done ++ wanted_process p s ∷ []) (wanted_row p [] ∷ []) plan target (s ∷ t ∷ rest) tried (p + 1) due
+  wanting = under_way n look (ran first done ++ wanted_process p s false ∷ []) (wanted_row p [] ∷ []) plan target (s ∷ t ∷ rest) tried (p + 1) due
 
   next_number : p + 1 ≡ first + length (s ∷ done)
   next_number = omega arith
@@ -122,11 +118,36 @@ module _ (l : Limits) (n : ℕ) (look : ℕ → Live) (plan target s t : ℕ) (r
       (subst (λ b. IsAtRest (cond b (runs p) (look k))) (sym (ne_eqb k s (λ e. let a = above in omega (arith, e, far, a))))
       (climbing.above k (let a = above in omega (arith, far, a))))
 
-  pub climbs_on : Climbing (next_looked (first + length (s ∷ done))) first t (s ∷ done)
+  -- once the next one stops, those before it run
+  stands : (k : ℕ) → at_one (at_one look s stopped) t stopped k
+      ≡ at_one (at_one (next_looked (first + length (s ∷ done))) t stopped) s stopped k
+  stands k =
+      elim (k == s) as (λ b. cond (k == t) stopped (cond b stopped (look k)) ≡ cond b stopped (cond (k == t) stopped
+      (cond (k == t) (pending (first + length (s ∷ done))) (cond b (runs p) (look k))))) [
+        | true ↦ elim (k == t) as (λ b. cond b stopped stopped ≡ stopped) [ true ↦ refl | false ↦ refl ]
+        | false ↦ elim (k == t) as (λ b. cond b stopped (look k) ≡ cond b stopped
+            (cond b (pending (first + length (s ∷ done))) (look k))) [ true ↦ refl | false ↦ refl ]
+      ]
+
+  owned_on : Owned n (at_one (next_looked (first + length (s ∷ done))) t stopped) first (s ∷ done)
+  owned_on =
+      let other : (s == t) ≡ false = ne_eqb s t (λ e. let a = above in omega (arith, e, a)) in (
+        subst (λ b. RunsIn n s p (cond b stopped (cond b (pending (first + length (s ∷ done))) (looked s)))) (sym other)
+            (subst (λ b. RunsIn n s p (cond b (runs p) (look s))) (sym (eq-eqb s s refl))
+            (record { status = refl; process = refl; some = some; within = lt })),
+        owned_same n (at_one (at_one look s stopped) t stopped)
+            (at_one (at_one (next_looked (first + length (s ∷ done))) t stopped) s stopped) first done stands
+            (owned_beside n (at_one look s stopped) first t done stopped stopped_rests (below_apart s t done above climbing.below)
+            climbing.before),
+      )
+
+  pub climbs_on : Climbing n (next_looked (first + length (s ∷ done))) first t (s ∷ done)
   climbs_on = record {
     here = ap (λ b. cond b (pending (first + length (s ∷ done))) (looked t)) (eq-eqb t t refl);
     others = others;
     above = higher;
+    before = owned_on;
+    below = (above, below_more s t done above climbing.below);
   }
 
   pub untried_on : Untried (tried ++ t ∷ []) t
@@ -157,19 +178,19 @@ pub record HasClimbed (l : Limits) (n first plan target due total : ℕ) (f : Fl
   pub tried : List ℕ
   pub entries : List ℕ
   pub long : length done ≡ total
-  pub each : (k : ℕ) → IsAtRest (look k) ⊎ IsRun first (first + length done) (look k)
+  pub owned : Owned n look first done
   pub goes : Goes l f es (decided n look (ran first done) plan target entries tried (first + length done) due)
 
 -- the last one runs
 last_climbed : (l : Limits) (n : ℕ) (look : ℕ → Live) (plan target s : ℕ) (tried done : List ℕ) (first due : ℕ) → 0 < first → 0 < s → s ≤ n
-    → Climbing look first s done → s ≡ target
+    → Climbing n look first s done → s ≡ target
     → HasClimbed l n first plan target due (length done + 1)
-    (under_way n look (ran first done ++ wanted_process (first + length done) s ∷ []) (wanted_row (first + length done) [] ∷ []) plan target
+    (under_way n look (ran first done ++ wanted_process (first + length done) s false ∷ []) (wanted_row (first + length done) [] ∷ []) plan target
     (s ∷ []) tried (first + length done + 1) due)
     (ups (first + length done) 1)
 last_climbed l n look plan target s tried done first due low some lt climbing is =
     let p = first + length done in
-    let wanting = under_way n look (ran first done ++ wanted_process p s ∷ []) (wanted_row p [] ∷ []) plan target (s ∷ []) tried (p
+    let wanting = under_way n look (ran first done ++ wanted_process p s false ∷ []) (wanted_row p [] ∷ []) plan target (s ∷ []) tried (p
     + 1) due in
     let number : p + 1 ≡ first + length (s ∷ done) = omega arith in
     record {
@@ -178,11 +199,15 @@ last_climbed l n look plan target s tried done first due low some lt climbing is
       tried = tried;
       entries = s ∷ [];
       long = omega arith;
-      each = λ k. elim (k == s) as (λ b. (k == s) ≡ b → IsAtRest (cond b (runs p) (look k))
-          ⊎ IsRun first (first + length (s ∷ done)) (cond b (runs p) (look k))) [
-            | true ↦ λ e. inr (record { status = refl; low = omega arith; high = omega arith })
-            | false ↦ λ e. weaker_on first p (first + length (s ∷ done)) (look k) (omega arith) (climbing.others k e)
-          ] refl;
+      owned = (
+        subst (λ b. RunsIn n s p (cond b (runs p) (look s))) (sym (eq-eqb s s refl))
+            (record { status = refl; process = refl; some = some; within = lt }),
+        owned_same n (at_one look s stopped) (at_one (at_one look s (runs p)) s stopped) first done
+            (λ k. elim (k == s) as (λ b. cond b stopped (look k) ≡ cond b stopped (cond b (runs p) (look k))) [
+              | true ↦ refl
+              | false ↦ refl
+            ]) climbing.before,
+      );
       goes = subst (λ es. Goes l wanting es (decided n (at_one look s (runs p)) (ran first (s ∷ done)) plan target (s ∷ []) tried (first
           + length (s ∷ done)) due)) (sym (ups_front p 0))
           (subst (λ m. Goes l wanting (up p) (decided n (at_one look s (runs p)) (ran first (s ∷ done)) plan target (s ∷ []) tried m due))
@@ -200,16 +225,16 @@ climbed_more l n first plan target due total more f g xs ys es before rest is sa
   tried = rest.tried;
   entries = rest.entries;
   long = rest.long ∙ same;
-  each = rest.each;
+  owned = rest.owned;
   goes = subst (λ zs. Goes l f zs (decided n rest.look (ran first rest.done) plan target rest.entries rest.tried (first
       + length rest.done) due)) is (goes_both l f g _ xs ys before rest.goes);
 }
 
 pub climbs_all : (l : Limits) (n : ℕ) (look : ℕ → Live) (plan target s : ℕ) (rest tried done : List ℕ) (first due : ℕ) → n < 2 ^ 64
     → 0 < first → 0 < s → s ≤ n → Climbs n s rest target
-    → Climbing look first s done → Untried tried s → length done + suc (length rest) ≤ l.processes
+    → Climbing n look first s done → Untried tried s → length done + suc (length rest) ≤ l.processes
     → HasClimbed l n first plan target due (length done + suc (length rest))
-    (under_way n look (ran first done ++ wanted_process (first + length done) s ∷ []) (wanted_row (first + length done) [] ∷ []) plan target
+    (under_way n look (ran first done ++ wanted_process (first + length done) s false ∷ []) (wanted_row (first + length done) [] ∷ []) plan target
     (s ∷ rest) tried (first + length done + 1) due)
     (ups (first + length done) (suc (length rest)))
 climbs_all l n look plan target s [] tried done first due small low some lt is climbing untried space =

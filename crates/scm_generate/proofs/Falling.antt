@@ -1,8 +1,7 @@
 -- A start is answered, and its processes end.
-use Rattle.std.proofs.Common.{ℕ, ◌≡◌, ◌∙◌, ◌+◌, ◌<◌, ◌≤◌, ◌==◌, ◌&&◌, ◌⊎◌, inl, inr, true, false, not, cond, List, [], ◌∷◌, ◌++◌, Option}
-use Rattle.std.proofs.Common.{None, Some, filter, find, length, ap, refl, arith, ne_eqb, eq-eqb, eqb-true}
+use Rattle.std.proofs.Common.{ℕ, ◌≡◌, ◌∙◌, ◌+◌, ◌<◌, ◌≤◌, ◌==◌, ◌&&◌, ◌⊎◌, inl, inr, true, false, not, cond, List, [], ◌∷◌, ◌++◌}
+use Rattle.std.proofs.Common.{None, Some, filter, find, length, ap, sym, refl, subst, arith, ne_eqb, eq-eqb, eqb-true}
 use Rattle.std.specs.Prelude.{is_some, option_and_then, option_map, unwrap_or}
-use Rattle.std.proofs.lemmas.Bool.{eqb-false}
 use Rattle.std.proofs.lemmas.List.{append-nil}
 use Rattle.std.proofs.lemmas.List.Elements.{filter-append}
 use Rattle.scm_model.specs.declared.flat.Flat.{Flat}
@@ -16,17 +15,18 @@ use Rattle.scm_model.specs.declared.steps.Answer.TheVariants as answer
 use Rattle.scm_model.specs.declared.steps.Step.TheVariants.{EndStart, Ended, Report}
 use Rattle.scm_model.specs.Entries.{Entry}
 use Rattle.start_plan.specs.Decided.{code_of}
-use Rattle.status_machine.specs.Moves.{take_end, take_report}
+use Rattle.status_machine.specs.Moves.{take_report}
 use Rattle.scm_rules.specs.Ends.{end_told}
-use Rattle.scm_rules.specs.Launches.{fallen_if, is_launched, without_process}
-use Rattle.scm_rules.specs.Reports.{current_of, moved_by, report_told, reported_if}
+use Rattle.scm_rules.specs.Launches.{currents, fallen, fallen_if, is_by, is_launched, without_process}
+use Rattle.scm_rules.specs.Reports.{moved_by, report_told, reported_if, reporting}
 use Rattle.scm_rules.specs.Start.{is_caller_of}
 use Rattle.scm_rules.specs.Steps.{finished}
 use Rattle.scm_generate.specs.Listed.{at_once, down, downs, told}
-use Rattle.scm_generate.proofs.Built.{Each, map_built, none_built}
+use Rattle.scm_generate.proofs.Built.{Each, filter_none, map_built}
 use Rattle.scm_generate.proofs.Goes.{Goes, all_stay, goes_both, goes_none, goes_on, goes_one, stepped}
-use Rattle.scm_generate.proofs.Launching.{IsRun, last_found, ran, running_process, told_report}
-use Rattle.scm_generate.proofs.Settling.{IsAtRest, decided, plan_with}
+use Rattle.scm_generate.proofs.Launching.{last_found, not_by_it, ran, reports_by, running_process, told_report, unreleased_ran}
+use Rattle.scm_generate.proofs.Owned.{IsRun, Owned, owned_low, stopped}
+use Rattle.scm_generate.proofs.Settling.{IsAtRest, at_one, decided, plan_with}
 use Rattle.scm_generate.proofs.Shape.{Live, resting, row_at, rows, standing}
 use Rattle.scm_generate.proofs.Untold.{end_alone, report_alone}
 
@@ -53,12 +53,9 @@ answers l n look first plan target done entries tried process due =
     }) same)
     refl refl (all_stay g look n refl refl))
 
-told_end : (f : Flat) (found : Option Service) → (finished f (end_told found)).flat ≡ f
-told_end f None = refl
-told_end f (Some row) = refl
-
-abbrev stopped : Live
-stopped = record { status = told 1 0; process = 0 }
+told_end : (f : Flat) (falling : List Service) → (finished f (end_told falling)).flat ≡ f
+told_end f [] = refl
+told_end f (row ∷ rows) = refl
 
 -- the others stay
 kept_ran : (first p : ℕ) (done : List ℕ) → first + length done ≤ p → filter (λ (row : Process). not (row.number == p))
@@ -72,12 +69,12 @@ kept_ran first p (s ∷ done) le =
     (ne_eqb (first + length done) p (λ e. omega (arith, e, le)))
 
 module _ (l : Limits) (n : ℕ) (look : ℕ → Live) (first s : ℕ) (done : List ℕ) (process plan due : ℕ) (low : 0 < first)
-    (each : (k : ℕ) → IsAtRest (look k) ⊎ IsRun first (first + length (s ∷ done)) (look k)) where
+    (owned : Owned n look first (s ∷ done)) where
   abbrev p : ℕ
   p = first + length done
 
   abbrev pub looked : ℕ → Live
-  looked k = cond ((look k).process == p) stopped (look k)
+  looked = at_one look s stopped
 
   abbrev before : Flat
   before = falling n look first (s ∷ done) process plan due
@@ -88,48 +85,46 @@ module _ (l : Limits) (n : ℕ) (look : ℕ → Live) (first s : ℕ) (done : Li
   abbrev after : Flat
   after = falling n looked first done process plan due
 
-  ran_its : (live : Live) → (live.process == p) ≡ true → IsAtRest live ⊎ IsRun first (first + length (s ∷ done)) live
-      → live.status ≡ told 4 1
-  ran_its live e (inl still) = absurd (let is = eqb-true live.process p e in let none = still.process in omega (arith, is, none, low))
-  ran_its live e (inr run) = run.status
-
-  stops_row : Each (λ k. reported_if p (told 1 0) (row_at k (look k)) ≡ row_at k (looked k)) n
+  stops_row : Each (λ k. reported_if s (told 1 0) (row_at k (look k)) ≡ row_at k (looked k)) n
   stops_row k some le =
-      elim ((look k).process == p) as (λ b. ((look k).process == p) ≡ b
+      elim (k == s) as (λ b. (k == s) ≡ b
       → cond b (moved_by (row_at k (look k)) (take_report (look k).status (told 1 0))) (row_at k (look k)) ≡ row_at k
       (cond b stopped (look k))) [
         | true ↦ λ e. ap (λ (status : Status). moved_by (row_at k (record { status = status; process = (look k).process }))
-            (take_report status (told 1 0))) (ran_its (look k) e (each k))
+            (take_report status (told 1 0))) (subst (λ m. (look m).status ≡ told 4 1) (sym (eqb-true k s e)) owned.0.status)
         | false ↦ λ e. refl
       ] refl
 
   found : find (λ (row : Process). row.number == p) (ran first (s ∷ done)) ≡ Some (running_process p s)
   found = last_found first p done (running_process p s) (omega arith) refl
 
+  reports : reporting before p 0 ≡ Some (row_at s (look s))
+  reports = reports_by before n look p s (running_process p s) refl found refl (omega (arith, low)) owned.0.some owned.0.within
+      owned.0.process
+
   stops : Goes l before (at_once (Report p 0 (told 1 0)) ∷ []) reported
   stops = goes_one l before reported (Report p 0 (told 1 0)) (ap (λ o. is_launched o && true) found) refl
-      (stepped l before (Report p 0 (told 1 0)) (record { answer = report_told (current_of before p) (told 1 0); flat = reported }) reported
+      (stepped l before (Report p 0 (told 1 0)) (record { answer = report_told (reporting before p 0) (told 1 0); flat = reported }) reported
       reported
-      (ap (λ f. record { answer = report_told (current_of before p) (told 1 0); flat = f })
-      (report_alone before p (told 1 0) (rows looked n) refl refl (map_built (reported_if p (told 1 0)) [] (λ k. row_at k (look k)) []
-      (λ k. row_at k (looked k)) n refl stops_row)))
-      refl (told_report reported (current_of before p) (told 1 0)) (all_stay reported looked n refl refl))
+      (ap (λ f. record { answer = report_told (reporting before p 0) (told 1 0); flat = f })
+      (report_alone before (reporting before p 0) (told 1 0) (row_at s (look s)) (rows looked n) refl refl reports
+      (unreleased_ran (told 1 0) (row_at s (look s)) first (s ∷ done))
+      (map_built (reported_if s (told 1 0)) [] (λ k. row_at k (look k)) [] (λ k. row_at k (looked k)) n refl stops_row)))
+      refl (told_report reported (reporting before p 0) (told 1 0)) (all_stay reported looked n refl refl))
 
-  has_other : (k : ℕ) → ((looked k).process == p) ≡ false
-  has_other k =
-      elim ((look k).process == p) as (λ b. ((look k).process == p) ≡ b → ((cond b stopped (look k)).process == p) ≡ false) [
-        | true ↦ λ e. ne_eqb 0 p (λ is. omega (arith, is, low))
-        | false ↦ λ e. e
-      ] refl
+  low_other : (live : Live) → IsAtRest live ⊎ IsRun first p live → (live.process == p) ≡ false
+  low_other live (inl still) = (let none = still.process in ne_eqb live.process p (λ e. omega (arith, e, none, low)))
+  low_other live (inr run) = (let high = run.high in ne_eqb live.process p (λ e. omega (arith, e, high)))
+
+  has_other : (k : ℕ) → is_by p (row_at k (looked k)) ≡ false
+  has_other k = not_by_it p k (looked k) (low_other (looked k) (owned_low n looked first done owned.1 k))
 
   falls_row : Each (λ k. fallen_if p 1067 (row_at k (looked k)) ≡ row_at k (looked k)) n
-  falls_row k some le =
-      ap (λ b. cond b (record (row_at k (looked k)) { status = take_end (looked k).status 1067; process = 0 }) (row_at k (looked k)))
-      (has_other k)
+  falls_row k some le = ap (λ b. cond b (fallen 1067 (row_at k (looked k))) (row_at k (looked k))) (has_other k)
 
   -- it is no service's current one any more
-  nobody : current_of reported p ≡ None
-  nobody = none_built (λ (row : Service). row.process == p) [] (λ k. row_at k (looked k)) n refl (λ k some le. has_other k)
+  nobody : currents p (rows looked n) ≡ []
+  nobody = filter_none (is_by p) (λ k. row_at k (looked k)) n (λ k some le. has_other k)
 
   leaves : filter (λ (row : Process). not (row.number == p)) (ran first (s ∷ done)) ≡ ran first done
   leaves =
@@ -140,42 +135,21 @@ module _ (l : Limits) (n : ℕ) (look : ℕ → Live) (first s : ℕ) (done : Li
 
   ends : Goes l reported (at_once (Ended p) ∷ []) after
   ends = goes_one l reported after (Ended p) (ap (λ o. is_launched o && true) found) refl
-      (stepped l reported (Ended p) (record { answer = end_told (current_of reported p); flat = after }) after after
-      (ap (λ f. record { answer = end_told (current_of reported p); flat = without_process f p })
+      (stepped l reported (Ended p) (record { answer = end_told (currents p reported.services); flat = after }) after after
+      (ap (λ f. record { answer = end_told (currents p reported.services); flat = without_process f p })
       (end_alone reported p (rows looked n) refl nobody (map_built (fallen_if p 1067) [] (λ k. row_at k (looked k)) []
       (λ k. row_at k (looked k)) n refl falls_row))
-      ∙ ap (λ ps. record { answer = end_told (current_of reported p); flat = record reported { processes = ps } }) leaves)
-      refl (told_end after (current_of reported p)) (all_stay after looked n refl refl))
+      ∙ ap (λ ps. record { answer = end_told (currents p reported.services); flat = record reported { processes = ps } }) leaves)
+      refl (told_end after (currents p reported.services)) (all_stay after looked n refl refl))
 
   pub goes_down : Goes l before (down p) after
   goes_down = goes_on l before reported after (Report p 0 (told 1 0)) (at_once (Ended p) ∷ []) stops ends
-
-  fewer_run : (live : Live) → (live.process == p) ≡ false → IsAtRest live ⊎ IsRun first (first + length (s ∷ done)) live → IsAtRest live
-      ⊎ IsRun first p live
-  fewer_run live other (inl still) = inl still
-  fewer_run live other (inr run) = inr (record {
-    status = run.status;
-    low = run.low;
-    high = (let h = run.high in let apart = eqb-false live.process p other in omega (arith, h, apart));
-  })
-
-  pub each_still : (k : ℕ) → IsAtRest (looked k) ⊎ IsRun first p (looked k)
-  each_still k =
-      elim ((look k).process == p) as (λ b. ((look k).process == p) ≡ b → IsAtRest (cond b stopped (look k))
-      ⊎ IsRun first p (cond b stopped (look k))) [
-        | true ↦ λ e. inl (record { state = refl; kind = refl; process = refl })
-        | false ↦ λ e. fewer_run (look k) e (each k)
-      ] refl
 
 -- all rest again
 pub record HasFallen (l : Limits) (n process plan due : ℕ) (f : Flat) (es : List Entry) : Type 0 where
   pub look : ℕ → Live
   pub still : (k : ℕ) → IsAtRest (look k)
   pub goes : Goes l f es (resting n look process plan due)
-
-all_rest : (first : ℕ) (live : Live) → IsAtRest live ⊎ IsRun first (first + 0) live → IsAtRest live
-all_rest first live (inl still) = still
-all_rest first live (inr run) = absurd (let a = run.low in let b = run.high in omega (arith, a, b))
 
 fallen_more : (l : Limits) (n process plan due : ℕ) (f g : Flat) (xs ys : List Entry) → Goes l f xs g → HasFallen l n process plan due g ys
     → HasFallen l n process plan due f (xs ++ ys)
@@ -186,15 +160,14 @@ fallen_more l n process plan due f g xs ys first rest = record {
 }
 
 pub falls_all : (l : Limits) (n : ℕ) (look : ℕ → Live) (first : ℕ) (done : List ℕ) (process plan due : ℕ) → 0 < first
-    → ((k : ℕ) → IsAtRest (look k) ⊎ IsRun first (first + length done) (look k))
+    → Owned n look first done
     → HasFallen l n process plan due (falling n look first done process plan due) (downs first (length done))
-falls_all l n look first [] process plan due low each = record {
+falls_all l n look first [] process plan due low owned = record {
   look = look;
-  still = λ k. all_rest first (look k) (each k);
+  still = owned;
   goes = goes_none l _;
 }
-falls_all l n look first (s ∷ done) process plan due low each =
+falls_all l n look first (s ∷ done) process plan due low owned =
     fallen_more l n process plan due _ _ (down (first + length done)) (downs first (length done))
-    (goes_down l n look first s done process plan due low each)
-    (falls_all l n (looked l n look first s done process plan due low each) first done process plan due low
-    (each_still l n look first s done process plan due low each))
+    (goes_down l n look first s done process plan due low owned)
+    (falls_all l n (looked l n look first s done process plan due low owned) first done process plan due low owned.1)

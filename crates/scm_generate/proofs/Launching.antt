@@ -1,8 +1,8 @@
 -- A process of a start is launched, and runs.
-use Rattle.std.proofs.Common.{ℕ, ◌≡◌, ◌∙◌, ◌+◌, ◌<◌, ◌≤◌, ◌==◌, ◌&&◌, ◌⊎◌, inl, inr, Bool, true, false, not, cond, List, [], ◌∷◌, ◌++◌}
+use Rattle.std.proofs.Common.{ℕ, ◌≡◌, ◌∙◌, ◌+◌, ◌<◌, ◌≤◌, ◌==◌, ◌&&◌, ◌||◌, ◌⊎◌, inl, inr, Bool, true, false, not, cond, List, [], ◌∷◌, ◌++◌}
 use Rattle.std.proofs.Common.{Option, None, Some, Result, Ok, Err, filter, find, length, length-append, map, ap, sym, refl, subst, arith}
 use Rattle.std.proofs.Common.{ne_eqb, eq-eqb, eqb-true}
-use Rattle.std.specs.Prelude.{option_map}
+use Rattle.std.specs.Prelude.{option_map, unwrap_or}
 use Rattle.std.proofs.lemmas.List.{map-append}
 use Rattle.scm_model.specs.declared.flat.Flat.{Flat}
 use Rattle.scm_model.specs.declared.flat.Limits.{Limits}
@@ -12,20 +12,23 @@ use Rattle.scm_model.specs.declared.flat.Service.{Service}
 use Rattle.scm_model.specs.declared.flat.Status.{Status}
 use Rattle.scm_model.specs.declared.steps.Answer.TheVariants as answer
 use Rattle.scm_model.specs.declared.steps.Step.TheVariants.{LaunchTaken, Launched, Report}
-use Rattle.scm_model.specs.Found.{if_found}
-use Rattle.start_plan.specs.Decided.{aims_at, decided_in}
+use Rattle.start_plan.specs.Decided.{aims_among, decided_in}
 use Rattle.start_plan.specs.Entered.{wanted_process, wanted_row}
 use Rattle.start_plan.specs.Settle.{stays}
 use Rattle.status_machine.specs.Moves.{take_report}
-use Rattle.scm_rules.specs.Launches.{is_launched, is_taken, launched, launched_if, process_of, taken_if, wanted_of_others}
-use Rattle.scm_rules.specs.Reports.{current_of, moved_by, report_answer, report_told, reported_if}
+use Rattle.scm_rules.specs.Launches.{currents, is_by, is_launched, is_taken, launched, launched_if, process_of, taken_if, wanted_of_others}
+use Rattle.scm_rules.specs.Reports.{is_stopped_by, moved_by, released_by, released_if, report_answer, report_told, reported_if, reporter}
+use Rattle.scm_rules.specs.Reports.{reporting}
+use Rattle.scm_runs.proofs.Rows.{parts_by}
+use Rattle.std.specs.List.{AllByRecursion}
 use Rattle.scm_rules.specs.Steps.{finished, may}
 use Rattle.scm_generate.specs.Listed.{at_once, told, up}
-use Rattle.scm_generate.proofs.Built.{Each, find_right, map_built}
+use Rattle.scm_generate.proofs.Built.{Each, filter_one, find_built, find_right, map_built}
 use Rattle.scm_generate.proofs.Goes.{Goes, all_stay, goes_on, goes_one, stepped}
 use Rattle.scm_generate.proofs.Settling.{IsAtRest, at_one, decided, decides, pending, plan_with, runs, under_way, waits}
 use Rattle.scm_generate.proofs.Shape.{Live, row_at, rows}
-use Rattle.scm_generate.proofs.Untold.{report_alone}
+use Rattle.scm_generate.proofs.Owned.{IsRun, Owned, stopped}
+use Rattle.scm_generate.proofs.Untold.{never_both, report_alone}
 
 -- ## The processes
 
@@ -85,25 +88,51 @@ told_report f None status = refl
 told_report f (Some row) status = elim (take_report row.status status) as (λ (r : Result Status ℕ). (finished f (report_answer r)).flat ≡ f)
     [ Ok now ↦ refl | Err code ↦ refl ]
 
--- how a service stands that ran in this start, or didn't
-pub record IsRun (first p : ℕ) (live : Live) : Type 0 where
-  pub status : live.status ≡ told 4 1
-  pub low : first ≤ live.process
-  pub high : live.process < p
+-- a service reports by its process, which was launched for it
+pub reports_by : (f : Flat) (n : ℕ) (look : ℕ → Live) (p s : ℕ) (process : Process) → f.services ≡ rows look n
+    → process_of f p ≡ Some process → process.service ≡ s → 0 < p → 0 < s → s ≤ n → (look s).process ≡ p
+    → reporting f p 0 ≡ Some (row_at s (look s))
+reports_by f n look p s process services found is low some lt own =
+    let named : reporter f p 0 ≡ s = ap (λ (o : Option Process). unwrap_or (option_map (λ (row : Process). row.service) o) 0) found ∙ is in
+    ap (λ m. find (λ (row : Service). row.number == m && is_by p row) f.services) named
+    ∙ ap (find (λ (row : Service). row.number == s && is_by p row)) services
+    ∙ find_built (λ (row : Service). row.number == s && is_by p row) [] (λ k. row_at k (look k)) s n some lt refl
+    (rw (eq-eqb s s refl) (parts_by p (row_at s (look s)) (ne_eqb p 0 (λ e. omega (arith, e, low))) own))
+    (λ k first le other. ap (λ b. b && is_by p (row_at k (look k))) other)
+
+-- another process
+pub not_by_it : (p k : ℕ) (live : Live) → (live.process == p) ≡ false → is_by p (row_at k live) ≡ false
+not_by_it p k live other = ap (λ b. not (p == 0) && b) other ∙ never_both (not (p == 0))
+
+-- no order waits for them
+pub unreleased_ran : (report : Status) (row : Service) (first : ℕ) (done : List ℕ) → released_by report row (ran first done) ≡ ran first done
+unreleased_ran report row first done =
+    elim (is_stopped_by report row) as (λ b. cond b (map (released_if row.process row.number) (ran first done)) (ran first done) ≡
+    ran first done) [ true ↦ all_stay_ran row.process row.number first done | false ↦ refl ]
+  where
+    all_stay_ran : (process service first : ℕ) (done : List ℕ) → map (released_if process service) (ran first done) ≡ ran first done
+    all_stay_ran process service first [] = refl
+    all_stay_ran process service first (s ∷ done) =
+        let last = running_process (first + length done) s in
+        map-append (released_if process service) (ran first done) (last ∷ [])
+        ∙ ap (λ xs. xs ++ released_if process service last ∷ []) (all_stay_ran process service first done)
+        ∙ ap (λ b. ran first done ++ cond b (record last { controls = [] }) last ∷ []) (never_both (first + length done == process))
 
 -- the services while one is being launched, and those before it run
-pub record Climbing (look : ℕ → Live) (first s : ℕ) (done : List ℕ) : Type 0 where
+pub record Climbing (n : ℕ) (look : ℕ → Live) (first s : ℕ) (done : List ℕ) : Type 0 where
   pub here : look s ≡ pending (first + length done)
   pub others : (k : ℕ) → (k == s) ≡ false → IsAtRest (look k) ⊎ IsRun first (first + length done) (look k)
   pub above : (k : ℕ) → s < k → IsAtRest (look k)
+  pub before : Owned n (at_one look s stopped) first done
+  pub below : AllByRecursion (λ x. x < s) done
 
 module _ (l : Limits) (n : ℕ) (look : ℕ → Live) (plan target s : ℕ) (rest tried done : List ℕ) (first due : ℕ) (low : 0 < first)
-    (some : 0 < s) (lt : s ≤ n) (climbing : Climbing look first s done) where
+    (some : 0 < s) (lt : s ≤ n) (climbing : Climbing n look first s done) where
   abbrev p : ℕ
   p = first + length done
 
   abbrev wanting : Flat
-  wanting = under_way n look (ran first done ++ wanted_process p s ∷ []) (wanted_row p [] ∷ []) plan target (s ∷ rest) tried (p + 1) due
+  wanting = under_way n look (ran first done ++ wanted_process p s false ∷ []) (wanted_row p [] ∷ []) plan target (s ∷ rest) tried (p + 1) due
 
   abbrev pub taking : Flat
   taking = under_way n look (ran first done ++ taken_process p s ∷ []) [] plan target (s ∷ rest) tried (p + 1) due
@@ -114,11 +143,11 @@ module _ (l : Limits) (n : ℕ) (look : ℕ → Live) (plan target s : ℕ) (res
   starting : (look s).status.state ≡ 2
   starting = ap (λ (live : Live). live.status.state) climbing.here
 
-  taken_last : map (taken_if p) (ran first done ++ wanted_process p s ∷ []) ≡ ran first done ++ taken_process p s ∷ []
+  taken_last : map (taken_if p) (ran first done ++ wanted_process p s false ∷ []) ≡ ran first done ++ taken_process p s ∷ []
   taken_last =
-      last_changed (taken_if p) first p done (wanted_process p s) (taken_process p s)
+      last_changed (taken_if p) first p done (wanted_process p s false) (taken_process p s)
       (λ row e. ap (λ b. cond b (record row { phase = phases.Taken }) row) e) (omega arith)
-      (ap (λ b. cond b (taken_process p s) (wanted_process p s)) (eq-eqb p p refl))
+      (ap (λ b. cond b (taken_process p s) (wanted_process p s false)) (eq-eqb p p refl))
 
   pub takes : Goes l wanting (at_once LaunchTaken ∷ []) taking
   takes = goes_one l wanting taking LaunchTaken refl refl
@@ -148,16 +177,34 @@ module _ (l : Limits) (n : ℕ) (look : ℕ → Live) (plan target s : ℕ) (res
   abbrev launched_with : Bool → Flat
   launched_with b = record launching { plans = filter stays (plan_with plan target (s ∷ rest) tried (cond b (Some 0) None) ∷ []) }
 
+  not_its : (k : ℕ) → IsAtRest (look k) ⊎ IsRun first p (look k) → ((look k).process == p) ≡ false
+  not_its k (inl still) = let none = still.process in ne_eqb (look k).process p (λ e. omega (arith, e, none, low))
+  not_its k (inr run) = let high = run.high in ne_eqb (look k).process p (λ e. omega (arith, e, high))
+
+  own : (look s).process ≡ p
+  own = ap (λ (live : Live). live.process) climbing.here
+
+  -- it is the process of one service
+  currents_one : currents p (rows look n) ≡ row_at s (look s) ∷ []
+  currents_one =
+      filter_one (is_by p) (λ k. row_at k (look k)) s n some lt
+      (parts_by p (row_at s (look s)) (ne_eqb p 0 (λ e. omega (arith, e, low))) own)
+      (λ k first_one le other. not_by_it p k (look k) (not_its k (climbing.others k other)))
+
+  or_none : (b : Bool) → (b || false) ≡ b
+  or_none true = refl
+  or_none false = refl
+
   launches : (b : Bool) → (target == s) ≡ b → launched taking p p ≡ launched_with b
   launches b is =
-      ap (λ o. record taking {
+      ap (λ ns. record taking {
         processes = map (launched_if p p) (ran first done ++ taken_process p s ∷ []);
-        plans = if_found (λ service. decided_in (aims_at service) 0) o (plan_with plan target (s ∷ rest) tried None ∷ []);
+        plans = decided_in (aims_among ns) 0 (plan_with plan target (s ∷ rest) tried None ∷ []);
       })
-      (ap (option_map (λ (row : Process). row.service)) found)
-      ∙ ap (λ ps. record taking { processes = ps; plans = decided_in (aims_at s) 0 (plan_with plan target (s ∷ rest) tried None ∷ []) })
+      (ap (map (λ (row : Service). row.number)) currents_one)
+      ∙ ap (λ ps. record taking { processes = ps; plans = decided_in (aims_among (s ∷ [])) 0 (plan_with plan target (s ∷ rest) tried None ∷ []) })
       launched_last
-      ∙ ap launched_with is
+      ∙ ap launched_with (or_none (target == s) ∙ is)
 
   may_launch : may l taking 0 (Launched p p) ≡ true
   may_launch = ap (λ o. is_taken o && true) found
@@ -184,27 +231,27 @@ module _ (l : Limits) (n : ℕ) (look : ℕ → Live) (plan target s : ℕ) (res
   abbrev running : ℕ → Live
   running = at_one look s (runs p)
 
-  not_its : (k : ℕ) → IsAtRest (look k) ⊎ IsRun first p (look k) → ((look k).process == p) ≡ false
-  not_its k (inl still) = let none = still.process in ne_eqb (look k).process p (λ e. omega (arith, e, none, low))
-  not_its k (inr run) = let high = run.high in ne_eqb (look k).process p (λ e. omega (arith, e, high))
-
-  reports_row : Each (λ k. reported_if p (told 4 1) (row_at k (look k)) ≡ row_at k (running k)) n
+  reports_row : Each (λ k. reported_if s (told 4 1) (row_at k (look k)) ≡ row_at k (running k)) n
   reports_row k first_one le =
-      elim (k == s) as (λ b. (k == s) ≡ b → reported_if p (told 4 1) (row_at k (look k)) ≡ row_at k (cond b (runs p) (look k))) [
+      elim (k == s) as (λ b. (k == s) ≡ b → reported_if s (told 4 1) (row_at k (look k)) ≡ row_at k (cond b (runs p) (look k))) [
         | true ↦ λ e.
             let is : look k ≡ pending p = subst (λ m. look m ≡ pending p) (sym (eqb-true k s e)) climbing.here in
-            ap (λ live. reported_if p (told 4 1) (row_at k live)) is
-            ∙ ap (λ b. cond b (moved_by (row_at k (pending p)) (take_report (pending p).status (told 4 1))) (row_at k (pending p)))
-            (eq-eqb p p refl)
-        | false ↦ λ e. ap (λ b. cond b (moved_by (row_at k (look k)) (take_report (look k).status (told 4 1))) (row_at k (look k)))
-            (not_its k (climbing.others k e))
+            ap (λ live. reported_if s (told 4 1) (row_at k live)) is
+            ∙ ap (λ b. cond b (moved_by (row_at k (pending p)) (take_report (pending p).status (told 4 1))) (row_at k (pending p))) e
+        | false ↦ λ e. ap (λ b. cond b (moved_by (row_at k (look k)) (take_report (look k).status (told 4 1))) (row_at k (look k))) e
       ] refl
 
-  pub reports_all : map (reported_if p (told 4 1)) (rows look n) ≡ rows running n
-  reports_all = map_built (reported_if p (told 4 1)) [] (λ k. row_at k (look k)) [] (λ k. row_at k (running k)) n refl reports_row
+  pub reports_all : map (reported_if s (told 4 1)) (rows look n) ≡ rows running n
+  reports_all = map_built (reported_if s (told 4 1)) [] (λ k. row_at k (look k)) [] (λ k. row_at k (running k)) n refl reports_row
 
   pub launched_found : find (λ (row : Process). row.number == p) (ran first (s ∷ done)) ≡ Some (running_process p s)
   launched_found = last_found first p done (running_process p s) (omega arith) refl
+
+  -- whose process it is tells so
+  pub reports_of : (f : Flat) → f.services ≡ rows look n → f.processes ≡ ran first (s ∷ done) → reporting f p 0 ≡ Some (row_at s (look s))
+  reports_of f services processes =
+      reports_by f n look p s (running_process p s) services (ap (find (λ (row : Process). row.number == p)) processes ∙ launched_found) refl
+      (omega (arith, low)) some lt own
 
   -- the target runs, and the start is answered yet
   abbrev finished_all : Flat
@@ -213,13 +260,14 @@ module _ (l : Limits) (n : ℕ) (look : ℕ → Live) (plan target s : ℕ) (res
   runs_last : Goes l succeeded (at_once (Report p 0 (told 4 1)) ∷ []) finished_all
   runs_last = goes_one l succeeded finished_all (Report p 0 (told 4 1)) (ap (λ o. is_launched o && true) launched_found) refl
       (stepped l succeeded (Report p 0 (told 4 1)) (record {
-        answer = report_told (current_of succeeded p) (told 4 1);
+        answer = report_told (reporting succeeded p 0) (told 4 1);
         flat = finished_all;
       })
       finished_all finished_all
-      (ap (λ f. record { answer = report_told (current_of succeeded p) (told 4 1); flat = f })
-      (report_alone succeeded p (told 4 1) (rows running n) refl refl reports_all))
-      refl (told_report finished_all (current_of succeeded p) (told 4 1)) (all_stay finished_all running n refl refl))
+      (ap (λ f. record { answer = report_told (reporting succeeded p 0) (told 4 1); flat = f })
+      (report_alone succeeded (reporting succeeded p 0) (told 4 1) (row_at s (look s)) (rows running n) refl refl
+      (reports_of succeeded refl refl) (unreleased_ran (told 4 1) (row_at s (look s)) first (s ∷ done)) reports_all))
+      refl (told_report finished_all (reporting succeeded p 0) (told 4 1)) (all_stay finished_all running n refl refl))
 
   pub up_last : (target == s) ≡ true → Goes l wanting (up p) finished_all
   up_last this = goes_on l wanting taking finished_all LaunchTaken (at_once (Launched p p) ∷ at_once (Report p 0 (told 4 1)) ∷ []) takes

@@ -10,6 +10,7 @@ mod Graph
 mod Goes
 mod Created
 mod Settling
+mod Owned
 mod Launching
 mod Climbing
 mod Asking

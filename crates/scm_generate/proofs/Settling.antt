@@ -19,7 +19,7 @@ use Rattle.scm_model.specs.Ready.{is_ready, is_fulfilled, is_up, state_in, state
 use Rattle.scm_model.specs.Refused.{first_refusal}
 use Rattle.scm_model.specs.Rows.{service_of}
 use Rattle.start_plan.specs.declared.settling.Move.TheVariants as moves
-use Rattle.start_plan.specs.Entered.{started_if, starting_in, wanted_process, wanted_row, with_entered}
+use Rattle.start_plan.specs.Entered.{is_shared_by, notified_of_start, started_if, starting_in, wanted_process, wanted_row, with_entered}
 use Rattle.start_plan.specs.Moves.{cause_at, cause_of, entering_at, is_full, is_pending, move_by, move_of}
 use Rattle.start_plan.specs.Settle.{dropped, move_code, moved, settle_all, settle_entries, settle_plan, settled, tidied, with_tried}
 use Rattle.start_plan.specs.Settle.{words_for}
@@ -209,12 +209,18 @@ module _ (l : Limits) (n : ℕ) (look : ℕ → Live) (processes : List Process)
 
   abbrev after : Flat
   after =
-      standing n (at_one look t (pending process)) (processes ++ wanted_process process t ∷ []) (wanted_row process [] ∷ []) held
+      standing n (at_one look t (pending process)) (processes ++ wanted_process process t false ∷ []) (wanted_row process [] ∷ []) held
       (deadline plan due ∷ []) (process + 1) (plan + 1) (due + 1)
 
   entered : with_entered before t (words_for at_front t) ≡ after
   entered =
-      ap (λ heard. record after {
+      ap (λ shared. record after {
+        services = map (started_if t process) (rows look n);
+        registrations = notified_of_start t process (service_of before t) [];
+        processes = processes ++ wanted_process process t shared ∷ [];
+        wanted = wanted_row process (cond (target == t) [] []) ∷ [];
+      }) (ap is_shared_by (found_service look n t some lt))
+      ∙ ap (λ heard. record after {
         services = map (started_if t process) (rows look n);
         registrations = heard;
         wanted = wanted_row process (cond (target == t) [] []) ∷ [];
@@ -238,14 +244,14 @@ pub enters_first : (l : Limits) (n : ℕ) (look : ℕ → Live) (processes : Lis
     (process due : ℕ)
     → n < 2 ^ 64 → 0 < t → t ≤ n → IsAtRest (look t) → HasUp look t → has tried t ≡ false → length processes < l.processes
     → settled l (under_way n look processes [] plan target (t ∷ rest) tried process due)
-    ≡ under_way n (at_one look t (pending process)) (processes ++ wanted_process process t ∷ []) (wanted_row process [] ∷ []) plan target
+    ≡ under_way n (at_one look t (pending process)) (processes ++ wanted_process process t false ∷ []) (wanted_row process [] ∷ []) plan target
     (t ∷ rest) (tried ++ t ∷ []) (process + 1) due
 enters_first l n look processes plan target t rest tried process due small some lt still up untried space =
     let held = plan_with plan target (t ∷ rest) tried None ∷ [] in
     settles_one l (under_way n look processes [] plan target (t ∷ rest) tried process due)
     (plan_with plan target (t ∷ rest) tried None) _ refl
     (enters l n look processes held plan target t rest tried process due small some lt still up untried space)
-    ∙ tidy n (at_one look t (pending process)) (processes ++ wanted_process process t ∷ []) (wanted_row process [] ∷ []) held plan target
+    ∙ tidy n (at_one look t (pending process)) (processes ++ wanted_process process t false ∷ []) (wanted_row process [] ∷ []) held plan target
     (t ∷ rest) (tried ++ t ∷ []) (process + 1) due
 
 -- the next one is, once the one before it runs
@@ -254,7 +260,7 @@ pub enters_next : (l : Limits) (n : ℕ) (look : ℕ → Live) (processes : List
     → n < 2 ^ 64 → 0 < s → s ≤ n → (look s).status.state ≡ 4 → (target == s) ≡ false
     → 0 < t → t ≤ n → IsAtRest (look t) → HasUp look t → has tried t ≡ false → length processes < l.processes
     → settled l (under_way n look processes [] plan target (s ∷ t ∷ rest) tried process due)
-    ≡ under_way n (at_one look t (pending process)) (processes ++ wanted_process process t ∷ []) (wanted_row process [] ∷ []) plan target
+    ≡ under_way n (at_one look t (pending process)) (processes ++ wanted_process process t false ∷ []) (wanted_row process [] ∷ []) plan target
     (t ∷ rest) (tried ++ t ∷ []) (process + 1) due
 enters_next l n look processes plan target s t rest tried process due small some lt running passed first within still up untried space =
     let p = plan_with plan target (s ∷ t ∷ rest) tried None in
@@ -270,5 +276,5 @@ enters_next l n look processes plan target s t rest tried process due small some
     settles_one l f p _ refl
     (passes ∙ ap (λ (q : Plan). settle_entries l f q (t ∷ rest)) drops
     ∙ enters l n look processes (p ∷ []) plan target t rest tried process due small first within still up untried space)
-    ∙ tidy n (at_one look t (pending process)) (processes ++ wanted_process process t ∷ []) (wanted_row process [] ∷ [])
+    ∙ tidy n (at_one look t (pending process)) (processes ++ wanted_process process t false ∷ []) (wanted_row process [] ∷ [])
     (p ∷ []) plan target (t ∷ rest) (tried ++ t ∷ []) (process + 1) due

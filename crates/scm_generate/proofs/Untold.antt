@@ -12,9 +12,9 @@ use Rattle.scm_model.specs.declared.flat.Status.{Status}
 use Rattle.start_plan.specs.Entered.{started_if, notified_of_start}
 use Rattle.status_machine.specs.Moves.{takes}
 use Rattle.scm_rules.specs.Ends.{with_end}
-use Rattle.scm_rules.specs.Failures.{failed_by, is_failure, with_failure}
-use Rattle.scm_rules.specs.Launches.{current_of, fallen_if, notified_of_fall, with_fallen}
-use Rattle.scm_rules.specs.Reports.{reported_if, notified_of_report, with_report}
+use Rattle.scm_rules.specs.Failures.{all_failed, failed_by, is_failure, with_failure}
+use Rattle.scm_rules.specs.Launches.{currents, fallen, fallen_if, notified_of_falls, with_fallen}
+use Rattle.scm_rules.specs.Reports.{notified_of_report, released_by, reported_if, with_report_of}
 
 pub events_untold : (events : List Event) → all_noted events [] ≡ []
 events_untold [] = refl
@@ -31,18 +31,18 @@ pub start_untold : (number process : ℕ) (found : Option Service) → notified_
 start_untold number process None = refl
 start_untold number process (Some row) = move_untold 0 row (started_if number process row)
 
-fall_untold : (process code : ℕ) (found : Option Service) → notified_of_fall process code found [] ≡ []
-fall_untold process code None = refl
-fall_untold process code (Some row) = move_untold 0 row (fallen_if process code row)
+fall_untold : (code : ℕ) (falling : List Service) → notified_of_falls code falling [] ≡ []
+fall_untold code [] = refl
+fall_untold code (row ∷ rows) = ap (notified_of_falls code rows) (move_untold 0 row (fallen code row)) ∙ fall_untold code rows
 
 report_untold : (processes : List Process) (report : Status) (found : Option Service) → notified_of_report processes report found [] ≡ []
 report_untold processes report None = refl
-report_untold processes report (Some row) = move_untold (pid_of processes (reported_if row.process report row)) row
-    (reported_if row.process report row)
+report_untold processes report (Some row) = move_untold (pid_of processes (reported_if row.number report row)) row
+    (reported_if row.number report row)
 
 -- ## Failures
 
-never_both : (b : Bool) → (b && false) ≡ false
+pub never_both : (b : Bool) → (b && false) ≡ false
 never_both true = refl
 never_both false = refl
 
@@ -58,35 +58,43 @@ none_fails report (Some row) none = ap (λ (b : Bool). cond b (Some row) None) (
 
 -- ## What changes
 
--- a report without an error changes the services alone
-pub report_alone : (f : Flat) (process : ℕ) (report : Status) (services : List Service) → report.win32 ≡ 0 → f.registrations ≡ []
-    → map (reported_if process report) f.services ≡ services
-    → with_report f process report ≡ record f { services = services }
-report_alone f process report services right none changes =
-    let same : notified_of_report f.processes report (current_of f process) f.registrations ≡ f.registrations =
-    subst (λ (rows : List Registration). notified_of_report f.processes report (current_of f process) rows ≡ rows) (sym none)
-    (report_untold f.processes report (current_of f process)) in
+-- a report without an error changes the services alone, where no order leaves
+pub report_alone : (f : Flat) (found : Option Service) (report : Status) (row : Service) (services : List Service) → report.win32 ≡ 0
+    → f.registrations ≡ [] → found ≡ Some row → released_by report row f.processes ≡ f.processes
+    → map (reported_if row.number report) f.services ≡ services
+    → with_report_of f found report ≡ record f { services = services }
+report_alone f found report row services right none is stay changes =
+    let same : notified_of_report f.processes report (Some row) f.registrations ≡ f.registrations =
+    subst (λ (rows : List Registration). notified_of_report f.processes report (Some row) rows ≡ rows) (sym none)
+    (report_untold f.processes report (Some row)) in
     let moved : Flat = record f {
-      services = map (reported_if process report) f.services;
-      registrations = notified_of_report f.processes report (current_of f process) f.registrations;
+      services = map (reported_if row.number report) f.services;
+      processes = released_by report row f.processes;
+      registrations = notified_of_report f.processes report (Some row) f.registrations;
     } in
-    ap (λ (found : Option Service). if_found with_failure found moved) (none_fails report (current_of f process) right)
-    ∙ ap (λ (rows : List Registration). record f { services = map (reported_if process report) f.services; registrations = rows }) same
+    ap (λ (o : Option Service). with_report_of f o report) is
+    ∙ ap (λ (failed : Option Service). if_found with_failure failed moved) (none_fails report (Some row) right)
+    ∙ ap (λ (rows : List Registration). record f {
+      services = map (reported_if row.number report) f.services;
+      processes = released_by report row f.processes;
+      registrations = rows;
+    }) same
+    ∙ ap (λ (rows : List Process). record f { services = map (reported_if row.number report) f.services; processes = rows }) stay
     ∙ ap (λ (all : List Service). record f { services = all }) changes
 
 fall_alone : (f : Flat) (process code : ℕ) (services : List Service) → f.registrations ≡ []
     → map (fallen_if process code) f.services ≡ services → with_fallen f process code ≡ record f { services = services }
 fall_alone f process code services none changes =
-    let same : notified_of_fall process code (current_of f process) f.registrations ≡ f.registrations =
-    subst (λ (rows : List Registration). notified_of_fall process code (current_of f process) rows ≡ rows) (sym none)
-    (fall_untold process code (current_of f process)) in
+    let falling = currents process f.services in
+    let same : notified_of_falls code falling f.registrations ≡ f.registrations =
+    subst (λ (rows : List Registration). notified_of_falls code falling rows ≡ rows) (sym none) (fall_untold code falling) in
     ap (λ (rows : List Registration). record f { services = map (fallen_if process code) f.services; registrations = rows }) same
     ∙ ap (λ (all : List Service). record f { services = all }) changes
 
 -- so does an end of a process that is no service's current one
-pub end_alone : (f : Flat) (process : ℕ) (services : List Service) → f.registrations ≡ [] → current_of f process ≡ None
+pub end_alone : (f : Flat) (process : ℕ) (services : List Service) → f.registrations ≡ [] → currents process f.services ≡ []
     → map (fallen_if process ERROR_PROCESS_ABORTED) f.services ≡ services
     → with_end f process ≡ record f { services = services }
 end_alone f process services none stale changes =
-    ap (λ (found : Option Service). if_found with_failure found (with_fallen f process ERROR_PROCESS_ABORTED)) stale
+    ap (λ (falling : List Service). all_failed falling (with_fallen f process ERROR_PROCESS_ABORTED)) stale
     ∙ fall_alone f process ERROR_PROCESS_ABORTED services none changes

@@ -1,5 +1,5 @@
 -- The whole list.
-use Rattle.std.proofs.Common.{ℕ, zero, suc, ◌≡◌, ◌+◌, ◌<◌, ◌≤◌, ◌^◌, ◌||◌, ◌⊎◌, inl, append_assoc, false, cond, List, [], ◌∷◌, ◌++◌, length}
+use Rattle.std.proofs.Common.{ℕ, zero, suc, ◌≡◌, ◌+◌, ◌<◌, ◌≤◌, ◌^◌, ◌==◌, ◌||◌, ◌⊎◌, inl, append_assoc, true, false, cond, List, [], ◌∷◌, ◌++◌, length}
 use Rattle.std.proofs.Common.{ap, sym, refl, subst, arith, ne_eqb, eq-eqb}
 use Rattle.std.proofs.lemmas.Int.Digits.{length-digits_of-le}
 use Rattle.scm_model.specs.declared.flat.Flat.{Flat}
@@ -22,7 +22,8 @@ use Rattle.scm_generate.proofs.Created.{IsWide, begins, created, creates_all, fr
 use Rattle.scm_generate.proofs.Falling.{HasFallen, answers, falls_all}
 use Rattle.scm_generate.proofs.Goes.{Goes, goes_both, goes_one}
 use Rattle.scm_generate.proofs.Graph.{Climbs, IsLine}
-use Rattle.scm_generate.proofs.Launching.{Climbing, IsRun, ran}
+use Rattle.scm_generate.proofs.Launching.{Climbing, ran}
+use Rattle.scm_generate.proofs.Owned.{IsRun, stopped, stopped_rests}
 use Rattle.scm_generate.proofs.Settling.{IsAtRest, at_one, decided, pending, under_way}
 use Rattle.scm_generate.proofs.Shape.{Live, resting}
 
@@ -43,19 +44,22 @@ module _ (l : Limits) (n : ℕ) (look : ℕ → Live) (i process plan due : ℕ)
 
   -- the state in which the first service is being launched
   abbrev wanting : (t : ℕ) (more : List ℕ) (m : ℕ) → Flat
-  wanting t more m = under_way n (at_one look t (pending m)) (wanted_process m t ∷ []) (wanted_row m [] ∷ []) plan i (t ∷ more) (t ∷ []) (m
+  wanting t more m = under_way n (at_one look t (pending m)) (wanted_process m t false ∷ []) (wanted_row m [] ∷ []) plan i (t ∷ more) (t ∷ []) (m
       + 1) due
 
   none_yet : process + 0 ≡ process
   none_yet = omega arith
 
-  begun : (t : ℕ) → Climbing (at_one look t (pending (process + 0))) process t []
+  begun : (t : ℕ) → Climbing n (at_one look t (pending (process + 0))) process t []
   begun t = record {
     here = ap (λ b. cond b (pending (process + 0)) (look t)) (eq-eqb t t refl);
     others = λ k other. subst (λ b. IsAtRest (cond b (pending (process + 0)) (look k))
         ⊎ IsRun process (process + 0) (cond b (pending (process + 0)) (look k))) (sym other) (inl (still k));
     above = λ k far. subst (λ b. IsAtRest (cond b (pending (process + 0)) (look k))) (sym (ne_eqb k t (λ e. omega (arith, e, far))))
         (still k);
+    before = λ k. elim (k == t) as (λ b. IsAtRest (cond b stopped (cond b (pending (process + 0)) (look k))))
+        [ true ↦ stopped_rests | false ↦ still k ];
+    below = tt;
   }
 
   climbed : (t : ℕ) (more : List ℕ) → 0 < t → t ≤ n → Climbs n t more i → suc (length more) ≡ depth_of i
@@ -76,7 +80,7 @@ module _ (l : Limits) (n : ℕ) (look : ℕ → Live) (i process plan due : ℕ)
   fallen f asked climbed =
       let run = decided n climbed.look (ran process climbed.done) plan i climbed.entries climbed.tried (process
       + length climbed.done) due in
-      let down = falls_all l n climbed.look process climbed.done (process + length climbed.done) (plan + 1) (due + 1) low climbed.each in
+      let down = falls_all l n climbed.look process climbed.done (process + length climbed.done) (plan + 1) (due + 1) low climbed.owned in
       let answered = answers l n climbed.look process plan i climbed.done climbed.entries climbed.tried (process
       + length climbed.done) due in
       subst (λ c. HasFallen l n (process + c) (plan + 1) (due + 1) rest

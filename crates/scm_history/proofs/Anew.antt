@@ -13,8 +13,9 @@ use Rattle.scm_model.specs.declared.steps.Step.{Step}
 use Rattle.scm_model.specs.declared.steps.Step.TheVariants.{Joined, Call, LaunchTaken, Launched, LaunchFailed, Report, Ended, ControlTaken}
 use Rattle.scm_model.specs.declared.steps.Step.TheVariants.{Tick, Raised}
 use Rattle.scm_model.specs.Changes.{with_moment}
-use Rattle.scm_rules.specs.Controls.{dequeued_if}
-use Rattle.scm_rules.specs.Launches.{current_of, first_wanted, is_taken, is_taken_phase, launched_if, process_of, taken_if, with_fallen}
+use Rattle.scm_rules.specs.Controls.{first_asked}
+use Rattle.scm_rules.specs.Reports.{reporting}
+use Rattle.scm_rules.specs.Launches.{currents, first_wanted, is_taken, is_taken_phase, launched_if, process_of, taken_if, with_fallen}
 use Rattle.scm_rules.specs.Launches.{without_process}
 use Rattle.scm_rules.specs.Runs.{IsLegal, run_state}
 use Rattle.scm_model.specs.Entries.{Entry}
@@ -24,14 +25,14 @@ use Rattle.scm_runs.proofs.Along.{at_end}
 use Rattle.scm_runs.proofs.Calls.{keeps}
 use Rattle.scm_runs.proofs.Lists.{found_owns, is_some-find}
 use Rattle.scm_runs.proofs.Processes.{first_there, number_of, first_is_to_be}
-use Rattle.scm_runs.proofs.Sound.{Sound, controls_fewer}
+use Rattle.scm_runs.proofs.Sound.{Sound}
 use Rattle.scm_runs.proofs.Wanted.{taken_is_listed}
 use Rattle.scm_history.specs.Anew.{MakesAnew}
 use Rattle.scm_rules.specs.Named.{caller_made, has_begun, has_made, has_taken, is_it, makes_caller, names_caller, plan_made, process_taken}
 use Rattle.scm_rules.specs.Named.{takes_process}
 use Rattle.scm_history.specs.Processes.{apart_from_controls}
 use Rattle.scm_history.proofs.Callers.{rising}
-use Rattle.scm_history.proofs.Effects.{controls_apart, of_call, of_raise}
+use Rattle.scm_history.proofs.Effects.{of_call, of_raise, released_apart, sent_apart}
 use Rattle.scm_history.proofs.Finds.{found_map}
 use Rattle.scm_history.proofs.Numbers.{begun, joins_after, plan_rises}
 use Rattle.scm_history.proofs.Own.{given_it}
@@ -42,7 +43,7 @@ use Rattle.scm_runs.proofs.Histories.{made_front, may_behind}
 use Rattle.scm_rules.specs.Histories.{state}
 use Rattle.scm_model.proofs.Found.{found_keeps}
 use Rattle.scm_runs.proofs.Founds.{if_some, it_is}
-use Rattle.scm_runs.proofs.Failing.{failing_apart}
+use Rattle.scm_runs.proofs.Failing.{all_failing_apart, failing_apart}
 use Rattle.scm_rules.specs.Failures.{failed_by}
 use Rattle.scm_model.specs.declared.codes.TheConstants.{ERROR_PROCESS_ABORTED}
 
@@ -139,13 +140,14 @@ past_effect l f moment (Launched process pid) number low past =
 past_effect l f moment (LaunchFailed process code) number low past = left_not is_wanted_in refl number process f.processes past
 past_effect l f moment (Report process service status) number low past =
     failing_apart (λ (g : Flat). is_wanted_in (process_of g number) ≡ false)
-    (failed_by status (current_of f process)) _ past
+    (failed_by status (reporting f process service)) _
+    (told_apart is_wanted_in wanted_apart number f.processes _ (released_apart status (reporting f process service) f.processes) ∙ past)
 past_effect l f moment (Ended process) number low past =
-    failing_apart (λ (g : Flat). is_wanted_in (process_of (without_process g process) number) ≡ false) (current_of f process)
+    all_failing_apart (λ (g : Flat). is_wanted_in (process_of (without_process g process) number) ≡ false) (currents process f.services)
     (with_fallen (with_moment f moment) process ERROR_PROCESS_ABORTED)
     (left_not is_wanted_in refl number process f.processes past)
 past_effect l f moment (ControlTaken process) number low past =
-    told_apart is_wanted_in wanted_apart number f.processes _ (controls_apart (dequeued_if process) (controls_fewer process) f.processes)
+    told_apart is_wanted_in wanted_apart number f.processes _ (sent_apart (first_asked f process) process f.processes)
     ∙ past
 past_effect l f moment Tick number low past = ap is_wanted_in (ticked_still l (with_moment f moment) number low).same ∙ past
 past_effect l f moment (Raised caller subtype) number low past = told_apart is_wanted_in wanted_apart number f.processes _

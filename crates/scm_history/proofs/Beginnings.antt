@@ -24,7 +24,7 @@ use Rattle.status_machine.specs.Moves.{take_report}
 use Rattle.scm_rules.specs.Ends.{end_told}
 use Rattle.scm_rules.specs.Named.{plan_made}
 use Rattle.scm_rules.specs.Needs.{start_order}
-use Rattle.scm_rules.specs.Reports.{current_of, report_answer, report_told}
+use Rattle.scm_rules.specs.Reports.{report_answer, report_told, reporting}
 use Rattle.scm_rules.specs.Start.{new_plan, start_done, start_verdict, with_plan, with_start}
 use Rattle.scm_rules.specs.Steps.{answered_by, at_moment, effect_of, finished, left_by, may, step_of}
 use Rattle.scm_rules.specs.Verdicts.{told_refused}
@@ -39,8 +39,8 @@ use Rattle.scm_history.proofs.Plans.{IsThere, caller_in, lasts, target_in}
 use Rattle.scm_model.specs.Found.{if_found}
 use Rattle.scm_runs.proofs.Founds.{control_begins, launch_begins}
 use Rattle.scm_runs.proofs.Calls.{start_held}
-use Rattle.scm_rules.specs.Launches.{first_wanted}
-use Rattle.scm_rules.specs.Controls.{controls_of, first_control}
+use Rattle.scm_rules.specs.Launches.{currents, first_wanted}
+use Rattle.scm_rules.specs.Controls.{next_order}
 use Rattle.scm_model.specs.declared.steps.Answer.{Answer}
 
 -- ## The plan that begins
@@ -123,9 +123,9 @@ report_begins : (g : Flat) (found : Option Service) (report : Status) → plan_m
 report_begins g None report = refl
 report_begins g (Some row) report = report_plain g (take_report row.status report)
 
-end_begins : (g : Flat) (found : Option Service) → plan_made (finished g (end_told found)).answer ≡ None
-end_begins g None = refl
-end_begins g (Some row) = refl
+end_begins : (g : Flat) (falling : List Service) → plan_made (finished g (end_told falling)).answer ≡ None
+end_begins g [] = refl
+end_begins g (row ∷ rows) = refl
 
 -- an answer that isn't of a plan that begins stays none
 no_plan : (g : Flat) (told : Answer) → plan_made told ≡ None → plan_made (finished g told).answer ≡ None
@@ -138,14 +138,14 @@ of_step l f moment (Call caller (request.Start handle words) append) s ok =
     of_start l f moment caller handle words append s (and_parts _ _ (and_parts _ _ ok).0).0
 of_step l f moment (Report process service status) s ok =
     report_begins (settled l (effect_of l (at_moment f moment (Report process service status)) (Report process service status)).flat)
-    (current_of f process) status
+    (reporting f process service) status
 of_step l f moment (Ended process) s ok = end_begins (settled l (effect_of l (at_moment f moment (Ended process)) (Ended process)).flat)
-    (current_of f process)
+    (currents process f.services)
 of_step l f moment LaunchTaken s ok = no_plan (settled l (effect_of l (at_moment f moment LaunchTaken) LaunchTaken).flat) _
     (launch_begins (first_wanted f.wanted))
 of_step l f moment (ControlTaken process) s ok =
     no_plan (settled l (effect_of l (at_moment f moment (ControlTaken process)) (ControlTaken process)).flat) _
-    (control_begins (first_control (controls_of f process)))
+    (control_begins (next_order f process))
 of_step l f moment step s ok = refl
 
 pub gives : (l : Limits) → Gives Sound LawOfBegun l

@@ -18,10 +18,11 @@ use Rattle.scm_model.specs.declared.steps.Step.{Step}
 use Rattle.scm_model.specs.declared.steps.Step.TheVariants.{Call, EndStart, Launched, LaunchFailed, Report, Ended, Tick, Raised, Gone}
 use Rattle.scm_model.specs.declared.steps.Step.TheVariants.{LaunchTaken, ControlTaken}
 use Rattle.scm_model.specs.Changes.{with_moment}
-use Rattle.start_plan.specs.Decided.{aims_at, plan_caller, code_of, decided_if, decided_in, is_callers, is_numbered, without_plan}
+use Rattle.start_plan.specs.Decided.{aims_among, plan_caller, code_of, decided_if, decided_in, is_callers, is_numbered, without_plan}
 use Rattle.start_plan.specs.Settle.{settle_all, settled, stays}
 use Rattle.start_plan.proofs.Keeps.{Keeps, all_filter, keeps_all}
-use Rattle.scm_rules.specs.Launches.{current_of, service_of_process, with_fallen}
+use Rattle.scm_rules.specs.Reports.{reporting}
+use Rattle.scm_rules.specs.Launches.{currents, currents_in, with_fallen}
 use Rattle.scm_rules.specs.Runs.{run_state}
 use Rattle.scm_model.specs.Entries.{Entry}
 use Rattle.scm_rules.specs.Start.{is_caller_of, start_done, start_verdict, with_start}
@@ -33,10 +34,8 @@ use Rattle.scm_runs.proofs.Plans.{all_more}
 use Rattle.scm_rules.specs.Named.{has_begun, is_it, names_caller, plan_made}
 use Rattle.scm_history.specs.Made.{AnswersItsOwn}
 use Rattle.std.proofs.lemmas.Bool.{and_parts}
-use Rattle.scm_model.proofs.Found.{found_keeps}
-use Rattle.scm_model.specs.Found.{if_found}
 use Rattle.scm_runs.proofs.Founds.{opened_keeps, started_keeps, notify_apart}
-use Rattle.scm_runs.proofs.Failing.{failing_apart}
+use Rattle.scm_runs.proofs.Failing.{all_failing_apart, failing_apart}
 use Rattle.scm_rules.specs.Failures.{failed_by}
 use Rattle.scm_model.specs.declared.codes.TheConstants.{ERROR_PROCESS_ABORTED}
 use Rattle.scm_model.specs.Rows.{held_service}
@@ -63,12 +62,6 @@ decided : (number caller : ℕ) (test : Plan → Bool) (code : ℕ) (plans : Lis
     → AreOther number caller (decided_in test code plans)
 decided number caller test code plans all = all_filter (IsOther number caller) stays (map (decided_if test code) plans)
     (coded number caller test code plans all)
-
-starts_decided : (number caller : ℕ) (target : Option ℕ) (code : ℕ) (plans : List Plan) → AreOther number caller plans
-    → AreOther number caller (if_found (λ service. decided_in (aims_at service) code) target plans)
-starts_decided number caller target code plans all =
-    found_keeps (AreOther number caller) (λ service. decided_in (aims_at service) code) target plans all
-    (λ one is. decided number caller (aims_at one) code plans all)
 
 has_expired : (number caller : ℕ) (plans : List Plan) (kind : DueKind) → AreOther number caller plans
     → AreOther number caller (expired plans kind)
@@ -196,10 +189,10 @@ of_step number caller l f moment (EndStart by plan) somebody all not_told =
     (all_filter (IsOther number caller) (λ (row : Plan). not (is_numbered plan row)) f.plans all)
 of_step number caller l f moment (Launched process pid) somebody all not_told =
     settles l (effect_of l (with_moment f moment) (Launched process pid)).flat number caller
-    (starts_decided number caller (service_of_process f process) 0 f.plans all)
+    (decided number caller (aims_among (currents_in process f.services)) 0 f.plans all)
 of_step number caller l f moment (LaunchFailed process code) somebody all not_told =
     settles l (effect_of l (with_moment f moment) (LaunchFailed process code)).flat number caller
-    (starts_decided number caller (service_of_process f process) code f.plans all)
+    (decided number caller (aims_among (currents_in process f.services)) code f.plans all)
 of_step number caller l f moment LaunchTaken somebody all not_told =
     let done = effect_of l (with_moment f moment) LaunchTaken in
     finishes number caller (settled l done.flat) done.answer (settles l done.flat number caller all)
@@ -210,11 +203,11 @@ of_step number caller l f moment (Report process service status) somebody all no
     let done = effect_of l (with_moment f moment) (Report process service status) in
     finishes number caller (settled l done.flat) done.answer
     (settles l done.flat number caller (failing_apart (λ (g : Flat). AreOther number caller g.plans)
-    (failed_by status (current_of f process)) _ all))
+    (failed_by status (reporting f process service)) _ all))
 of_step number caller l f moment (Ended process) somebody all not_told =
     let done = effect_of l (with_moment f moment) (Ended process) in
     finishes number caller (settled l done.flat) done.answer
-    (settles l done.flat number caller (failing_apart (λ (g : Flat). AreOther number caller g.plans) (current_of f process)
+    (settles l done.flat number caller (all_failing_apart (λ (g : Flat). AreOther number caller g.plans) (currents process f.services)
     (with_fallen (with_moment f moment) process ERROR_PROCESS_ABORTED) all))
 of_step number caller l f moment Tick somebody all not_told =
     settles l (effect_of l (with_moment f moment) Tick).flat number caller

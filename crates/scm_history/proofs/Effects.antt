@@ -1,25 +1,28 @@
 -- What steps leave of callers, processes, plans and next numbers.
-use Rattle.std.proofs.Common.{ℕ, ◌≡◌, ◌∙◌, Bool, true, false, List, map, ap, refl}
+use Rattle.std.proofs.Common.{ℕ, ◌≡◌, ◌∙◌, Bool, true, false, cond, List, Option, None, Some, map, ap, refl}
 use Rattle.scm_model.specs.declared.flat.Flat.{Flat}
 use Rattle.scm_model.specs.declared.flat.Limits.{Limits}
 use Rattle.scm_model.specs.declared.flat.Process.{Process}
 use Rattle.scm_model.specs.declared.calls.Request.{Request}
 use Rattle.scm_model.specs.declared.calls.Request.TheVariants as request
 use Rattle.scm_model.specs.declared.steps.Kept.{Kept}
-use Rattle.scm_rules.specs.Controls.{controlled_if, order_to}
+use Rattle.scm_rules.specs.Controls.{controlled_if, dequeued_if, dequeued_in, order_to}
+use Rattle.scm_model.specs.Found.{if_found}
+use Rattle.scm_model.specs.declared.flat.Status.{Status}
 use Rattle.scm_rules.specs.Verdicts.{call_of, done_of, told_refused, verdict}
 use Rattle.scm_runs.proofs.Calls.{by_verdict}
 use Rattle.scm_runs.proofs.Lists.{map_same}
 use Rattle.scm_runs.proofs.Processes.{IsOfControls}
-use Rattle.scm_runs.proofs.Sound.{controls_more}
+use Rattle.scm_runs.proofs.Sound.{controls_fewer, controls_more, controls_released}
 use Rattle.scm_history.specs.Processes.{apart_from_controls}
 use Rattle.scm_model.proofs.Found.{found_keeps}
 use Rattle.scm_model.specs.Rows.{held_service}
 use Rattle.scm_runs.proofs.Founds.{opened_keeps, started_keeps, notify_apart}
 use Rattle.scm_model.specs.declared.flat.Service.{Service}
-use Rattle.scm_runs.proofs.Failing.{failing_apart}
+use Rattle.scm_runs.proofs.Failing.{all_failing_apart, failing_apart}
 use Rattle.scm_rules.specs.Failures.{failed_by}
-use Rattle.scm_rules.specs.Launches.{current_of, with_fallen, without_process}
+use Rattle.scm_rules.specs.Reports.{is_stopped_by, released_by, released_if, reporting}
+use Rattle.scm_rules.specs.Launches.{currents, with_fallen, without_process}
 use Rattle.scm_rules.specs.Raise.{raised}
 use Rattle.scm_rules.specs.Steps.{at_moment, effect_of}
 use Rattle.scm_runs.proofs.Unasked.{raised_apart, raised_by, ticked_apart}
@@ -32,6 +35,23 @@ use Rattle.scm_model.specs.declared.codes.TheConstants.{ERROR_PROCESS_ABORTED, S
 pub controls_apart : (change : Process → Process) → IsOfControls change → (rows : List Process)
     → map apart_from_controls (map change rows) ≡ map apart_from_controls rows
 controls_apart change only rows = map_same change apart_from_controls (λ row. ap apart_from_controls (only row)) rows
+
+-- what is sent next is taken of the controls alone
+pub sent_apart : (asked : Option Service) (process : ℕ) (rows : List Process)
+    → map apart_from_controls (dequeued_in asked process rows) ≡ map apart_from_controls rows
+sent_apart None process rows = controls_apart (dequeued_if process) (controls_fewer process) rows
+sent_apart (Some row) process rows = refl
+
+-- and so are the orders of a service that a report stops
+pub released_apart : (report : Status) (service : Option Service) (rows : List Process)
+    → map apart_from_controls (if_found (released_by report) service rows) ≡ map apart_from_controls rows
+released_apart report service rows =
+    found_keeps (λ (left : List Process). map apart_from_controls left ≡ map apart_from_controls rows) (released_by report) service rows refl
+    (λ row is. elim (is_stopped_by report row) as (λ b. map apart_from_controls (cond b (map (released_if row.process row.number) rows) rows)
+    ≡ map apart_from_controls rows) [
+      | true ↦ controls_apart (released_if row.process row.number) (controls_released row.process row.number) rows
+      | false ↦ refl
+    ])
 
 -- callers and processes are as they were, apart from controls, with the next numbers of both
 pub record Spares (f g : Flat) : Type 0 where
@@ -66,7 +86,12 @@ of_done l f caller (request.Control handle control) = record {
 }
 of_done l f caller (request.SetStatus handle status) =
     failing_apart (Spares f) (failed_by status (held_service f caller handle)) _
-    (record { callers = refl; processes = refl; next_caller = refl; next_process = refl })
+    (record {
+      callers = refl;
+      processes = released_apart status (held_service f caller handle) f.processes;
+      next_caller = refl;
+      next_process = refl;
+    })
 of_done l f caller (request.Notify handle mask) =
     notify_apart (Spares f) f caller handle mask (λ rows next. record {
       callers = refl;
@@ -121,10 +146,10 @@ callers_left l f moment (Gone caller) e = absurd cc
 callers_left l f moment (Call caller asked append) e =
     let spares = of_call l (with_moment f moment) caller asked append in
     record { rows = spares.callers; next = spares.next_caller }
-callers_left l f moment (Report process service status) e = failing_apart (HasCallers f) (failed_by status (current_of f process)) _
+callers_left l f moment (Report process service status) e = failing_apart (HasCallers f) (failed_by status (reporting f process service)) _
     (record { rows = refl; next = refl })
 callers_left l f moment (Ended process) e =
-    failing_apart (λ (g : Flat). HasCallers f (without_process g process)) (current_of f process)
+    all_failing_apart (λ (g : Flat). HasCallers f (without_process g process)) (currents process f.services)
     (with_fallen (with_moment f moment) process ERROR_PROCESS_ABORTED) (record { rows = refl; next = refl })
 callers_left l f moment Tick e = ticked_apart (HasCallers f) l (with_moment f moment) (record { rows = refl; next = refl })
 callers_left l f moment (Raised caller subtype) e = raised_apart (HasCallers f) l (with_moment f moment) caller subtype

@@ -20,21 +20,19 @@ use Rattle.scm_model.specs.declared.steps.Step.{Step}
 use Rattle.scm_model.specs.declared.steps.Step.TheVariants.{Call, EndStart, Launched, LaunchFailed, Report, Ended, Tick, Raised, Gone}
 use Rattle.scm_model.specs.declared.steps.Step.TheVariants.{LaunchTaken, ControlTaken}
 use Rattle.scm_model.specs.Changes.{with_moment}
-use Rattle.start_plan.specs.Decided.{aims_at, code_of, decided_if, decided_in, is_numbered, without_plan, without_plans_of}
+use Rattle.start_plan.specs.Decided.{aims_among, code_of, decided_if, decided_in, is_numbered, without_plan, without_plans_of}
 use Rattle.start_plan.specs.Settle.{settle_all, settle_plan, settled, stays}
 use Rattle.start_plan.proofs.Keeps.{Keeps, keeps_all}
-use Rattle.scm_rules.specs.Launches.{service_of_process, first_wanted, launch_told}
-use Rattle.scm_rules.specs.Reports.{current_of, report_answer, report_told}
+use Rattle.scm_rules.specs.Launches.{currents, currents_in, first_wanted, launch_told}
+use Rattle.scm_rules.specs.Reports.{report_answer, report_told, reporting}
 use Rattle.scm_rules.specs.Ends.{end_told}
 use Rattle.scm_rules.specs.Steps.{call_answer, at_moment, effect_of, finished, left_by, step_of, tells_plan}
 use Rattle.scm_rules.specs.Verdicts.{call_of, done_of, told_refused, verdict}
 use Rattle.scm_runs.proofs.Calls.{by_verdict}
 use Rattle.scm_rules.specs.Named.{plan_made}
-use Rattle.scm_model.proofs.Found.{found_keeps}
-use Rattle.scm_model.specs.Found.{if_found}
 use Rattle.scm_runs.proofs.Founds.{opened_keeps, started_keeps, notify_apart}
-use Rattle.scm_rules.specs.Controls.{control_sent, controls_of, first_control}
-use Rattle.scm_runs.proofs.Failing.{failing_apart}
+use Rattle.scm_rules.specs.Controls.{control_sent, next_order}
+use Rattle.scm_runs.proofs.Failing.{all_failing_apart, failing_apart}
 use Rattle.scm_rules.specs.Failures.{failed_by}
 use Rattle.scm_model.specs.declared.codes.TheConstants.{ERROR_PROCESS_ABORTED}
 use Rattle.scm_model.specs.Rows.{held_service}
@@ -67,13 +65,6 @@ expires : (number : ℕ) (Over Left : ℕ → Type 0) (P : List Plan → Type 0)
     → P plans → P (expired plans kind)
 expires number Over Left P lasts plans (dues.Deadline plan) p = decides number Over Left P lasts (is_numbered plan) 1053 plans p
 expires number Over Left P lasts plans kind p = p
-
-starts_decided : (number : ℕ) (Over Left : ℕ → Type 0) (P : List Plan → Type 0) → Lasts number Over Left P
-    → (target : Option ℕ) (code : ℕ) (plans : List Plan) → P plans
-    → P (if_found (λ service. decided_in (aims_at service) code) target plans)
-starts_decided number Over Left P lasts target code plans p =
-    found_keeps P (λ service. decided_in (aims_at service) code) target plans p
-    (λ one is. decides number Over Left P lasts (aims_at one) code plans p)
 
 of_done : (number : ℕ) (Over Left : ℕ → Type 0) (P : List Plan → Type 0) → Lasts number Over Left P
     → (l : Limits) (f : Flat) (caller : ℕ) (asked : Request) → (f.next.plan == number) ≡ false → P f.plans
@@ -118,13 +109,13 @@ of_effect number Over Left P lasts l f moment (Call caller asked append) low all
     of_call number Over Left P lasts l (with_moment f moment) caller asked append (later number f.next.plan low) p
 of_effect number Over Left P lasts l f moment (EndStart caller plan) low allowed p = lasts.ends plan f.plans allowed p
 of_effect number Over Left P lasts l f moment (Launched process pid) low allowed p =
-    starts_decided number Over Left P lasts (service_of_process f process) 0 f.plans p
+    decides number Over Left P lasts (aims_among (currents_in process f.services)) 0 f.plans p
 of_effect number Over Left P lasts l f moment (LaunchFailed process code) low allowed p =
-    starts_decided number Over Left P lasts (service_of_process f process) code f.plans p
+    decides number Over Left P lasts (aims_among (currents_in process f.services)) code f.plans p
 of_effect number Over Left P lasts l f moment (Report process service status) low allowed p =
-    failing_apart (λ (g : Flat). P g.plans) (failed_by status (current_of f process)) _ p
+    failing_apart (λ (g : Flat). P g.plans) (failed_by status (reporting f process service)) _ p
 of_effect number Over Left P lasts l f moment (Ended process) low allowed p =
-    failing_apart (λ (g : Flat). P g.plans) (current_of f process) (with_fallen (with_moment f moment) process ERROR_PROCESS_ABORTED) p
+    all_failing_apart (λ (g : Flat). P g.plans) (currents process f.services) (with_fallen (with_moment f moment) process ERROR_PROCESS_ABORTED) p
 of_effect number Over Left P lasts l f moment Tick low allowed p = (ticked_by (LastsIn number P) l (record {
   spends = λ g row is q. (q.0, expires number Over Left P lasts g.plans row.kind q.1);
   starts = λ g row there can q. start_lasts number Over Left P lasts g row q;
@@ -157,9 +148,9 @@ report_begins (Some row) report = answer_begins _
 pub report_none : (P : ℕ → Type 0) (found : Option Service) (report : Status) → IfSome (plan_made (report_told found report)) P
 report_none P found report = subst (λ o. IfSome o P) (sym (report_begins found report)) tt
 
-pub end_none : (P : ℕ → Type 0) (found : Option Service) → IfSome (plan_made (end_told found)) P
-end_none P None = tt
-end_none P (Some row) = tt
+pub end_none : (P : ℕ → Type 0) (falling : List Service) → IfSome (plan_made (end_told falling)) P
+end_none P [] = tt
+end_none P (row ∷ rows) = tt
 
 pub launch_none : (P : ℕ → Type 0) (found : Option ℕ) → IfSome (plan_made (launch_told found)) P
 launch_none P None = tt
@@ -175,10 +166,10 @@ pub begins_next : (l : Limits) (f : Flat) (moment : ℕ) (step : Step) → IfSom
 begins_next l f moment (Call caller asked append) =
     let g = with_moment f moment in
     answers_next (tells_plan asked (verdict l g caller asked append)) f.next.plan (call_of l g caller asked append).reply
-begins_next l f moment (Report process service status) = report_none (λ number. number ≡ f.next.plan) (current_of f process) status
-begins_next l f moment (Ended process) = end_none (λ number. number ≡ f.next.plan) (current_of f process)
+begins_next l f moment (Report process service status) = report_none (λ number. number ≡ f.next.plan) (reporting f process service) status
+begins_next l f moment (Ended process) = end_none (λ number. number ≡ f.next.plan) (currents process f.services)
 begins_next l f moment LaunchTaken = launch_none (λ number. number ≡ f.next.plan) (first_wanted f.wanted)
-begins_next l f moment (ControlTaken process) = control_none (λ number. number ≡ f.next.plan) (first_control (controls_of f process))
+begins_next l f moment (ControlTaken process) = control_none (λ number. number ≡ f.next.plan) (next_order f process)
 begins_next l f moment step = tt
 
 left : (number : ℕ) (Over Left : ℕ → Type 0) (P : List Plan → Type 0) → Lasts number Over Left P → (g : Flat) (plan : ℕ) (code : Option ℕ)

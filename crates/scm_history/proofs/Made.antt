@@ -12,14 +12,15 @@ use Rattle.scm_model.specs.declared.flat.Process.{Process}
 use Rattle.scm_model.specs.declared.steps.Step.{Step}
 use Rattle.scm_model.specs.declared.steps.Step.TheVariants.{Joined, Call, LaunchTaken, Launched, LaunchFailed, Report, Ended, ControlTaken}
 use Rattle.scm_model.specs.declared.steps.Step.TheVariants.{Gone, Tick, Raised}
-use Rattle.scm_model.specs.Rows.{is_caller}
+use Rattle.scm_model.specs.Rows.{is_caller, service_of}
 use Rattle.scm_model.specs.Changes.{with_moment}
-use Rattle.start_plan.specs.Entered.{wanted_process}
+use Rattle.start_plan.specs.Entered.{is_shared_by, wanted_process}
 use Rattle.start_plan.specs.Settle.{settled}
 use Rattle.start_plan.proofs.Enterings.{all_units}
 use Rattle.start_plan.proofs.Keeps.{Keeps, keeps_all}
-use Rattle.scm_rules.specs.Controls.{dequeued_if}
-use Rattle.scm_rules.specs.Launches.{current_of, first_wanted, is_launched, is_running_phase, is_taken, is_taken_phase, launched_if}
+use Rattle.scm_rules.specs.Controls.{first_asked}
+use Rattle.scm_rules.specs.Reports.{reporting}
+use Rattle.scm_rules.specs.Launches.{currents, first_wanted, is_launched, is_running_phase, is_taken, is_taken_phase, launched_if}
 use Rattle.scm_rules.specs.Launches.{process_of, taken_if, with_fallen, without_process}
 use Rattle.scm_rules.specs.Opening.{IsOpening}
 use Rattle.scm_rules.specs.Runs.{IsLegal, run_state}
@@ -28,21 +29,20 @@ use Rattle.scm_rules.specs.Steps.{at_moment, effect_of, may, step_of}
 use Rattle.scm_rules.specs.Valid.{is_to_launch, is_wanted_phase}
 use Rattle.scm_runs.proofs.Frames.{finished_keeps}
 use Rattle.scm_runs.proofs.Handled.{has_caller}
-use Rattle.scm_runs.proofs.Sound.{controls_fewer}
 use Rattle.scm_rules.specs.Named.{caller_named, has_made, has_taken, makes_caller, process_named, takes_process, is_it}
 use Rattle.scm_history.specs.Made.{StandsBehind}
 use Rattle.scm_history.specs.Names.{has_come_to}
 use Rattle.scm_history.specs.Processes.{apart_from_controls}
 use Rattle.scm_history.proofs.Begun.{answers_own}
 use Rattle.scm_history.proofs.Callers.{caller_after}
-use Rattle.scm_history.proofs.Effects.{callers_left, controls_apart, of_call, of_raise}
+use Rattle.scm_history.proofs.Effects.{callers_left, of_call, of_raise, released_apart, sent_apart}
 use Rattle.scm_history.proofs.Finds.{find_push, none_filter}
 use Rattle.scm_history.proofs.Names.{caller_there, process_there}
 use Rattle.scm_history.proofs.Processes.{has, launches, left_not, others_changed, takes, told_apart}
 use Rattle.std.proofs.lemmas.Bool.{and_parts}
 use Rattle.scm_runs.proofs.Histories.{made_front, may_behind}
 use Rattle.scm_model.proofs.Found.{found_keeps}
-use Rattle.scm_runs.proofs.Failing.{failing_apart}
+use Rattle.scm_runs.proofs.Failing.{all_failing_apart, failing_apart}
 use Rattle.scm_rules.specs.Failures.{failed_by}
 use Rattle.scm_runs.proofs.Unasked.{ticked_by}
 use Rattle.scm_model.specs.declared.codes.TheConstants.{ERROR_PROCESS_ABORTED}
@@ -129,14 +129,15 @@ abbrev IsNotBegun : ℕ → Flat → Type 0
 IsNotBegun number f = is_begun (process_of f number) ≡ false
 
 -- a process that is wanted is still to be launched
-wanted_not : (number next service : ℕ) (rows : List Process) → is_begun (find (has number) rows) ≡ false
-    → is_begun (find (has number) (rows ++ wanted_process next service ∷ [])) ≡ false
-wanted_not number next service [] none = elim (next == number) as (λ b. is_begun (cond b (Some (wanted_process next service)) None) ≡ false)
+wanted_not : (number next service : ℕ) (shared : Bool) (rows : List Process) → is_begun (find (has number) rows) ≡ false
+    → is_begun (find (has number) (rows ++ wanted_process next service shared ∷ [])) ≡ false
+wanted_not number next service shared [] none =
+    elim (next == number) as (λ b. is_begun (cond b (Some (wanted_process next service shared)) None) ≡ false)
     [ true ↦ refl | false ↦ refl ]
-wanted_not number next service (row ∷ rows) none =
+wanted_not number next service shared (row ∷ rows) none =
     elim (row.number == number) as (λ b. is_begun (cond b (Some row) (find (has number) rows)) ≡ false
-    → is_begun (cond b (Some row) (find (has number) (rows ++ wanted_process next service ∷ []))) ≡ false)
-    [ true ↦ λ h. h | false ↦ λ h. wanted_not number next service rows h ] none
+    → is_begun (cond b (Some row) (find (has number) (rows ++ wanted_process next service shared ∷ []))) ≡ false)
+    [ true ↦ λ h. h | false ↦ λ h. wanted_not number next service shared rows h ] none
 
 -- an effect that takes another process in hand, or none
 not_begun : (l : Limits) (f : Flat) (moment : ℕ) (step : Step) (number : ℕ) → IsTrue (may l f moment step)
@@ -151,18 +152,19 @@ not_begun l f moment LaunchTaken number ok other none =
 not_begun l f moment (Launched process pid) number ok other none = launched_not number process pid f.processes (and_parts _ _ ok).0 none
 not_begun l f moment (LaunchFailed process code) number ok other none = left_not is_begun refl number process f.processes none
 not_begun l f moment (Report process service status) number ok other none = failing_apart (IsNotBegun number)
-    (failed_by status (current_of f process)) _ none
+    (failed_by status (reporting f process service)) _
+    (told_apart is_begun begun_apart number f.processes _ (released_apart status (reporting f process service) f.processes) ∙ none)
 not_begun l f moment (Ended process) number ok other none =
-    failing_apart (λ (g : Flat). IsNotBegun number (without_process g process)) (current_of f process)
+    all_failing_apart (λ (g : Flat). IsNotBegun number (without_process g process)) (currents process f.services)
     (with_fallen (with_moment f moment) process ERROR_PROCESS_ABORTED) (left_not is_begun refl number process f.processes none)
 not_begun l f moment (ControlTaken process) number ok other none =
-    told_apart is_begun begun_apart number f.processes _ (controls_apart (dequeued_if process) (controls_fewer process) f.processes) ∙ none
+    told_apart is_begun begun_apart number f.processes _ (sent_apart (first_asked f process) process f.processes) ∙ none
 not_begun l f moment Tick number ok other none =
     ticked_by (IsNotBegun number) l
     (record {
       spends = λ g row is q. q;
       starts = λ g row there can q. q;
-      runs = λ g row there can q. wanted_not number g.next.process 0 g.processes q;
+      runs = λ g row there can q. wanted_not number g.next.process 0 false g.processes q;
       reboots = λ g q. q;
     }) (with_moment f moment) none
 not_begun l f moment (Raised caller subtype) number ok other none = told_apart is_begun begun_apart number f.processes _
@@ -171,7 +173,7 @@ not_begun l f moment step number ok other none = none
 
 stays_not : (l : Limits) (number : ℕ) → Keeps l (IsNotBegun number) (λ plan. Unit {0})
 stays_not l number = record {
-  enters = λ f plan service words entry none. wanted_not number f.next.process service f.processes none;
+  enters = λ f plan service words entry none. wanted_not number f.next.process service (is_shared_by (service_of f service)) f.processes none;
   tries = λ f plan service entry q. tt;
   drops = λ plan service rest code q. tt;
 }

@@ -27,7 +27,7 @@ pub process_there : (l : Limits) (f : Flat) (moment : ℕ) (step : Step) → IsT
     → IfSome (process_named step) (λ number. IsTrue (has_come_to step (process_of f number)))
 process_there l f moment (Launched process pid) ok = (and_parts _ _ ok).0
 process_there l f moment (LaunchFailed process code) ok = (and_parts _ _ (and_parts _ _ ok).0).0
-process_there l f moment (Report process service status) ok = (and_parts _ _ (and_parts _ _ ok).0).1
+process_there l f moment (Report process service status) ok = (and_parts _ _ ok).0
 process_there l f moment (Ended process) ok = (and_parts _ _ ok).0
 process_there l f moment step ok = tt
 

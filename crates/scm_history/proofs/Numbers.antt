@@ -17,7 +17,7 @@ use Rattle.scm_model.specs.declared.steps.Step.TheVariants.{Raised}
 use Rattle.scm_model.specs.Changes.{with_moment}
 use Rattle.start_plan.specs.Decided.{code_of, is_callers, is_numbered, plan_of}
 use Rattle.start_plan.specs.Settle.{settled, stays}
-use Rattle.scm_rules.specs.Reports.{current_of}
+use Rattle.scm_rules.specs.Reports.{reporting}
 use Rattle.scm_rules.specs.Start.{start_done, start_verdict, with_start}
 use Rattle.scm_rules.specs.Steps.{at_moment, effect_of, finished, answered_by, step_of}
 use Rattle.scm_rules.specs.Verdicts.{call_of, done_of, told_refused, verdict}
@@ -34,9 +34,9 @@ use Rattle.scm_history.proofs.Processes.{after_effect, none_effect, process_rise
 use Rattle.scm_runs.proofs.Frames.{framed}
 use Rattle.scm_model.specs.Found.{if_found}
 use Rattle.scm_runs.proofs.Founds.{opened_keeps, started_keeps, notify_apart}
-use Rattle.scm_rules.specs.Launches.{first_wanted}
-use Rattle.scm_rules.specs.Controls.{controls_of, first_control}
-use Rattle.scm_runs.proofs.Failing.{failing_apart}
+use Rattle.scm_rules.specs.Launches.{currents, first_wanted}
+use Rattle.scm_rules.specs.Controls.{next_order}
+use Rattle.scm_runs.proofs.Failing.{all_failing_apart, failing_apart}
 use Rattle.scm_rules.specs.Failures.{failed_by}
 use Rattle.scm_runs.proofs.Unasked.{raised_by, ticked_by}
 use Rattle.scm_rules.specs.Launches.{with_fallen}
@@ -94,8 +94,8 @@ plan_call l f caller asked append =
 plan_effect : (l : Limits) (f : Flat) (moment : ℕ) (step : Step) → f.next.plan ≤ (effect_of l (at_moment f moment step) step).flat.next.plan
 plan_effect l f moment (Call caller asked append) = plan_call l (with_moment f moment) caller asked append
 plan_effect l f moment (Report process service status) = failing_apart (λ (g : Flat). f.next.plan ≤ g.next.plan)
-    (failed_by status (current_of f process)) _ (omega arith)
-plan_effect l f moment (Ended process) = failing_apart (λ (g : Flat). f.next.plan ≤ g.next.plan) (current_of f process)
+    (failed_by status (reporting f process service)) _ (omega arith)
+plan_effect l f moment (Ended process) = all_failing_apart (λ (g : Flat). f.next.plan ≤ g.next.plan) (currents process f.services)
     (with_fallen (with_moment f moment) process ERROR_PROCESS_ABORTED) (omega arith)
 plan_effect l f moment Tick =
     ticked_by (λ (g : Flat). f.next.plan ≤ g.next.plan) l
@@ -148,11 +148,11 @@ begun_effect : (l : Limits) (f : Flat) (moment : ℕ) (step : Step) → IfSome (
 begun_effect l f moment (Call caller asked append) = begun_call l f moment caller asked append
 begun_effect l f moment (Report process service status) =
     report_none (IsGiven f.next.plan (effect_of l (with_moment f moment) (Report process service status)).flat.next.plan)
-    (current_of f process) status
+    (reporting f process service) status
 begun_effect l f moment (Ended process) = end_none (IsGiven f.next.plan (effect_of l (with_moment f moment) (Ended process)).flat.next.plan)
-    (current_of f process)
+    (currents process f.services)
 begun_effect l f moment LaunchTaken = launch_none (IsGiven f.next.plan f.next.plan) (first_wanted f.wanted)
-begun_effect l f moment (ControlTaken process) = control_none (IsGiven f.next.plan f.next.plan) (first_control (controls_of f process))
+begun_effect l f moment (ControlTaken process) = control_none (IsGiven f.next.plan f.next.plan) (next_order f process)
 begun_effect l f moment step = tt
 
 -- an answer that is a start's number was one before

@@ -47,13 +47,14 @@ use Rattle.scm_history.proofs.Registrations.{Stands, watching_row, made_number, 
 use Rattle.scm_model.specs.Notices.{notified, taken_once}
 use Rattle.scm_runs.proofs.Told.{notified_or}
 use Rattle.scm_runs.proofs.Registered.{all_put, taken_or}
-use Rattle.scm_runs.proofs.Failing.{failing_keeps}
+use Rattle.scm_runs.proofs.Failing.{any_failing_keeps, failing_keeps}
 use Rattle.scm_runs.proofs.Unasked.{raised_by, ticked_by}
-use Rattle.scm_rules.specs.Failures.{failed_by, with_failure}
+use Rattle.scm_rules.specs.Failures.{all_failed, failed_by, with_failure}
 use Rattle.scm_rules.specs.Due.{beside, is_due_of, with_due}
 use Rattle.scm_rules.specs.Start.{with_start}
 use Rattle.scm_model.specs.Found.{if_found}
-use Rattle.scm_rules.specs.Launches.{current_of, with_fallen}
+use Rattle.scm_rules.specs.Reports.{reporting}
+use Rattle.scm_rules.specs.Launches.{currents, with_fallen}
 use Rattle.scm_model.specs.declared.flat.DueKind.{DueKind}
 use Rattle.scm_model.specs.declared.flat.DueKind.TheVariants as dues
 use Rattle.scm_model.specs.declared.codes.TheConstants.{ERROR_PROCESS_ABORTED}
@@ -72,6 +73,16 @@ no_rise f = record { service = omega arith; registration = omega arith; due = om
 failing_rises : (f : Flat) (found : Option Service) (g : Flat) → Rises f g → Rises f (if_found with_failure found g)
 failing_rises f found g up =
     failing_keeps (Rises f) found g up (λ row is. record { service = up.service; registration = up.registration; due = up.due })
+    (λ service h moment kind is more. record {
+      service = more.service;
+      registration = more.registration;
+      due = (let least = more.due in omega (arith, least));
+    })
+
+all_failing_rises : (f : Flat) (rows : List Service) (g : Flat) → Rises f g → Rises f (all_failed rows g)
+all_failing_rises f rows g up =
+    any_failing_keeps (Rises f) rows g up
+    (λ row h more. record { service = more.service; registration = more.registration; due = more.due })
     (λ service h moment kind is more. record {
       service = more.service;
       registration = more.registration;
@@ -105,10 +116,10 @@ effect_rises : (l : Limits) (f : Flat) (moment : ℕ) (step : Step) → Rises f 
 effect_rises l f moment (Call caller asked append) =
     let up = call_rises l (with_moment f moment) caller asked append in
     record { service = up.service; registration = up.registration; due = up.due }
-effect_rises l f moment (Report process service status) = failing_rises f (failed_by status (current_of f process)) _
+effect_rises l f moment (Report process service status) = failing_rises f (failed_by status (reporting f process service)) _
     (record { service = omega arith; registration = omega arith; due = omega arith })
 effect_rises l f moment (Ended process) =
-    let up = failing_rises f (current_of f process) (with_fallen (with_moment f moment) process ERROR_PROCESS_ABORTED)
+    let up = all_failing_rises f (currents process f.services) (with_fallen (with_moment f moment) process ERROR_PROCESS_ABORTED)
     (record { service = omega arith; registration = omega arith; due = omega arith }) in
     record { service = up.service; registration = up.registration; due = up.due }
 effect_rises l f moment Tick = ticked_by (Rises f) l (record {
@@ -201,6 +212,10 @@ failing_old : (f : Flat) (found : Option Service) (g : Flat) → AreOld f g → 
 failing_old f found g old = failing_keeps (AreOld f) found g old (λ row is. old)
     (λ service h moment kind is more. old_push f h moment kind more)
 
+all_failing_old : (f : Flat) (rows : List Service) (g : Flat) → AreOld f g → AreOld f (all_failed rows g)
+all_failing_old f rows g old = any_failing_keeps (AreOld f) rows g old (λ row h more. more)
+    (λ service h moment kind is more. old_push f h moment kind more)
+
 -- a start brings its deadline
 start_old : (f g : Flat) (row : Service) → AreOld f g → AreOld f (with_start 0 [] row g)
 start_old f g row old = ((let up = old.0 in omega (arith, up)), All-push (IsOld f) g.dues _ old.1 (inr old.0))
@@ -226,9 +241,9 @@ call_dues l f caller asked append =
 
 effect_dues : (l : Limits) (f : Flat) (moment : ℕ) (step : Step) → All (IsOld f) (effect_of l (at_moment f moment step) step).flat.dues
 effect_dues l f moment (Call caller asked append) = call_dues l (with_moment f moment) caller asked append
-effect_dues l f moment (Report process service status) = (failing_old f (failed_by status (current_of f process)) _
+effect_dues l f moment (Report process service status) = (failing_old f (failed_by status (reporting f process service)) _
     (omega arith, old_dues f)).1
-effect_dues l f moment (Ended process) = (failing_old f (current_of f process)
+effect_dues l f moment (Ended process) = (all_failing_old f (currents process f.services)
     (with_fallen (with_moment f moment) process ERROR_PROCESS_ABORTED) (omega arith, old_dues f)).1
 effect_dues l f moment Tick = (ticked_by (AreOld f) l (record {
   spends = λ g row is old. (old.0, All-filter (λ (due : Due). not (due.number == row.number)) (IsOld f) g.dues old.1);

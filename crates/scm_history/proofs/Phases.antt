@@ -10,7 +10,8 @@ use Rattle.scm_model.specs.declared.flat.Process.{Process}
 use Rattle.scm_model.specs.declared.flat.Status.{Status}
 use Rattle.scm_model.specs.declared.steps.Step.{Step}
 use Rattle.scm_model.specs.declared.steps.Step.TheVariants.{LaunchTaken, Launched, LaunchFailed, Report, Ended}
-use Rattle.scm_rules.specs.Launches.{current_of, is_launched, is_running_phase, is_taken, is_taken_phase, launched_if, process_of}
+use Rattle.scm_rules.specs.Reports.{reporting}
+use Rattle.scm_rules.specs.Launches.{currents, is_launched, is_running_phase, is_taken, is_taken_phase, launched_if, process_of}
 use Rattle.scm_rules.specs.Launches.{with_fallen, without_process}
 use Rattle.scm_rules.specs.Steps.{may, step_of}
 use Rattle.scm_runs.proofs.Along.{Gives}
@@ -19,9 +20,11 @@ use Rattle.scm_runs.proofs.Sound.{Sound}
 use Rattle.scm_runs.proofs.Wanted.{taken_is_listed, taken_listed}
 use Rattle.scm_history.specs.Phases.{LawOfPhases, LeavesSo, RunsAs, RunsOn, IsInHand}
 use Rattle.scm_history.proofs.Finds.{found_map, is_some-map}
-use Rattle.scm_history.proofs.Processes.{after_effect, has, launches, listed_below, none_left}
+use Rattle.scm_history.specs.Processes.{apart_from_controls}
+use Rattle.scm_history.proofs.Effects.{released_apart}
+use Rattle.scm_history.proofs.Processes.{after_effect, found_apart, has, launches, listed_below, none_left}
 use Rattle.scm_runs.proofs.Processes.{first_of}
-use Rattle.scm_runs.proofs.Failing.{failing_apart}
+use Rattle.scm_runs.proofs.Failing.{all_failing_apart, failing_apart}
 use Rattle.scm_rules.specs.Failures.{failed_by}
 use Rattle.scm_model.specs.declared.codes.TheConstants.{ERROR_PROCESS_ABORTED}
 use Rattle.scm_model.specs.Changes.{with_moment}
@@ -79,14 +82,26 @@ of_launched l f moment process pid s taken =
 
 -- ## Steps
 
+phase_apart : (row : Option Process) → option_map (λ (row : Process). row.phase) (option_map apart_from_controls row) ≡ option_map
+    (λ (row : Process). row.phase) row
+phase_apart None = refl
+phase_apart (Some row) = refl
+
 of_report : (l : Limits) (f : Flat) (moment process service : ℕ) (report : Status) → Sound f → is_launched (process_of f process) ≡ true
     → RunsOn f (step_of l f moment (Report process service report)).flat process
 of_report l f moment process service report s running =
     let low = listed_below f process s (runs_listed (process_of f process) running) in
-    let same : process_of (step_of l f moment (Report process service report)).flat process ≡ process_of f process =
-    after_effect l f moment (Report process service report) process low
-    ∙ failing_apart (λ (g : Flat). process_of g process ≡ process_of f process) (failed_by report (current_of f process)) _ refl in
-    record { phase = ap (option_map (λ (row : Process). row.phase)) same ∙ runs (process_of f process) running; same = same }
+    let after = (step_of l f moment (Report process service report)).flat in
+    let same : option_map apart_from_controls (process_of after process) ≡ option_map apart_from_controls (process_of f process) =
+    ap (option_map apart_from_controls) (after_effect l f moment (Report process service report) process low)
+    ∙ failing_apart (λ (g : Flat). option_map apart_from_controls (process_of g process) ≡ option_map apart_from_controls
+    (process_of f process)) (failed_by report (reporting f process service)) _
+    (found_apart process f.processes _ (released_apart report (reporting f process service) f.processes)) in
+    record {
+      phase = sym (phase_apart (process_of after process)) ∙ ap (option_map (λ (row : Process). row.phase)) same
+          ∙ phase_apart (process_of f process) ∙ runs (process_of f process) running;
+      same = same;
+    }
 
 of_step : (l : Limits) (f : Flat) (moment : ℕ) (step : Step) → Sound f → IsTrue (may l f moment step)
     → LeavesSo f step (step_of l f moment step).flat
@@ -95,13 +110,13 @@ of_step l f moment LaunchTaken s ok =
     subst (IsInHand (step_of l f moment LaunchTaken).flat) (sym first.is) (in_hand _ (taken_is_listed l f moment first.number s first.is))
 of_step l f moment (Launched process pid) s ok = of_launched l f moment process pid s (and_parts _ _ ok).0
 of_step l f moment (Report process service status) s ok = of_report l f moment process service status s
-    (and_parts _ _ (and_parts _ _ ok).0).1
+    (and_parts _ _ ok).0
 of_step l f moment (LaunchFailed process code) s ok =
     after_effect l f moment (LaunchFailed process code) process (listed_below f process s
     (taken_listed (process_of f process) (and_parts _ _ (and_parts _ _ ok).0).0)) ∙ none_left process f.processes
 of_step l f moment (Ended process) s ok =
     after_effect l f moment (Ended process) process (listed_below f process s (runs_listed (process_of f process) (and_parts _ _ ok).0))
-    ∙ failing_apart (λ (g : Flat). process_of (without_process g process) process ≡ None) (current_of f process)
+    ∙ all_failing_apart (λ (g : Flat). process_of (without_process g process) process ≡ None) (currents process f.services)
     (with_fallen (with_moment f moment) process ERROR_PROCESS_ABORTED) (none_left process f.processes)
 of_step l f moment step s ok = tt
 

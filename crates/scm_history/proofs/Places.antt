@@ -10,25 +10,27 @@ use Rattle.scm_model.specs.declared.steps.Step.{Step}
 use Rattle.scm_model.specs.declared.steps.Step.TheVariants.{Call, LaunchTaken, Launched, LaunchFailed, Report, Ended, ControlTaken, Tick}
 use Rattle.scm_model.specs.declared.steps.Step.TheVariants.{Raised}
 use Rattle.scm_model.specs.Changes.{with_moment}
-use Rattle.start_plan.specs.Entered.{wanted_process}
+use Rattle.scm_model.specs.Rows.{service_of}
+use Rattle.start_plan.specs.Entered.{is_shared_by, wanted_process}
 use Rattle.start_plan.specs.Settle.{settled}
 use Rattle.start_plan.proofs.Enterings.{all_units}
 use Rattle.start_plan.proofs.Keeps.{Keeps, keeps_all}
-use Rattle.scm_rules.specs.Controls.{dequeued_if}
-use Rattle.scm_rules.specs.Launches.{current_of, first_wanted, launched_if, taken_if, with_fallen, without_process}
+use Rattle.scm_rules.specs.Controls.{first_asked}
+use Rattle.scm_rules.specs.Reports.{reporting}
+use Rattle.scm_rules.specs.Launches.{currents, first_wanted, launched_if, taken_if, with_fallen, without_process}
 use Rattle.scm_rules.specs.Steps.{at_moment, effect_of, step_of}
 use Rattle.scm_runs.proofs.Along.{Gives}
 use Rattle.scm_runs.proofs.Frames.{finished_keeps}
 use Rattle.scm_runs.proofs.Lists.{map_same}
-use Rattle.scm_runs.proofs.Sound.{Sound, controls_fewer}
+use Rattle.scm_runs.proofs.Sound.{Sound}
 use Rattle.scm_rules.specs.Named.{names_process, takes_process, is_it}
 use Rattle.scm_history.specs.Places.{PlacesStay, process_numbers, those_not_meant, those_that_stay}
 use Rattle.scm_history.specs.Processes.{apart_from_controls}
-use Rattle.scm_history.proofs.Effects.{controls_apart, of_call, of_raise}
+use Rattle.scm_history.proofs.Effects.{of_call, of_raise, released_apart, sent_apart}
 use Rattle.scm_history.proofs.Processes.{IsOf, launches, process_effect, takes}
 use Rattle.std.proofs.lemmas.Bool.{or_left}
 use Rattle.scm_model.proofs.Found.{found_keeps}
-use Rattle.scm_runs.proofs.Failing.{failing_apart}
+use Rattle.scm_runs.proofs.Failing.{all_failing_apart, failing_apart}
 use Rattle.scm_rules.specs.Failures.{failed_by}
 use Rattle.scm_model.specs.declared.codes.TheConstants.{ERROR_PROCESS_ABORTED}
 use Rattle.scm_runs.proofs.Unasked.{ticked_by}
@@ -162,18 +164,19 @@ of_effect l f moment (LaunchFailed process code) = record {
       (λ n e. or_left _ _ e) f.processes;
 }
 of_effect l f moment (Report process service status) =
-    failing_apart (λ (g : Flat). HavePlaces f (Report process service status) g.processes) (failed_by status (current_of f process)) _
-    (record { places = all_stay f.processes; others = refl })
+    failing_apart (λ (g : Flat). HavePlaces f (Report process service status) g.processes) (failed_by status (reporting f process service)) _
+    (apart_places f (Report process service status) _ (all_stay f.processes)
+    (released_apart status (reporting f process service) f.processes))
 of_effect l f moment (Ended process) =
-    failing_apart (λ (g : Flat). HavePlaces f (Ended process) (without_process g process).processes) (current_of f process)
+    all_failing_apart (λ (g : Flat). HavePlaces f (Ended process) (without_process g process).processes) (currents process f.services)
     (with_fallen (with_moment f moment) process ERROR_PROCESS_ABORTED) (record {
       places = refl;
       others = others_left (λ n. names_process n (Ended process) || takes_process f n (Ended process)) process
           (λ n e. or_left _ _ e) f.processes;
     })
 of_effect l f moment (ControlTaken process) =
-    apart_places f (ControlTaken process) _ (all_stay f.processes) (controls_apart (dequeued_if process)
-    (controls_fewer process) f.processes)
+    apart_places f (ControlTaken process) _ (all_stay f.processes) (sent_apart (first_asked f process) process
+    f.processes)
 of_effect l f moment (Raised caller subtype) =
     apart_places f (Raised caller subtype) _ (all_stay f.processes) (of_raise l (with_moment f moment) caller subtype).processes
 of_effect l f moment step = record { places = all_stay f.processes; others = refl }
@@ -196,19 +199,19 @@ append_none [] = refl
 append_none (row ∷ rows) = ap (λ rest. row ∷ rest) (append_none rows)
 
 -- one more that is wanted
-one_grown : (bound : ℕ) (old : List Process) (g : Flat) (service : ℕ) → Grown bound old g → (h : Flat) → h.processes ≡ g.processes
-    ++ wanted_process g.next.process service ∷ [] → h.next.process ≡ g.next.process + 1 → Grown bound old h
-one_grown bound old g service is h more next = record {
-  new = is.new ++ wanted_process g.next.process service ∷ [];
-  listed = more ∙ ap (λ rows. rows ++ wanted_process g.next.process service ∷ []) is.listed
-      ∙ append_assoc old is.new (wanted_process g.next.process service ∷ []);
-  given = All-push (λ (row : Process). bound ≤ row.number) is.new (wanted_process g.next.process service) is.given is.up;
+one_grown : (bound : ℕ) (old : List Process) (g : Flat) (service : ℕ) (shared : Bool) → Grown bound old g → (h : Flat) → h.processes ≡ g.processes
+    ++ wanted_process g.next.process service shared ∷ [] → h.next.process ≡ g.next.process + 1 → Grown bound old h
+one_grown bound old g service shared is h more next = record {
+  new = is.new ++ wanted_process g.next.process service shared ∷ [];
+  listed = more ∙ ap (λ rows. rows ++ wanted_process g.next.process service shared ∷ []) is.listed
+      ∙ append_assoc old is.new (wanted_process g.next.process service shared ∷ []);
+  given = All-push (λ (row : Process). bound ≤ row.number) is.new (wanted_process g.next.process service shared) is.given is.up;
   up = (let up = is.up in omega (arith, up, next));
 }
 
 grows : (l : Limits) (bound : ℕ) (old : List Process) → Keeps l (Grown bound old) (λ plan. Unit {0})
 grows l bound old = record {
-  enters = λ g plan service words entry is. one_grown bound old g service is _ refl refl;
+  enters = λ g plan service words entry is. one_grown bound old g service (is_shared_by (service_of g service)) is _ refl refl;
   tries = λ g plan service entry q. tt;
   drops = λ plan service rest code q. tt;
 }
@@ -231,7 +234,7 @@ effect_grown : (l : Limits) (f : Flat) (moment : ℕ) (step : Step) → Grown f.
 effect_grown l f moment Tick = ticked_by (Grown f.next.process f.processes) l (record {
   spends = λ g row is h. record { new = h.new; listed = h.listed; given = h.given; up = h.up };
   starts = λ g row there can h. record { new = h.new; listed = h.listed; given = h.given; up = h.up };
-  runs = λ g row there can h. one_grown f.next.process f.processes g 0 h _ refl refl;
+  runs = λ g row there can h. one_grown f.next.process f.processes g 0 false h _ refl refl;
   reboots = λ g h. record { new = h.new; listed = h.listed; given = h.given; up = h.up };
 }) (with_moment f moment) (none_new f.next.process (with_moment f moment) (omega arith))
 effect_grown l f moment step = none_new f.next.process (effect_of l (at_moment f moment step) step).flat (process_effect l f moment step)

@@ -11,23 +11,25 @@ use Rattle.scm_model.specs.declared.steps.Step.{Step}
 use Rattle.scm_model.specs.declared.steps.Step.TheVariants.{Call, LaunchTaken, Launched, LaunchFailed, Report, Ended, ControlTaken, Tick}
 use Rattle.scm_model.specs.declared.steps.Step.TheVariants.{Raised}
 use Rattle.scm_model.specs.Changes.{with_moment}
-use Rattle.start_plan.specs.Entered.{wanted_process}
+use Rattle.scm_model.specs.Rows.{service_of}
+use Rattle.start_plan.specs.Entered.{is_shared_by, wanted_process}
 use Rattle.start_plan.specs.Settle.{settled}
 use Rattle.start_plan.proofs.Enterings.{all_units}
 use Rattle.start_plan.proofs.Keeps.{Keeps, keeps_all}
-use Rattle.scm_rules.specs.Controls.{dequeued_if}
-use Rattle.scm_rules.specs.Launches.{current_of, first_wanted, launched_if, process_of, taken_if, with_fallen, without_process}
+use Rattle.scm_rules.specs.Controls.{first_asked}
+use Rattle.scm_rules.specs.Reports.{reporting}
+use Rattle.scm_rules.specs.Launches.{currents, first_wanted, launched_if, process_of, taken_if, with_fallen, without_process}
 use Rattle.scm_rules.specs.Steps.{at_moment, effect_of, finished, step_of}
 use Rattle.scm_runs.proofs.Along.{Gives}
 use Rattle.scm_runs.proofs.Frames.{finished_keeps}
 use Rattle.scm_runs.proofs.Lists.{find_filter}
-use Rattle.scm_runs.proofs.Sound.{Sound, controls_fewer}
+use Rattle.scm_runs.proofs.Sound.{Sound}
 use Rattle.scm_rules.specs.Named.{names_process, takes_process, is_it}
 use Rattle.scm_history.specs.Processes.{OthersStay, apart_from_controls}
-use Rattle.scm_history.proofs.Effects.{controls_apart, of_call, of_raise}
+use Rattle.scm_history.proofs.Effects.{of_call, of_raise, released_apart, sent_apart}
 use Rattle.scm_history.proofs.Finds.{find_map, find_push, found_below, found_map, none_filter}
 use Rattle.scm_model.proofs.Found.{found_keeps}
-use Rattle.scm_runs.proofs.Failing.{failing_apart}
+use Rattle.scm_runs.proofs.Failing.{all_failing_apart, failing_apart}
 use Rattle.scm_rules.specs.Failures.{failed_by}
 use Rattle.scm_runs.proofs.Unasked.{ticked_by}
 use Rattle.scm_rules.specs.Ticks.{ticked}
@@ -142,7 +144,7 @@ ticked_still l f number low = ticked_by (IsAs f.next.process number (process_of 
   starts = λ g row there can p. record { up = p.up; same = p.same };
   runs = λ g row there can p. record {
     up = (let up = p.up in omega (arith, up));
-    same = find_push (has number) g.processes (wanted_process g.next.process 0)
+    same = find_push (has number) g.processes (wanted_process g.next.process 0 false)
         (ne_eqb g.next.process number (λ e. absurd (let up = p.up in omega (arith, e, up, low)))) ∙ p.same;
   };
   reboots = λ g p. record { up = p.up; same = p.same };
@@ -164,13 +166,14 @@ of_effect l f moment (Launched process pid) number low named taken =
 of_effect l f moment (LaunchFailed process code) number low named taken = others_left number process f.processes named
 of_effect l f moment (Report process service status) number low named taken =
     failing_apart (λ (g : Flat). option_map apart_from_controls (process_of g number) ≡ option_map apart_from_controls
-    (process_of f number)) (failed_by status (current_of f process)) _ refl
+    (process_of f number)) (failed_by status (reporting f process service)) _
+    (found_apart number f.processes _ (released_apart status (reporting f process service) f.processes))
 of_effect l f moment (Ended process) number low named taken =
-    failing_apart (λ (g : Flat). option_map apart_from_controls (process_of (without_process g process) number) ≡ option_map
-    apart_from_controls (process_of f number)) (current_of f process)
+    all_failing_apart (λ (g : Flat). option_map apart_from_controls (process_of (without_process g process) number) ≡ option_map
+    apart_from_controls (process_of f number)) (currents process f.services)
     (with_fallen (with_moment f moment) process ERROR_PROCESS_ABORTED) (others_left number process f.processes named)
 of_effect l f moment (ControlTaken process) number low named taken = found_apart number f.processes _
-    (controls_apart (dequeued_if process) (controls_fewer process) f.processes)
+    (sent_apart (first_asked f process) process f.processes)
 of_effect l f moment Tick number low named taken = ap (option_map apart_from_controls)
     (ticked_still l (with_moment f moment) number low).same
 of_effect l f moment (Raised caller subtype) number low named taken = found_apart number f.processes _
@@ -191,13 +194,14 @@ none_effect l f moment (Launched process pid) number low none = none_changed num
 none_effect l f moment (LaunchFailed process code) number low none = none_filter (has number)
     (λ (row : Process). not (row.number == process)) f.processes none
 none_effect l f moment (Report process service status) number low none = failing_apart (λ (g : Flat). is_some (process_of g number) ≡ false)
-    (failed_by status (current_of f process)) _ none
+    (failed_by status (reporting f process service)) _ (told_apart is_some (is_some-map apart_from_controls) number f.processes _
+    (released_apart status (reporting f process service) f.processes) ∙ none)
 none_effect l f moment (Ended process) number low none =
-    failing_apart (λ (g : Flat). is_some (process_of (without_process g process) number) ≡ false) (current_of f process)
+    all_failing_apart (λ (g : Flat). is_some (process_of (without_process g process) number) ≡ false) (currents process f.services)
     (with_fallen (with_moment f moment) process ERROR_PROCESS_ABORTED)
     (none_filter (has number) (λ (row : Process). not (row.number == process)) f.processes none)
 none_effect l f moment (ControlTaken process) number low none = told_apart is_some (is_some-map apart_from_controls) number f.processes _
-    (controls_apart (dequeued_if process) (controls_fewer process) f.processes) ∙ none
+    (sent_apart (first_asked f process) process f.processes) ∙ none
 none_effect l f moment Tick number low none = ap is_some (ticked_still l (with_moment f moment) number low).same ∙ none
 none_effect l f moment (Raised caller subtype) number low none =
     told_apart is_some (is_some-map apart_from_controls) number f.processes _ (of_raise l (with_moment f moment) caller subtype).processes
@@ -210,9 +214,9 @@ pub process_effect : (l : Limits) (f : Flat) (moment : ℕ) (step : Step)
 process_effect l f moment (Call caller asked append) = (let e = (of_call l (with_moment f moment) caller asked append).next_process in
     omega (arith, e))
 process_effect l f moment (Report process service status) = failing_apart (λ (g : Flat). f.next.process ≤ g.next.process)
-    (failed_by status (current_of f process)) _ (omega arith)
+    (failed_by status (reporting f process service)) _ (omega arith)
 process_effect l f moment (Ended process) =
-    failing_apart (λ (g : Flat). f.next.process ≤ g.next.process) (current_of f process)
+    all_failing_apart (λ (g : Flat). f.next.process ≤ g.next.process) (currents process f.services)
     (with_fallen (with_moment f moment) process ERROR_PROCESS_ABORTED) (omega arith)
 process_effect l f moment Tick =
     ticked_by (λ (g : Flat). f.next.process ≤ g.next.process) l
@@ -232,7 +236,7 @@ stays_as : (l : Limits) (bound number : ℕ) (row : Option Process) → number <
 stays_as l bound number row low = record {
   enters = λ g plan service words entry is. record {
     up = (let up = is.up in omega arith);
-    same = find_push (has number) g.processes (wanted_process g.next.process service)
+    same = find_push (has number) g.processes (wanted_process g.next.process service (is_shared_by (service_of g service)))
         (ne_eqb g.next.process number (λ e. absurd (let up = is.up in omega (arith, e, up, low)))) ∙ is.same;
   };
   tries = λ g plan service entry q. tt;

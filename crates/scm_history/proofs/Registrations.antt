@@ -20,9 +20,9 @@ use Rattle.scm_model.specs.declared.steps.Step.{Step}
 use Rattle.scm_model.specs.declared.steps.Step.TheVariants.{Call, Ended, Gone, LaunchFailed, Report, Tick, Raised}
 use Rattle.scm_rules.proofs.Held.{held_is}
 use Rattle.scm_rules.specs.Create.{created_config, new_status}
-use Rattle.scm_rules.specs.Launches.{current_of, with_fallen}
+use Rattle.scm_rules.specs.Launches.{currents, with_fallen}
 use Rattle.scm_rules.specs.Notify.{notify_of, watched, initial_notification}
-use Rattle.scm_rules.specs.Reports.{reported_if}
+use Rattle.scm_rules.specs.Reports.{is_reporter, reported_if, reporting}
 use Rattle.scm_rules.specs.Steps.{at_moment, effect_of, may, step_of}
 use Rattle.scm_rules.specs.Verdicts.{call_of, done_of, told_refused, verdict}
 use Rattle.scm_runs.proofs.Calls.{by_verdict, of_done as sound_done}
@@ -33,7 +33,7 @@ use Rattle.scm_runs.proofs.Told.{IsNamed, Tells, creation_proper, fall_tells, ma
 use Rattle.scm_runs.proofs.Rows.{IsChecked}
 use Rattle.std.proofs.lemmas.List.Elements.{All-head, All-tail}
 use Rattle.std.proofs.lemmas.Bool.{and_parts}
-use Rattle.scm_runs.proofs.Failing.{failing_apart}
+use Rattle.scm_runs.proofs.Failing.{all_failing_apart, failing_apart}
 use Rattle.scm_rules.specs.Failures.{failed_by}
 use Rattle.scm_runs.proofs.Unasked.{raised_apart, ticked_apart}
 
@@ -97,8 +97,8 @@ of_done l P f caller (request.Delete handle) append st s there e =
     (λ row is. mark_tells P st.tells f.processes row f.registrations (held_named f caller handle row s is) (st.was refl))
 of_done l P f caller (request.SetStatus handle status) append st s there e =
     failing_apart (λ (g : Flat). P g.registrations) (failed_by status (held_service f caller handle)) _
-    (found_keeps P (λ (row : Service). notified_of_move (pid_of f.processes (reported_if row.process status row)) row
-    (reported_if row.process status row)) (held_service f caller handle) f.registrations (st.was refl)
+    (found_keeps P (λ (row : Service). notified_of_move (pid_of f.processes (reported_if row.number status row)) row
+    (reported_if row.number status row)) (held_service f caller handle) f.registrations (st.was refl)
     (λ row is. report_tells P st.tells f.processes status row f.registrations (held_named f caller handle row s is) (st.was refl)))
 of_done l P f caller (request.Create new) append st s there e =
     st.tells (event_of_creation (created_config f new).name (new_status new.kind)) f.registrations
@@ -168,14 +168,14 @@ of_effect l P f moment (Call caller asked append) st s ok =
 of_effect l P f moment (LaunchFailed process code) st s ok = fall_tells P st.tells process code f.services f.registrations (are_named f s)
     (st.was refl)
 of_effect l P f moment (Ended process) st s ok =
-    failing_apart (λ (g : Flat). P g.registrations) (current_of f process) (with_fallen (with_moment f moment) process 1067)
+    all_failing_apart (λ (g : Flat). P g.registrations) (currents process f.services) (with_fallen (with_moment f moment) process 1067)
     (fall_tells P st.tells process 1067 f.services f.registrations (are_named f s) (st.was refl))
 of_effect l P f moment (Report process service report) st s ok =
-    failing_apart (λ (g : Flat). P g.registrations) (failed_by report (current_of f process)) _
-    (found_keeps P (λ (row : Service). notified_of_move (pid_of f.processes (reported_if row.process report row)) row
-    (reported_if row.process report row)) (current_of f process) f.registrations (st.was refl)
+    failing_apart (λ (g : Flat). P g.registrations) (failed_by report (reporting f process service)) _
+    (found_keeps P (λ (row : Service). notified_of_move (pid_of f.processes (reported_if row.number report row)) row
+    (reported_if row.number report row)) (reporting f process service) f.registrations (st.was refl)
     (λ row is. report_tells P st.tells f.processes report row f.registrations
-    (found_has IsNamed (λ (r : Service). r.process == process) row f.services (are_named f s) is) (st.was refl)))
+    (found_has IsNamed (is_reporter f process service) row f.services (are_named f s) is) (st.was refl)))
 of_effect l P f moment (Gone caller) st s ok = st.gone caller refl
 of_effect l P f moment Tick st s ok = ticked_apart (λ (g : Flat). P g.registrations) l (with_moment f moment) (st.was refl)
 of_effect l P f moment (Raised caller subtype) st s ok = raised_apart (λ (g : Flat). P g.registrations) l

@@ -1,5 +1,5 @@
 -- The shape of each answer.
-use Rattle.std.proofs.Common.{ℕ, ◌≡◌, ◌⊎◌, ◌∙◌, ◌==◌, true, false, cond, List, Option, None, Some, Ok, Err, refl, inl, inr, IsTrue, [], ◌∷◌}
+use Rattle.std.proofs.Common.{ℕ, ◌≡◌, ◌⊎◌, ◌==◌, ◌||◌, Bool, true, false, cond, List, Option, None, Some, Ok, Err, refl, inl, inr, IsTrue, [], ◌∷◌}
 use Rattle.std.specs.Prelude.{is_some, unwrap_or, option_and_then}
 use Rattle.scm_model.specs.declared.codes.TheConstants.{ERROR_INVALID_DATA}
 use Rattle.scm_model.specs.declared.flat.Flat.{Flat}
@@ -20,20 +20,20 @@ use Rattle.scm_model.specs.Outcomes.{CallResult}
 use Rattle.start_plan.specs.Decided.{code_of}
 use Rattle.start_plan.specs.Settle.{settled}
 use Rattle.status_machine.specs.Moves.{takes}
-use Rattle.scm_rules.specs.Controls.{controls_of, first_control, control_sent, waits}
+use Rattle.scm_rules.specs.Controls.{control_sent, next_order}
 use Rattle.scm_rules.specs.Ends.{end_told}
-use Rattle.scm_rules.specs.Reports.{current_of, report_answer, report_told}
+use Rattle.scm_rules.specs.Reports.{report_answer, report_told, reporting}
 use Rattle.scm_rules.specs.Start.{start_done, start_verdict}
 use Rattle.scm_rules.specs.Steps.{answered_by, at_moment, effect_of, finished, step_of, may}
 use Rattle.scm_rules.specs.Verdicts.{call_of, done_of, told_refused, verdict}
 use Rattle.scm_runs.proofs.Along.{Gives}
 use Rattle.scm_runs.proofs.Calls.{by_verdict}
-use Rattle.scm_runs.proofs.Lists.{is_some-find}
 use Rattle.scm_runs.proofs.Sound.{Sound}
-use Rattle.scm_history.specs.Shapes.{HasShape, IsAnswered, IsReplied, LawOfShapes, has_current, is_reply_to, IsControl, is_notice, is_page}
+use Rattle.scm_history.specs.Shapes.{HasShape, IsAnswered, IsReplied, LawOfShapes, is_reply_to, IsControl, is_notice, is_page}
 use Rattle.scm_runs.proofs.Founds.{launch_is}
 use Rattle.scm_runs.proofs.Processes.{first_of}
-use Rattle.scm_rules.specs.Launches.{first_wanted}
+use Rattle.scm_rules.specs.Launches.{currents, first_wanted, is_by}
+use Rattle.std.specs.List.{list_any}
 use Rattle.std.proofs.lemmas.Bool.{and_parts}
 use Rattle.scm_rules.specs.Notify.{notice_in, notify_of}
 use Rattle.scm_rules.specs.EnumServices.{page_of, services_asked}
@@ -118,21 +118,23 @@ of_report : (g : Flat) (found : Option Service) (report : Status) → IsHeard fo
 of_report g None report = record { stale = λ e. refl; heard = λ e. absurd cc }
 of_report g (Some row) report = record { stale = λ e. absurd cc; heard = λ e. of_taken g row report }
 
-record IsOver (found : Option Service) (told : Answer) : Type 0 where
-  stale : is_some found ≡ false → told ≡ answer.Stale
-  done : is_some found ≡ true → told ≡ answer.Done
+record IsOver (falls : Bool) (told : Answer) : Type 0 where
+  stale : falls ≡ false → told ≡ answer.Stale
+  done : falls ≡ true → told ≡ answer.Done
 
-of_end : (g : Flat) (found : Option Service) → IsOver found (finished g (end_told found)).answer
-of_end g None = record { stale = λ e. refl; done = λ e. absurd cc }
-of_end g (Some row) = record { stale = λ e. absurd cc; done = λ e. refl }
+of_end : (g : Flat) (process : ℕ) (rows : List Service)
+    → IsOver (list_any (is_by process) rows) (finished g (end_told (currents process rows))).answer
+of_end g process [] = record { stale = λ e. refl; done = λ e. absurd cc }
+of_end g process (row ∷ rows) =
+    elim (is_by process row) as (λ b. IsOver (b || list_any (is_by process) rows)
+    (finished g (end_told (cond b (row ∷ currents process rows) (currents process rows)))).answer) [
+      | true ↦ record { stale = λ e. absurd cc; done = λ e. refl }
+      | false ↦ of_end g process rows
+    ]
 
--- a service is found exactly where one has the process
-same_current : (f : Flat) (process : ℕ) → is_some (current_of f process) ≡ has_current f process
-same_current f process = is_some-find (λ (row : Service). row.process == process) f.services
-
-of_control : (g : Flat) (orders : List Order) → waits orders ≡ true → IsControl (finished g (control_sent (first_control orders))).answer
-of_control g [] some = absurd cc
-of_control g (order ∷ orders) some = record { order = order; is = refl }
+of_control : (g : Flat) (next : Option Order) → is_some next ≡ true → IsControl (finished g (control_sent next)).answer
+of_control g None some = absurd cc
+of_control g (Some order) some = record { order = order; is = refl }
 
 of_step : (l : Limits) (f : Flat) (moment : ℕ) (step : Step) → IsTrue (may l f moment step)
     → HasShape f step (step_of l f moment step).answer
@@ -140,11 +142,11 @@ of_step l f moment (Call caller asked append) ok = of_call l f moment caller ask
 of_step l f moment (EndStart caller plan) ok = record { code = unwrap_or (code_of f.plans plan) 0; is = refl }
 of_step l f moment (Report process service status) ok =
     let told = of_report (settled l (effect_of l (at_moment f moment (Report process service status)) (Report process service status)).flat)
-    (current_of f process) status in
-    record { stale = λ e. told.stale (same_current f process ∙ e); heard = λ e. told.heard (same_current f process ∙ e) }
+    (reporting f process service) status in
+    record { stale = told.stale; heard = told.heard }
 of_step l f moment (Ended process) ok =
-    let told = of_end (settled l (effect_of l (at_moment f moment (Ended process)) (Ended process)).flat) (current_of f process) in
-    record { stale = λ e. told.stale (same_current f process ∙ e); done = λ e. told.done (same_current f process ∙ e) }
+    let told = of_end (settled l (effect_of l (at_moment f moment (Ended process)) (Ended process)).flat) process f.services in
+    record { stale = told.stale; done = told.done }
 of_step l f moment LaunchTaken ok =
     let first = first_of f.wanted (and_parts _ _ ok).0 in
     record {
@@ -154,7 +156,7 @@ of_step l f moment LaunchTaken ok =
           (effect_of l (at_moment f moment LaunchTaken) LaunchTaken).flat) (first_wanted f.wanted) first.number first.is;
     }
 of_step l f moment (ControlTaken process) ok = of_control (settled l (effect_of l (at_moment f moment (ControlTaken process))
-    (ControlTaken process)).flat) (controls_of f process) (and_parts _ _ ok).0
+    (ControlTaken process)).flat) (next_order f process) (and_parts _ _ ok).0
 of_step l f moment (Raised caller subtype) ok = record { code = raise_verdict (with_moment f moment) caller; is = refl }
 of_step l f moment step ok = refl
 

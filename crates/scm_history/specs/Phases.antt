@@ -9,6 +9,7 @@ use Rattle.scm_model.specs.declared.steps.Step.{Step}
 use Rattle.scm_model.specs.declared.steps.Step.TheVariants.{LaunchTaken, Launched, LaunchFailed, Report, Ended}
 use Rattle.scm_model.specs.Entries.{Entry}
 use Rattle.scm_rules.specs.Launches.{first_wanted, process_of}
+use Rattle.scm_history.specs.Processes.{apart_from_controls}
 
 -- how far a process has come, if it is listed
 abbrev pub phase_of : Flat → ℕ → Option Phase
@@ -23,10 +24,10 @@ pub record RunsAs (f : Flat) (number pid : ℕ) : Type 0 where
   pub phase : phase_of f number ≡ Some phases.Launched
   pub by : pid_of_process f number ≡ Some pid
 
--- it runs, and all of it is as it was
+-- it runs, and all of it is as it was, apart from its controls
 pub record RunsOn (before after : Flat) (number : ℕ) : Type 0 where
   pub phase : phase_of after number ≡ Some phases.Launched
-  pub same : process_of after number ≡ process_of before number
+  pub same : option_map apart_from_controls (process_of after number) ≡ option_map apart_from_controls (process_of before number)
 
 -- the launch of a process that was found is taken
 abbrev pub IsInHand : Flat → Option ℕ → Type 0

@@ -1,10 +1,9 @@
 -- The shape of each answer.
-use Rattle.std.specs.Prelude.{ℕ, Bool, ◌≡◌, ◌⊎◌, ◌==◌, true, false, Some}
+use Rattle.std.specs.Prelude.{ℕ, Bool, ◌≡◌, ◌⊎◌, true, false, Some, is_some}
 use Rattle.std.specs.List.{list_any}
 use Rattle.scm_model.specs.declared.codes.TheConstants.{ERROR_INVALID_DATA}
 use Rattle.scm_model.specs.declared.flat.Flat.{Flat}
 use Rattle.scm_model.specs.declared.flat.Order.{Order}
-use Rattle.scm_model.specs.declared.flat.Service.{Service}
 use Rattle.scm_model.specs.declared.calls.Reply.{Reply}
 use Rattle.scm_model.specs.declared.calls.Reply.TheVariants as reply
 use Rattle.scm_model.specs.declared.calls.Request.{Request}
@@ -14,7 +13,8 @@ use Rattle.scm_model.specs.declared.steps.Answer.TheVariants as answer
 use Rattle.scm_model.specs.declared.steps.Step.{Step}
 use Rattle.scm_model.specs.declared.steps.Step.TheVariants.{Joined, Call, EndStart, LaunchTaken, Report, Ended, ControlTaken, Raised}
 use Rattle.scm_model.specs.Entries.{Entry}
-use Rattle.scm_rules.specs.Launches.{first_wanted}
+use Rattle.scm_rules.specs.Launches.{first_wanted, is_by}
+use Rattle.scm_rules.specs.Reports.{reporting}
 
 -- ## Replies
 
@@ -110,24 +110,24 @@ IsAnswered before asked told = IsReplied asked told
 
 -- whether a service has a process as its current one
 abbrev pub has_current : Flat → ℕ → Bool
-has_current f process = list_any (λ (row : Service). row.process == process) f.services
+has_current f process = list_any (is_by process) f.services
 
 -- stale exactly where no service has the process, and else done
 pub record IsStaleOrDone (before : Flat) (process : ℕ) (told : Answer) : Type 0 where
   pub stale : has_current before process ≡ false → told ≡ answer.Stale
   pub done : has_current before process ≡ true → told ≡ answer.Done
 
--- stale exactly where no service has the process, and else taken or refused
-pub record IsStaleOrHeard (before : Flat) (process : ℕ) (told : Answer) : Type 0 where
-  pub stale : has_current before process ≡ false → told ≡ answer.Stale
-  pub heard : has_current before process ≡ true → (told ≡ answer.Done) ⊎ (told ≡ answer.Refused ERROR_INVALID_DATA)
+-- stale exactly where a report names no service whose current process it is, and else taken or refused
+pub record IsStaleOrHeard (before : Flat) (process service : ℕ) (told : Answer) : Type 0 where
+  pub stale : is_some (reporting before process service) ≡ false → told ≡ answer.Stale
+  pub heard : is_some (reporting before process service) ≡ true → (told ≡ answer.Done) ⊎ (told ≡ answer.Refused ERROR_INVALID_DATA)
 
 -- a code: of a start that waited, or of a raise
 pub record IsEnded (told : Answer) : Type 0 where
   pub code : ℕ
   pub is : told ≡ answer.Reply (reply.Code code)
 
--- a control that waited
+-- an order: a control that waited, or a service that is to start
 pub record IsControl (told : Answer) : Type 0 where
   pub order : Order
   pub is : told ≡ answer.Control order
@@ -143,7 +143,7 @@ HasShape before (Joined principal) told = told ≡ answer.Caller before.next.cal
 HasShape before (Call caller asked append) told = IsAnswered before asked told
 HasShape before (EndStart caller plan) told = IsEnded told
 HasShape before LaunchTaken told = IsFirstLaunch before told
-HasShape before (Report process service status) told = IsStaleOrHeard before process told
+HasShape before (Report process service status) told = IsStaleOrHeard before process service told
 HasShape before (Ended process) told = IsStaleOrDone before process told
 HasShape before (ControlTaken process) told = IsControl told
 HasShape before (Raised caller subtype) told = IsEnded told

@@ -1,10 +1,10 @@
 -- The law of controls.
 use Rattle.std.proofs.Common.{ℕ, ◌≡◌, ◌∙◌, ◌<◌, ◌≤◌, ◌==◌, ◌&&◌, ◌||◌, true, false, cond, IsTrue, List, [], ◌∷◌, ◌++◌, append_assoc, Option}
-use Rattle.std.proofs.Common.{None, Some, drop, find, length, map, ap, sym, refl, subst, arith, eq-eqb, eqb-true, inl, inr, ne_eqb}
+use Rattle.std.proofs.Common.{None, Some, drop, find, get_or, length, map, not, ap, sym, refl, subst, arith, eq-eqb, eqb-true, inl, inr, ne_eqb}
 use Rattle.std.specs.Prelude.{All, is_none, is_some, max, nat_le, nat_lt, option_and_then}
 use Rattle.std.proofs.lemmas.Bool.Decides.{nat_tests}
 use Rattle.std.proofs.lemmas.List.{append-nil, length-map}
-use Rattle.std.proofs.lemmas.List.Elements.{All-head, All-nil, All-push, All-tail}
+use Rattle.std.proofs.lemmas.List.Elements.{All-cons, All-filter, All-head, All-map, All-nil, All-push, All-tail}
 use Rattle.scm_model.specs.declared.flat.Flat.{Flat}
 use Rattle.scm_model.specs.declared.flat.HandleKind.{HandleKind}
 use Rattle.scm_model.specs.declared.flat.HandleKind.TheVariants as kinds
@@ -18,35 +18,44 @@ use Rattle.scm_model.specs.declared.calls.Request.TheVariants as request
 use Rattle.scm_model.specs.declared.steps.Answer.TheVariants as answer
 use Rattle.scm_model.specs.declared.steps.Kept.{Kept}
 use Rattle.scm_model.specs.declared.steps.Step.{Step}
-use Rattle.scm_model.specs.declared.steps.Step.TheVariants.{Call, ControlTaken, Ended, LaunchFailed, Raised}
+use Rattle.scm_model.specs.declared.steps.Step.TheVariants.{Call, ControlTaken, Ended, LaunchFailed, Raised, Report}
 use Rattle.scm_model.specs.Changes.{with_moment}
 use Rattle.scm_model.specs.Purge.{purged}
 use Rattle.scm_model.specs.Rows.{handle_of, opened, opened_at, opened_by, service_of, held_service}
 use Rattle.start_plan.specs.Settle.{settled}
 use Rattle.scm_rules.specs.Controls.{active_among, control_done, control_told, control_verdict, controlled_if, controls_in, controls_of}
-use Rattle.scm_rules.specs.Controls.{first_control, granted_in, waiting_for, waits, with_control, with_control_taken, control_sent}
-use Rattle.scm_rules.specs.Controls.{controlled_in, order_to}
-use Rattle.scm_rules.specs.Launches.{process_of}
+use Rattle.scm_rules.specs.Controls.{first_control, granted_in, waiting_for, with_control, with_control_taken, control_sent}
+use Rattle.scm_rules.specs.Controls.{controlled_in, dequeued_in, first_asked, is_asked_by, next_by, order_to, unasked_if, unasked_in}
+use Rattle.scm_rules.specs.Launches.{is_by, process_of}
+use Rattle.scm_rules.specs.Reports.{is_stopped_by, released_by, released_if, reporting, set_status_done, set_status_verdict, with_report_of}
+use Rattle.scm_rules.specs.Failures.{failed_by}
+use Rattle.scm_runs.proofs.Failing.{failing_apart}
+use Rattle.scm_model.specs.Found.{if_found}
+use Rattle.scm_model.specs.Purge.{leaves}
+use Rattle.scm_model.specs.declared.flat.Status.{Status}
+use Rattle.std.specs.List.{AllZip}
+use Rattle.scm_moves.proofs.Entered.{IsSettled, rows_settled}
+use Rattle.scm_moves.proofs.Moved.{finished_services}
+use Rattle.scm_moves.proofs.Own.{by_first, only_one}
 use Rattle.scm_rules.specs.Query.{status_in}
 use Rattle.scm_model.specs.Entries.{Entry}
-use Rattle.scm_rules.specs.Steps.{may, step_of, finished}
+use Rattle.scm_rules.specs.Steps.{at_moment, effect_of, finished, finished_step, may, step_of}
 use Rattle.scm_rules.specs.Valid.{HasListed, IsValid, has_process}
 use Rattle.scm_runs.proofs.Calls.{by_verdict}
-use Rattle.scm_runs.proofs.Lists.{found_has}
-use Rattle.scm_moves.specs.Controls.{FirstIsTaken, IsControlled, IsNeededStill, IsStopped, LawOfControls, OfControls, OneMoreWaits}
-use Rattle.scm_moves.specs.Controls.{changes_controls, status_shown, OneMoreWaitsFor}
+use Rattle.scm_runs.proofs.Lists.{found_has, found_passes}
+use Rattle.scm_moves.specs.Controls.{FirstIsTaken, IsControlled, IsNeededStill, IsReleased, IsSent, IsStopped, LawOfControls, OfControls}
+use Rattle.scm_moves.specs.Controls.{OneMoreWaits, OneMoreWaitsFor, changes_controls, is_process_of, orders_without, status_shown}
 use Rattle.scm_moves.proofs.Judged.{IsTaken, held, holds_up, is_taken}
-use Rattle.scm_moves.proofs.Known.{Holds, IsBelow, IsOfOne, Known, holds}
+use Rattle.scm_moves.proofs.Known.{IsBelow, IsOfOne, Known, all_below}
 use Rattle.scm_moves.proofs.Needed.{needed_same}
 use Rattle.scm_moves.proofs.Still.{stays_put}
 use Rattle.scm_moves.proofs.Found.{found_mapped}
 use Rattle.scm_rules.specs.Raise.{raised}
 use Rattle.scm_runs.proofs.Unasked.{raised_by}
-use Rattle.scm_moves.proofs.Waiting.{controlled, controlled_number, controlled_others, one_behind, ended_none, found, others_wait, relieved}
-use Rattle.scm_moves.proofs.Waiting.{waiting_settled, waiting_after}
+use Rattle.scm_moves.proofs.Waiting.{controlled, controlled_number, controlled_others, one_behind, ended_none, found, others_wait, released}
+use Rattle.scm_moves.proofs.Waiting.{released_number, relieved, waiting_after, waiting_settled}
 use Rattle.std.proofs.lemmas.Bool.{and_parts}
 use Rattle.scm_model.proofs.Found.{found_keeps}
-use Rattle.scm_runs.specs.Leaving.{is_process_of}
 use Rattle.scm_model.specs.declared.flat.Opened.{Opened}
 use Rattle.scm_rules.proofs.Held.{held_is}
 
@@ -193,23 +202,127 @@ controlled_call l f moment caller handle control append v known =
       needed = (still_needed l f caller handle control, needed_still l f caller handle control);
     })
 
--- ## A control that is taken in hand
+-- ## What is sent next
 
-taken_by : (f g after : Flat) (process : ℕ) (orders : List Order) → controls_of f process ≡ orders → waits orders ≡ true
-    → controls_of after process ≡ drop 1 orders → FirstIsTaken f process (finished g (control_sent (first_control orders))).answer after
-taken_by f g after process [] e some left = absurd cc
-taken_by f g after process (order ∷ orders) e some left = record {
+-- the order that waits first
+taken_by : (f g after : Flat) (process : ℕ) (orders : List Order) → first_asked f process ≡ None → controls_of f process ≡ orders
+    → is_some (first_control orders) ≡ true → controls_of after process ≡ drop 1 orders
+    → FirstIsTaken f process (finished g (control_sent (first_control orders))).answer after
+taken_by f g after process [] none e some left = absurd cc
+taken_by f g after process (order ∷ orders) none e some left = record {
+  none = none;
   order = order;
   answers = refl;
-  first = e
-      ∙ ap (λ rest. order ∷ rest) (sym left);
+  first = e ∙ ap (λ rest. order ∷ rest) (sym left);
 }
 
-taken_first : (l : Limits) (f : Flat) (moment process : ℕ) → waits (controls_of f process) ≡ true
-    → FirstIsTaken f process (step_of l f moment (ControlTaken process)).answer (step_of l f moment (ControlTaken process)).flat
-taken_first l f moment process some =
-    taken_by f (settled l (with_control_taken (with_moment f moment) process)) _ process (controls_of f process) refl some
-    (waiting_after l f moment (ControlTaken process) process ∙ relieved process f.processes)
+-- a service that was sent isn't asked, and isn't STOPPED
+record IsTold (number : ℕ) (row : Service) : Type 0 where
+  unasked : row.number ≡ number → row.asked ≡ false
+  runs : row.number ≡ number → (row.status.state == 1) ≡ false
+
+told_row : (number : ℕ) (row : Service) → (row.number ≡ number → (row.status.state == 1) ≡ false) → IsTold number (unasked_if number row)
+told_row number row runs =
+    elim (row.number == number) as (λ b. (row.number == number) ≡ b → IsTold number (cond b (record row { asked = false }) row)) [
+      | true ↦ λ e. record { unasked = λ same. refl; runs = runs }
+      | false ↦ λ e. record {
+        unasked = λ same. absurd (let yes = eq-eqb row.number number same in cc);
+        runs = runs;
+      }
+    ] refl
+
+told_settled : (number next : ℕ) (mids news : List Service) → All (IsTold number) mids → AllZip (IsSettled next) mids news
+    → All (λ (new : Service). new.number ≡ number → new.asked ≡ false) news
+told_settled number next [] [] told settled = All-nil (λ (new : Service). new.number ≡ number → new.asked ≡ false)
+told_settled number next [] (new ∷ news) told settled = absurd settled
+told_settled number next (mid ∷ mids) [] told settled = absurd settled
+told_settled number next (mid ∷ mids) (new ∷ news) told settled =
+    All-cons (λ (row : Service). row.number ≡ number → row.asked ≡ false) new news
+    (one_told mid new (All-head (IsTold number) mid mids told) settled.0)
+    (told_settled number next mids news (All-tail (IsTold number) mid mids told) settled.1)
+  where
+    one_told : (mid new : Service) → IsTold number mid → IsSettled next mid new → new.number ≡ number → new.asked ≡ false
+    one_told mid new told (inl same) is = ap (λ (r : Service). r.asked) same ∙ told.unasked (ap (λ (r : Service). r.number) (sym same) ∙ is)
+    one_told mid new told (inr entered) is =
+        absurd (let runs = told.runs (ap (λ (r : Service). r.number) (sym entered.entered) ∙ is) in
+        let stops = eq-eqb mid.status.state 1 entered.stopped in cc)
+
+-- a service that is asked isn't STOPPED
+asked_runs : (l : Limits) (f : Flat) (process : ℕ) (row : Service) → IsValid l f → first_asked f process ≡ Some row
+    → (row.status.state == 1) ≡ false
+asked_runs l f process row v e =
+    let by = (and_parts (is_by process row) row.asked (found_passes (is_asked_by process) row f.services e)).0 in
+    let first = by_first process row by in
+    found_has (λ (r : Service). (r.status.state == 1) ≡ (r.process == 0)) (is_asked_by process) row f.services v.stopped e
+    ∙ ne_eqb row.process 0 (λ none. absurd (omega (arith, none, first)))
+
+unasked_after : (l : Limits) (f : Flat) (moment process : ℕ) (row : Service) → IsValid l f → first_asked f process ≡ Some row
+    → All (λ (new : Service). new.number ≡ row.number → new.asked ≡ false) (step_of l f moment (ControlTaken process)).flat.services
+unasked_after l f moment process row v e =
+    let step = ControlTaken process in
+    let done = effect_of l (at_moment f moment step) step in
+    let told : All (IsTold row.number) done.flat.services =
+    subst (λ (asked : Option Service). All (IsTold row.number) (unasked_in asked f.services)) (sym e)
+    (All-map (IsTold row.number) (unasked_if row.number) f.services
+    (λ k d lt. told_row row.number (get_or f.services k d)
+    (λ same. ap (λ (r : Service). r.status.state == 1) (only_one (is_asked_by process) row f.services v.services.rising e k d lt same)
+    ∙ asked_runs l f process row v e))) in
+    All-filter (λ (r : Service). not (leaves (finished_step l f moment step).flat.handles r))
+    (λ (new : Service). new.number ≡ row.number → new.asked ≡ false) (finished_step l f moment step).flat.services
+    (subst (λ services. All (λ (new : Service). new.number ≡ row.number → new.asked ≡ false) services)
+    (sym (finished_services (settled l done.flat) done.answer))
+    (told_settled row.number 0 done.flat.services (settled l done.flat).services told (rows_settled l 0 done.flat (omega arith))))
+
+sent_by : (l : Limits) (f g : Flat) (moment process : ℕ) (asked : Option Service) → IsValid l f → first_asked f process ≡ asked
+    → is_some (next_by asked (first_control (controls_of f process))) ≡ true
+    → IsSent f process (finished g (control_sent (next_by asked (first_control (controls_of f process))))).answer
+    (step_of l f moment (ControlTaken process)).flat
+sent_by l f g moment process None v e some =
+    inr (taken_by f g (step_of l f moment (ControlTaken process)).flat process (controls_of f process) e refl some
+    (waiting_after l f moment (ControlTaken process) process
+    ∙ ap (λ (asked : Option Service). controls_in (found process (dequeued_in asked process f.processes))) e ∙ relieved process f.processes))
+sent_by l f g moment process (Some row) v e some = inl (record {
+  row = row;
+  first = e;
+  answers = refl;
+  unasked = unasked_after l f moment process row v e;
+  waits = waiting_after l f moment (ControlTaken process) process
+      ∙ ap (λ (asked : Option Service). controls_in (found process (dequeued_in asked process f.processes))) e;
+})
+
+-- ## Reports that stop services
+
+released_for : (f after : Flat) (report : Status) (service : Option Service)
+    → ((row : Service) → service ≡ Some row → is_stopped_by report row ≡ true
+    → controls_of after row.process ≡ orders_without row.number (process_of f row.process))
+    → IsReleased f after report service
+released_for f after report None each = tt
+released_for f after report (Some row) each = each row refl
+
+-- once a report is taken
+report_releases : (f g : Flat) (report : Status) (service : Option Service) (row : Service) → g.processes ≡ f.processes → service ≡ Some row
+    → is_stopped_by report row ≡ true
+    → controls_of (with_report_of g service report) row.process ≡ orders_without row.number (process_of f row.process)
+report_releases f g report service row same is stopped =
+    failing_apart (λ (h : Flat). controls_of h row.process ≡ orders_without row.number (process_of f row.process)) (failed_by report service) _
+    (ap (λ (one : Option Service). controls_in (found row.process (if_found (released_by report) one g.processes))) is
+    ∙ ap (λ b. controls_in (found row.process (cond b (map (released_if row.process row.number) g.processes) g.processes))) stopped
+    ∙ released row.process row.number g.processes
+    ∙ ap (λ (rows : List Process). orders_without row.number (found row.process rows)) same)
+
+released_call : (l : Limits) (f : Flat) (moment caller handle : ℕ) (report : Status) (append : Kept)
+    → (step_of l f moment (Call caller (request.SetStatus handle report) append)).answer ≡ answer.Reply (reply.Code 0)
+    → IsReleased f (step_of l f moment (Call caller (request.SetStatus handle report) append)).flat report (held_service f caller handle)
+released_call l f moment caller handle report append =
+    let g = with_moment f moment in
+    let refusal = set_status_verdict g caller handle report in
+    by_verdict (λ r. answer.Reply r.reply ≡ answer.Reply (reply.Code 0)
+    → IsReleased f (purged (settled l r.flat)) report (held_service f caller handle)) refusal (reply.Code refusal) g
+    (set_status_done g caller handle report)
+    (λ e told. released_for f (purged (settled l (set_status_done g caller handle report).flat)) report (held_service f caller handle)
+    (λ row is stopped. waiting_settled l (set_status_done g caller handle report).flat row.process
+    ∙ report_releases f g report (held_service f caller handle) row refl is stopped))
+    (λ e told. absurd (let none : refusal ≡ 0 = cc in let yes = eq-eqb refusal 0 none in cc))
 
 -- ## A raise
 
@@ -244,7 +357,16 @@ of_controls : (l : Limits) (f : Flat) (moment : ℕ) (step : Step) → IsValid l
     → OfControls l f step (step_of l f moment step).answer (step_of l f moment step).flat
 of_controls l f moment (Call caller (request.Control handle control) append) v known ok =
     controlled_call l f moment caller handle control append v known
-of_controls l f moment (ControlTaken process) v known ok = taken_first l f moment process (and_parts _ _ ok).0
+of_controls l f moment (Call caller (request.SetStatus handle report) append) v known ok =
+    released_call l f moment caller handle report append
+of_controls l f moment (ControlTaken process) v known ok =
+    sent_by l f (settled l (with_control_taken (with_moment f moment) process)) moment process (first_asked f process) v refl
+    (and_parts _ _ ok).0
+of_controls l f moment (Report process service report) v known ok =
+    let g = with_moment f moment in
+    released_for f (step_of l f moment (Report process service report)).flat report (reporting f process service)
+    (λ row is stopped. waiting_after l f moment (Report process service report) row.process
+    ∙ report_releases f g report (reporting f process service) row refl is stopped)
 of_controls l f moment (Raised caller subtype) v known ok = λ number. stops_raised l f moment caller subtype number
 of_controls l f moment step v known ok = tt
 
@@ -260,10 +382,10 @@ unlisted next number (row ∷ rows) below up =
     rw other (unlisted next number rows (All-tail (λ (r : Process). r.number < next) row rows below) up)
 
 -- a control that is taken waits for a process whose number was given
-given_before : (f : Flat) (number : ℕ) (row : Service) → Holds f → service_of f row.number ≡ Some row → 1 ≤ row.process
-    → row.process ≡ number → f.next.process ≤ number → ⊥
-given_before f number row h e first same up =
-    elim (found_has (IsBelow f.next.process) (λ (r : Service). r.number == row.number) row f.services h.own.below e) as (λ _. ⊥) [
+given_before : (f : Flat) (number : ℕ) (row : Service) → All (IsBelow f.next.process) f.services → service_of f row.number ≡ Some row
+    → 1 ≤ row.process → row.process ≡ number → f.next.process ≤ number → ⊥
+given_before f number row below e first same up =
+    elim (found_has (IsBelow f.next.process) (λ (r : Service). r.number == row.number) row f.services below e) as (λ _. ⊥) [
       | inl none ↦ absurd (omega (arith, none, first))
       | inr below ↦ absurd (omega (arith, below, same, up))
     ]
@@ -281,13 +403,10 @@ fresh_control l f moment caller handle control number append (Some row) v known 
           row.process (order_to row.number control) =
           subst (λ (o : Option Service). OneMoreWaitsFor f (step_of l f moment (Call caller (request.Control handle control) append)).flat o
           control) at (is.taken (eqb-true is.code 0 e)) in
-          given_before f number row (holds l f v known) (held_is f caller handle row at) more.there
+          given_before f number row (all_below l f v) (held_is f caller handle row at) more.there
           (sym (eqb-true number row.process same)) up)
       | false ↦ λ e. is.refused e number ∙ unlisted f.next.process number f.processes v.processes.below up
     ] refl
-
-none_taken : (order : Order) (orders left : List Order) → orders ≡ [] → orders ≡ order ∷ left → left ≡ []
-none_taken order orders left none some = absurd cc
 
 -- who isn't listed isn't stopped
 unlisted_none : (next number : ℕ) (rows : List Process) → All (λ (row : Process). row.number < next) rows → next ≤ number
@@ -314,18 +433,53 @@ fresh_raised l f moment caller subtype number v up =
           (controlled_number l.controls row.process (order_to row.number 1)) g.processes ∙ none;
     }) (with_moment f moment) caller (unlisted_none f.next.process number f.processes v.processes.below up))
 
+fresh_sent : (process : ℕ) (asked : Option Service) (rows : List Process) → controls_in (found process rows) ≡ []
+    → controls_in (found process (dequeued_in asked process rows)) ≡ []
+fresh_sent process None rows none = relieved process rows ∙ ap (λ (orders : List Order). drop 1 orders) none
+fresh_sent process (Some row) rows none = none
+
+fresh_released : (report : Status) (service : Option Service) (number : ℕ) (rows : List Process) → is_some (found number rows) ≡ false
+    → controls_in (found number (if_found (released_by report) service rows)) ≡ []
+fresh_released report service number rows none =
+    no_controls (found number (if_found (released_by report) service rows))
+    (found_keeps (λ (left : List Process). is_some (found number left) ≡ false) (released_by report) service rows none
+    (λ row is. elim (is_stopped_by report row) as (λ b. is_some (found number (cond b (map (released_if row.process row.number) rows) rows)) ≡
+    false) [
+      | true ↦ found_mapped (λ (r : Process). r.number) (released_if row.process row.number) number (released_number row.process row.number) rows
+          ∙ none
+      | false ↦ none
+    ]))
+
+fresh_call : (l : Limits) (f : Flat) (moment caller handle : ℕ) (report : Status) (append : Kept) (number : ℕ) → IsValid l f
+    → f.next.process ≤ number → controls_of (step_of l f moment (Call caller (request.SetStatus handle report) append)).flat number ≡ []
+fresh_call l f moment caller handle report append number v up =
+    let g = with_moment f moment in
+    let refusal = set_status_verdict g caller handle report in
+    waiting_after l f moment (Call caller (request.SetStatus handle report) append) number
+    ∙ by_verdict (λ r. controls_of r.flat number ≡ []) refusal (reply.Code refusal) g (set_status_done g caller handle report)
+    (λ e. failing_apart (λ (h : Flat). controls_of h number ≡ []) (failed_by report (held_service f caller handle)) _
+    (fresh_released report (held_service f caller handle) number f.processes
+    (unlisted_none f.next.process number f.processes v.processes.below up)))
+    (λ e. unlisted f.next.process number f.processes v.processes.below up)
+
 fresh_changed : (l : Limits) (f : Flat) (moment : ℕ) (step : Step) (number : ℕ) → IsValid l f → Known f → IsTrue (may l f moment step)
     → changes_controls f step number ≡ true → f.next.process ≤ number
     → controls_of (step_of l f moment step).flat number ≡ []
 fresh_changed l f moment (Call caller (request.Control handle control) append) number v known ok changed up =
     fresh_control l f moment caller handle control number append (held_service f caller handle) v known refl changed up
+fresh_changed l f moment (Call caller (request.SetStatus handle report) append) number v known ok changed up =
+    fresh_call l f moment caller handle report append number v up
 fresh_changed l f moment (ControlTaken process) number v known ok changed up =
-    let first = taken_first l f moment process (and_parts _ _ ok).0 in
     let is = eqb-true process number changed in
     subst (λ n. controls_of (step_of l f moment (ControlTaken process)).flat n ≡ []) is
-    (none_taken first.order (controls_of f process) _ (unlisted f.next.process process f.processes v.processes.below
-    (omega (arith, is, up)))
-    first.first)
+    (waiting_after l f moment (ControlTaken process) process
+    ∙ fresh_sent process (first_asked f process) f.processes (unlisted f.next.process process f.processes v.processes.below
+    (omega (arith, is, up))))
+fresh_changed l f moment (Report process service report) number v known ok changed up =
+    waiting_after l f moment (Report process service report) number
+    ∙ failing_apart (λ (g : Flat). controls_of g number ≡ []) (failed_by report (reporting (with_moment f moment) process service)) _
+    (fresh_released report (reporting f process service) number f.processes
+    (unlisted_none f.next.process number f.processes v.processes.below up))
 fresh_changed l f moment (LaunchFailed process code) number v known ok changed up =
     ended_none l f moment (LaunchFailed process code) number changed
 fresh_changed l f moment (Ended process) number v known ok changed up = ended_none l f moment (Ended process) number changed

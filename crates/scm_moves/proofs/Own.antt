@@ -1,5 +1,5 @@
 -- How services move before plans are settled.
-use Rattle.std.proofs.Common.{ℕ, ◌≡◌, ◌∙◌, ◌<◌, ◌≤◌, ◌==◌, true, false, cond, IsTrue, Result, Ok, Err, List, Option, None, Some, map}
+use Rattle.std.proofs.Common.{ℕ, ◌≡◌, ◌∙◌, ◌<◌, ◌≤◌, ◌==◌, Bool, true, false, cond, IsTrue, Ok, Err, List, Option, None, Some, find, map}
 use Rattle.std.proofs.Common.{get_or, ap, sym, refl, subst, arith, inl, inr, eq-eqb, eqb-true}
 use Rattle.std.specs.Prelude.{All, AllPairs}
 use Rattle.std.proofs.lemmas.List.{map-id}
@@ -14,19 +14,19 @@ use Rattle.scm_model.specs.declared.calls.Request.{Request}
 use Rattle.scm_model.specs.declared.calls.Request.TheVariants as request
 use Rattle.scm_model.specs.declared.steps.Kept.{Kept}
 use Rattle.scm_model.specs.declared.steps.Step.{Step}
-use Rattle.scm_model.specs.declared.steps.Step.TheVariants.{Call, LaunchFailed, Report, Ended, Tick, Raised}
+use Rattle.scm_model.specs.declared.steps.Step.TheVariants.{Call, ControlTaken, LaunchFailed, Report, Ended, Tick, Raised}
 use Rattle.scm_model.specs.Changes.{configured_if, marked_if, with_moment}
-use Rattle.status_machine.specs.Moves.{take_end, take_report, takes}
-use Rattle.scm_rules.specs.Launches.{current_of, fallen_if, with_fallen, is_launched, is_taken, process_of}
-use Rattle.scm_rules.specs.Reports.{moved_by, reported_if, set_status_verdict}
+use Rattle.status_machine.specs.Moves.{take_report, takes}
+use Rattle.scm_rules.specs.Controls.{first_asked, unasked_if}
+use Rattle.scm_rules.specs.Launches.{currents, fallen_if, is_by, is_launched, process_of, with_fallen}
+use Rattle.scm_rules.specs.Reports.{is_reporter, moved_by, reported_if, reporting, set_status_verdict}
 use Rattle.scm_rules.specs.Steps.{at_moment, effect_of, may}
 use Rattle.scm_rules.specs.Valid.{IsValid}
 use Rattle.scm_rules.specs.Verdicts.{call_of, done_of, told_refused, verdict}
-use Rattle.scm_runs.specs.Leaving.{is_report, is_process_of}
+use Rattle.scm_runs.specs.Leaving.{is_report}
 use Rattle.scm_runs.proofs.Calls.{by_verdict, set_status_runs}
 use Rattle.scm_runs.proofs.Lists.{found_has, found_passes, alone}
 use Rattle.scm_moves.specs.Moves.{MovesItself, code_of_end, reported_status}
-use Rattle.std.proofs.lemmas.Bool.{and_parts}
 use Rattle.scm_runs.proofs.Configured.{number_kept}
 use Rattle.scm_model.proofs.Found.{found_keeps}
 use Rattle.scm_runs.proofs.Founds.{opened_keeps, started_keeps, notify_apart}
@@ -34,7 +34,11 @@ use Rattle.scm_model.specs.Rows.{held_service}
 use Rattle.scm_rules.specs.Change.{new_config}
 use Rattle.scm_rules.specs.Change2.{level_config}
 use Rattle.scm_rules.specs.Failures.{failed_by}
-use Rattle.scm_runs.proofs.Failing.{failing_rows}
+use Rattle.scm_runs.proofs.Failing.{all_failing_rows, failing_rows}
+use Rattle.scm_runs.proofs.Rows.{by_parts, fallen_or, reported_or, unasked_or}
+use Rattle.scm_runs.proofs.Sound.{reporting_by}
+use Rattle.scm_rules.proofs.Held.{held_is}
+use Rattle.std.proofs.lemmas.Bool.Decides.{nat_tests}
 use Rattle.scm_runs.proofs.Unasked.{raised_apart, ticked_apart}
 
 -- ## Rows
@@ -72,11 +76,6 @@ listed_first l f process row v e =
     subst (λ n. 1 ≤ n) is (found_has (λ (r : Process). 1 ≤ r.number) (λ (r : Process). r.number == process) row f.processes
     v.processes.positive e)
 
-pub taken_first : (l : Limits) (f : Flat) (process : ℕ) (found : Option Process) → IsValid l f → process_of f process ≡ found
-    → is_taken found ≡ true → 1 ≤ process
-taken_first l f process None v e taken = absurd cc
-taken_first l f process (Some row) v e taken = listed_first l f process row v e
-
 pub running_first : (l : Limits) (f : Flat) (process : ℕ) (found : Option Process) → IsValid l f → process_of f process ≡ found
     → is_launched found ≡ true → 1 ≤ process
 running_first l f process None v e runs = absurd cc
@@ -84,25 +83,32 @@ running_first l f process (Some row) v e runs = listed_first l f process row v e
 
 -- ## Ends
 
-fallen_own : (f : Flat) (step : Step) (process code : ℕ) (row : Service) → 1 ≤ process → code_of_end step process ≡ Some code
+not_zero : (n : ℕ) → (n == 0) ≡ false → 1 ≤ n
+not_zero n e = grind (arith, nat_tests)
+
+-- a service's current process has a number
+pub by_first : (process : ℕ) (row : Service) → is_by process row ≡ true → 1 ≤ row.process
+by_first process row by = (let parts = by_parts process row by in not_zero row.process (ap (λ n. n == 0) parts.1 ∙ parts.0))
+
+fallen_own : (f : Flat) (step : Step) (process code : ℕ) (row : Service) → code_of_end step process ≡ Some code
     → MovesItself f step row (fallen_if process code row).status
-fallen_own f step process code row first by =
-    elim (row.process == process) as (λ b. (row.process == process) ≡ b
-    → MovesItself f step row (cond b (record row { status = take_end row.status code; process = 0 }) row).status) [
-      | true ↦ λ e. (let is = eqb-true row.process process e in inr (inr
-          (record { process = omega (arith, is, first); code = code; by = ap (code_of_end step) is ∙ by; fallen = refl })))
-      | false ↦ λ e. inl refl
-    ] refl
+fallen_own f step process code row by =
+    fallen_or (λ new. MovesItself f step row new.status) process code row
+    (λ e. inr (inr (record {
+      process = by_first process row e;
+      code = code;
+      by = ap (code_of_end step) (by_parts process row e).1 ∙ by;
+      fallen = refl;
+    }))) (inl refl)
 
 pub fallen_number : (process code : ℕ) (row : Service) → (fallen_if process code row).number ≡ row.number
-fallen_number process code row = elim (row.process == process) as (λ b.
-    (cond b (record row { status = take_end row.status code; process = 0 }) row).number ≡ row.number) [ true ↦ refl | false ↦ refl ]
+fallen_number process code row = fallen_or (λ new. new.number ≡ row.number) process code row (λ e. refl) refl
 
-own_fallen : (f : Flat) (step : Step) (process code : ℕ) → AreRising f.services → 1 ≤ process → code_of_end step process ≡ Some code
+own_fallen : (f : Flat) (step : Step) (process code : ℕ) → AreRising f.services → code_of_end step process ≡ Some code
     → All (HasOwn f step) (map (fallen_if process code) f.services)
-own_fallen f step process code rising first by =
+own_fallen f step process code rising by =
     own_mapped f step (fallen_if process code) rising (fallen_number process code)
-    (λ k d lt. fallen_own f step process code (get_or f.services k d) first by)
+    (λ k d lt. fallen_own f step process code (get_or f.services k d) by)
 
 -- ## Reports
 
@@ -115,31 +121,40 @@ moved_own f step report row first by is =
       | false ↦ λ e. inl refl
     ] refl
 
-reported_own : (f : Flat) (step : Step) (process : ℕ) (report : Status) (row : Service) → 1 ≤ process
-    → ((row.process == process) ≡ true → is_report f step row ≡ true) → reported_status step ≡ Some report
-    → MovesItself f step row (reported_if process report row).status
-reported_own f step process report row first by is =
-    elim (row.process == process) as (λ b. (row.process == process) ≡ b
+-- the service with the number of one that reports
+abbrev IsReporting : Flat → Step → ℕ → Service → Type 0
+IsReporting f step number row = (row.number == number) ≡ true → (1 ≤ row.process) × (is_report f step row ≡ true)
+
+reported_own : (f : Flat) (step : Step) (number : ℕ) (report : Status) (row : Service) → IsReporting f step number row
+    → reported_status step ≡ Some report → MovesItself f step row (reported_if number report row).status
+reported_own f step number report row by is =
+    elim (row.number == number) as (λ b. (row.number == number) ≡ b
     → MovesItself f step row (cond b (moved_by row (take_report row.status report)) row).status) [
-      | true ↦ λ e. moved_own f step report row (let same = eqb-true row.process process e in omega (arith, same, first)) (by e) is
+      | true ↦ λ e. moved_own f step report row (by e).0 (by e).1 is
       | false ↦ λ e. inl refl
     ] refl
 
-moved_number : (row : Service) (r : Result Status ℕ) → (moved_by row r).number ≡ row.number
-moved_number row (Ok status) = refl
-moved_number row (Err code) = refl
+pub reported_number : (number : ℕ) (report : Status) (row : Service) → (reported_if number report row).number ≡ row.number
+reported_number number report row = reported_or (λ new. new.number ≡ row.number) number report row (λ e t. refl) refl
 
-pub reported_number : (process : ℕ) (report : Status) (row : Service) → (reported_if process report row).number ≡ row.number
-reported_number process report row =
-    elim (row.process == process) as (λ b. (cond b (moved_by row (take_report row.status report)) row).number ≡ row.number)
-    [ true ↦ moved_number row (take_report row.status report) | false ↦ refl ]
+own_reported : (f : Flat) (step : Step) (number : ℕ) (report : Status) → AreRising f.services → All (IsReporting f step number) f.services
+    → reported_status step ≡ Some report → All (HasOwn f step) (map (reported_if number report) f.services)
+own_reported f step number report rising by is =
+    own_mapped f step (reported_if number report) rising (reported_number number report)
+    (λ k d lt. reported_own f step number report (get_or f.services k d) (by k d lt) is)
 
-own_reported : (f : Flat) (step : Step) (process : ℕ) (report : Status) → AreRising f.services → 1 ≤ process
-    → ((row : Service) → (row.process == process) ≡ true → is_report f step row ≡ true) → reported_status step ≡ Some report
-    → All (HasOwn f step) (map (reported_if process report) f.services)
-own_reported f step process report rising first by is =
-    own_mapped f step (reported_if process report) rising (reported_number process report)
-    (λ k d lt. reported_own f step process report (get_or f.services k d) first (by (get_or f.services k d)) is)
+-- no other service has the number of one that is found
+pub only_one : (p : Service → Bool) (one : Service) (rows : List Service) → AreRising rows → find p rows ≡ Some one
+    → All (λ (row : Service). row.number ≡ one.number → row ≡ one) rows
+only_one p one rows rising is =
+    found_has (λ (row : Service). All (λ (other : Service). other.number ≡ row.number → other ≡ row) rows) p one rows
+    (alone (λ (row : Service). row.number) rows rising) is
+
+one_reports : (f : Flat) (step : Step) (one : Service) → All (λ (row : Service). row.number ≡ one.number → row ≡ one) f.services
+    → 1 ≤ one.process → is_report f step one ≡ true → All (IsReporting f step one.number) f.services
+one_reports f step one only first by k d lt e =
+    subst (λ (row : Service). (1 ≤ row.process) × (is_report f step row ≡ true))
+    (sym (only k d lt (eqb-true (get_or f.services k d).number one.number e))) (first, by)
 
 -- ## Calls
 
@@ -176,10 +191,11 @@ own_done l f moment caller (request.Delete handle) append v e =
 own_done l f moment caller (request.SetStatus handle report) append v e =
     let step = Call caller (request.SetStatus handle report) append in
     failing_rows (HasOwn f step) (λ row failures last own. own) (failed_by report (held_service f caller handle)) _
-    (found_keeps (All (HasOwn f step)) (λ (row : Service). map (reported_if row.process report)) (held_service f caller handle) f.services
+    (found_keeps (All (HasOwn f step)) (λ (row : Service). map (reported_if row.number report)) (held_service f caller handle) f.services
     (own_same f step v.services.rising)
-    (λ one is. own_reported f step one.process report v.services.rising (set_first l f moment caller handle report one v is e)
-    (λ row h. ap (λ found. is_process_of found row.process) is ∙ h) refl))
+    (λ one is. own_reported f step one.number report v.services.rising (one_reports f step one
+    (only_one (λ (row : Service). row.number == one.number) one f.services v.services.rising (held_is f caller handle one is))
+    (set_first l f moment caller handle report one v is e) (rw (is, eq-eqb one.number one.number refl) refl)) refl))
 own_done l f moment caller (request.Change change) append v e =
     let step = Call caller (request.Change change) append in
     let new = new_config (with_moment f moment) change in
@@ -226,19 +242,28 @@ pub own_effect : (l : Limits) (f : Flat) (moment : ℕ) (step : Step) → IsVali
     → All (HasOwn f step) (effect_of l (at_moment f moment step) step).flat.services
 own_effect l f moment (Call caller asked append) v ok = own_call l f moment caller asked append v
 own_effect l f moment (LaunchFailed process code) v ok =
-    own_fallen f _ process code v.services.rising (taken_first l f process (process_of f process) v refl
-    (and_parts _ _ (and_parts _ _ ok).0).0) (ends_with process code)
+    own_fallen f _ process code v.services.rising (ends_with process code)
 own_effect l f moment (Ended process) v ok =
-    failing_rows (HasOwn f (Ended process)) (λ row failures last own. own) (current_of (with_moment f moment) process)
+    all_failing_rows (HasOwn f (Ended process)) (λ row failures last own. own) (currents process f.services)
     (with_fallen (with_moment f moment) process 1067)
-    (own_fallen f _ process 1067 v.services.rising (running_first l f process (process_of f process) v refl (and_parts _ _ ok).0)
-    (ends_with process 1067))
+    (own_fallen f _ process 1067 v.services.rising (ends_with process 1067))
 own_effect l f moment (Report process service report) v ok =
-    failing_rows (HasOwn f (Report process service report)) (λ row failures last own. own)
-    (failed_by report (current_of (with_moment f moment) process)) _
-    (own_reported f _ process report v.services.rising
-    (running_first l f process (process_of f process) v refl (and_parts _ _ (and_parts _ _ ok).0).1)
-    (λ row h. h) refl)
+    let step = Report process service report in
+    failing_rows (HasOwn f step) (λ row failures last own. own) (failed_by report (reporting (with_moment f moment) process service)) _
+    (found_keeps (All (HasOwn f step)) (λ (row : Service). map (reported_if row.number report)) (reporting f process service) f.services
+    (own_same f step v.services.rising)
+    (λ one is. (let by = found_passes (is_reporter f process service) one f.services is in
+    own_reported f step one.number report v.services.rising
+    (one_reports f step one (only_one (is_reporter f process service) one f.services v.services.rising is)
+    (by_first process one (reporting_by f process service one is).1) by) refl)))
+own_effect l f moment (ControlTaken process) v ok =
+    let step = ControlTaken process in
+    found_keeps (All (HasOwn f step)) (λ (row : Service). map (unasked_if row.number)) (first_asked f process) f.services
+    (own_same f step v.services.rising)
+    (λ one is. own_mapped f step (unasked_if one.number) v.services.rising
+    (λ row. unasked_or (λ new. new.number ≡ row.number) one.number row refl refl)
+    (λ k d lt. unasked_or (λ new. MovesItself f step (get_or f.services k d) new.status) one.number (get_or f.services k d)
+    (inl refl) (inl refl)))
 own_effect l f moment Tick v ok = ticked_apart (λ (g : Flat). All (HasOwn f Tick) g.services) l (with_moment f moment)
     (own_same f Tick v.services.rising)
 own_effect l f moment (Raised caller subtype) v ok =

@@ -1,7 +1,8 @@
 -- A stale step and a report that is refused move no service.
-use Rattle.std.proofs.Common.{ℕ, suc, ◌≡◌, ◌∙◌, ◌≤◌, ◌==◌, ◌&&◌, Bool, true, false, not, cond, IsTrue, List, [], ◌∷◌, Option, None, Some}
-use Rattle.std.proofs.Common.{Ok, Err, filter, find, map, get_or, ap, sym, refl, subst, arith, eqb-true, eq-eqb}
-use Rattle.std.specs.Prelude.{All, AllPairs, is_some, max}
+use Rattle.std.proofs.Common.{ℕ, ◌≡◌, ◌∙◌, ◌≤◌, ◌==◌, ◌&&◌, Bool, true, false, not, cond, List, [], ◌∷◌, Option, None, Some}
+use Rattle.std.proofs.Common.{Ok, Err, filter, length, map, ap, sym, refl, subst, arith, eqb-true, eq-eqb}
+use Rattle.std.specs.Prelude.{All, max}
+use Rattle.std.proofs.lemmas.List.{length-map}
 use Rattle.std.proofs.lemmas.List.Elements.{All-cons, All-head, All-nil, All-tail, All-weaker}
 use Rattle.scm_model.specs.declared.flat.Flat.{Flat}
 use Rattle.scm_model.specs.declared.flat.Limits.{Limits}
@@ -22,24 +23,22 @@ use Rattle.scm_model.specs.Purge.{purged}
 use Rattle.start_plan.specs.Decided.{code_of}
 use Rattle.start_plan.specs.Settle.{settled}
 use Rattle.status_machine.specs.Moves.{take_report, takes}
-use Rattle.scm_rules.specs.Launches.{fallen_if, process_of, wanted_of_others, with_fallen, without_process, first_wanted, launch_told}
-use Rattle.scm_rules.specs.Launches.{notified_of_fall, current_of}
-use Rattle.scm_rules.specs.Reports.{current_of, moved_by, report_answer, report_told, reported_if, set_status_done, set_status_verdict}
-use Rattle.scm_rules.specs.Reports.{with_report, notified_of_report}
+use Rattle.scm_rules.specs.Launches.{currents, fallen_if, first_wanted, is_by, launch_told, notified_of_falls, wanted_of_others, without_process}
+use Rattle.scm_rules.specs.Reports.{is_reporter, is_stopped_by, moved_by, notified_of_report, released_by, released_if, report_answer}
+use Rattle.scm_rules.specs.Reports.{report_told, reported_if, reported_in, reporting, set_status_done, set_status_verdict, with_report_of}
 use Rattle.scm_rules.specs.Ends.{end_told, with_end}
-use Rattle.scm_rules.specs.Failures.{failed_by, with_failure}
+use Rattle.scm_rules.specs.Failures.{all_failed, failed_by, with_failure}
 use Rattle.scm_model.specs.Found.{if_found}
-use Rattle.scm_rules.specs.Steps.{call_answer, answered_by, at_moment, effect_of, finished, may, step_of, tells_plan}
+use Rattle.scm_model.proofs.Found.{found_keeps}
+use Rattle.scm_rules.specs.Steps.{call_answer, answered_by, at_moment, effect_of, finished, step_of, tells_plan}
 use Rattle.scm_rules.specs.Valid.{IsValid}
 use Rattle.scm_rules.specs.Verdicts.{verdict}
 use Rattle.scm_runs.proofs.Calls.{by_verdict}
-use Rattle.scm_runs.proofs.Lists.{none_found, filter_short, same_some}
+use Rattle.scm_runs.proofs.Lists.{filter_short}
 use Rattle.scm_moves.specs.Moves.{is_called_report}
-use Rattle.scm_moves.proofs.Known.{AreApart, Known}
-use Rattle.scm_moves.proofs.Own.{running_first}
+use Rattle.scm_moves.proofs.Own.{only_one}
 use Rattle.scm_moves.proofs.Still.{stays_put}
-use Rattle.std.proofs.lemmas.Bool.{and_parts}
-use Rattle.scm_rules.specs.Controls.{control_sent, controls_of, first_control}
+use Rattle.scm_rules.specs.Controls.{control_sent, next_order}
 
 -- ## Rows that stay
 
@@ -47,68 +46,63 @@ map_still : {X : Type 0} (g : X → X) (xs : List X) → All (λ x. g x ≡ x) x
 map_still g [] each = refl
 map_still g (x ∷ xs) each = rw (All-head (λ y. g y ≡ y) x xs each, map_still g xs (All-tail (λ y. g y ≡ y) x xs each)) refl
 
--- who has the process of one that is found is that one
-found_apart : (process : ℕ) (row : Service) (rows : List Service) → 1 ≤ process → AllPairs AreApart rows
-    → find (λ (r : Service). r.process == process) rows ≡ Some row
-    → All (λ (r : Service). (r.process == process) ≡ true → r ≡ row) rows
-found_apart process row [] first apart e = All-nil (λ (r : Service). (r.process == process) ≡ true → r ≡ row)
-found_apart process row (x ∷ xs) first apart e =
-    elim (x.process == process) as (λ b. (x.process == process) ≡ b → cond b (Some x)
-    (find (λ (r : Service). r.process == process) xs) ≡ Some row → All (λ (r : Service). (r.process == process) ≡ true → r ≡ row)
-    (x ∷ xs)) [
-      | true ↦ λ h g. All-cons (λ (r : Service). (r.process == process) ≡ true → r ≡ row) x xs (λ same. same_some x row g)
-          (λ k d lt same. absurd (
-          let here = eqb-true x.process process h in
-          let there = eqb-true (get_or xs k d).process process same in
-          let none : x.process ≡ 0 = apart 0 (suc k) d (omega arith) (omega arith) (here ∙ sym there) in
-          omega (arith, none, here, first)))
-      | false ↦ λ h g. All-cons (λ (r : Service). (r.process == process) ≡ true → r ≡ row) x xs (λ same. absurd cc)
-          (found_apart process row xs first (λ i j d lt within. apart (suc i) (suc j) d (omega arith) (omega arith)) g)
+-- where no row passes a test, none does
+none_of : {X : Type 0} (p : X → Bool) (xs : List X) → filter p xs ≡ [] → All (λ x. p x ≡ false) xs
+none_of p [] e = All-nil (λ x. p x ≡ false)
+none_of p (x ∷ xs) e =
+    elim (p x) as (λ b. p x ≡ b → cond b (x ∷ filter p xs) (filter p xs) ≡ [] → All (λ y. p y ≡ false) (x ∷ xs)) [
+      | true ↦ λ h g. absurd cc
+      | false ↦ λ h g. All-cons (λ y. p y ≡ false) x xs h (none_of p xs g)
     ] refl e
 
 -- ## A report
 
-not_current : (process : ℕ) (report : Status) (row : Service) → (row.process == process) ≡ false → reported_if process report row ≡ row
-not_current process report row e = rw e refl
-
-not_taken : (process : ℕ) (report : Status) (row : Service) → ((row.process == process) ≡ true → takes row.status report ≡ false)
-    → reported_if process report row ≡ row
-not_taken process report row none =
-    elim (row.process == process) as (λ b. (row.process == process) ≡ b → cond b (moved_by row (take_report row.status report)) row ≡ row) [
+not_taken : (number : ℕ) (report : Status) (row : Service) → ((row.number == number) ≡ true → takes row.status report ≡ false)
+    → reported_if number report row ≡ row
+not_taken number report row none =
+    elim (row.number == number) as (λ b. (row.number == number) ≡ b → cond b (moved_by row (take_report row.status report)) row ≡ row) [
       | true ↦ λ e. rw (none e) refl
       | false ↦ λ e. refl
     ] refl
 
+-- a report leaves as many processes
+as_many : (report : Status) (service : Option Service) (rows : List Process)
+    → length (if_found (released_by report) service rows) ≤ length rows
+as_many report service rows =
+    found_keeps (λ (left : List Process). length left ≤ length rows) (released_by report) service rows (omega arith)
+    (λ row is. elim (is_stopped_by report row) as (λ b. length (cond b (map (released_if row.process row.number) rows) rows) ≤ length rows) [
+      | true ↦ (let same = length-map rows (released_if row.process row.number) in omega (arith, same))
+      | false ↦ omega arith
+    ])
+
 -- a report that changes no row, and is no failure
-put_by_report : (l : Limits) (f : Flat) (moment process : ℕ) (report : Status) → IsValid l f
-    → map (reported_if process report) f.services ≡ f.services → failed_by report (current_of f process) ≡ None
-    → (purged (settled l (with_report (with_moment f moment) process report))).services ≡ f.services
-put_by_report l f moment process report v same fine =
-    let told = notified_of_report f.processes report (current_of f process) f.registrations in
-    ap (λ (failed : Option Service). (purged (settled l (if_found with_failure failed
-    (record f { services = map (reported_if process report) f.services; registrations = told; moment = max f.moment moment })))).services)
-    fine
+put_by_report : (l : Limits) (f : Flat) (moment : ℕ) (service : Option Service) (report : Status) → IsValid l f
+    → reported_in report service f.services ≡ f.services → failed_by report service ≡ None
+    → (purged (settled l (with_report_of (with_moment f moment) service report))).services ≡ f.services
+put_by_report l f moment service report v same fine =
+    let told = notified_of_report f.processes report service f.registrations in
+    let left = if_found (released_by report) service f.processes in
+    ap (λ (failed : Option Service). (purged (settled l (if_found with_failure failed (record f {
+      services = reported_in report service f.services;
+      processes = left;
+      registrations = told;
+      moment = max f.moment moment;
+    })))).services) fine
     ∙ ap (λ (services : List Service). (purged (settled l (record f {
       services = services;
+      processes = left;
       registrations = told;
       moment = max f.moment moment;
     }))).services) same
-    ∙ stays_put l f f.processes f.wanted told (max f.moment moment) v (omega arith)
+    ∙ stays_put l f left f.wanted told (max f.moment moment) v (as_many report service f.processes)
 
-stale_report : (l : Limits) (f : Flat) (moment process : ℕ) (report : Status) (found : Option Service) → IsValid l f
-    → current_of f process ≡ found
-    → (finished (settled l (with_report (with_moment f moment) process report)) (report_told found report)).answer ≡ answer.Stale
-    → (purged (finished (settled l (with_report (with_moment f moment) process report)) (report_told found report)).flat).services ≡
+stale_report : (l : Limits) (f : Flat) (moment : ℕ) (report : Status) (service : Option Service) → IsValid l f
+    → (finished (settled l (with_report_of (with_moment f moment) service report)) (report_told service report)).answer ≡ answer.Stale
+    → (purged (finished (settled l (with_report_of (with_moment f moment) service report)) (report_told service report)).flat).services ≡
     f.services
-stale_report l f moment process report None v e told =
-    put_by_report l f moment process report v
-    (map_still (reported_if process report) f.services
-    (All-weaker (λ (row : Service). (row.process == process) ≡ false) (λ (row : Service). reported_if process report row ≡ row)
-    (not_current process report) f.services
-    (none_found (λ (row : Service). row.process == process) f.services (ap (λ (o : Option Service). is_some o) e))))
-    (ap (failed_by report) e)
-stale_report l f moment process report (Some row) v e told =
-    let g = settled l (with_report (with_moment f moment) process report) in
+stale_report l f moment report None v told = put_by_report l f moment None report v refl refl
+stale_report l f moment report (Some row) v told =
+    let g = settled l (with_report_of (with_moment f moment) (Some row) report) in
     absurd (elim (takes row.status report) as (λ b. (finished g (report_answer (cond b (Ok report) (Err 13)))).answer ≡ answer.Stale → ⊥)
     [ true ↦ λ h. cc | false ↦ λ h. cc ] told)
 
@@ -136,53 +130,53 @@ told_refused g row report code =
       | false ↦ λ e h. record { is = cc; none = e }
     ] refl
 
-refused_report : (l : Limits) (f : Flat) (moment process : ℕ) (report : Status) (found : Option Service) (code : ℕ) → IsValid l f → Known f
-    → 1 ≤ process → current_of f process ≡ found
-    → (finished (settled l (with_report (with_moment f moment) process report)) (report_told found report)).answer ≡ answer.Refused code
-    → (code ≡ 13) × ((purged (finished (settled l (with_report (with_moment f moment) process report))
-    (report_told found report)).flat).services ≡ f.services)
-refused_report l f moment process report None code v known first e told = absurd cc
-refused_report l f moment process report (Some row) code v known first e told =
-    let g = settled l (with_report (with_moment f moment) process report) in
+refused_report : (l : Limits) (f : Flat) (moment : ℕ) (report : Status) (service : Option Service) (code : ℕ) → IsValid l f
+    → ((row : Service) → service ≡ Some row → All (λ (r : Service). r.number ≡ row.number → r ≡ row) f.services)
+    → (finished (settled l (with_report_of (with_moment f moment) service report)) (report_told service report)).answer ≡ answer.Refused code
+    → (code ≡ 13) × ((purged (finished (settled l (with_report_of (with_moment f moment) service report))
+    (report_told service report)).flat).services ≡ f.services)
+refused_report l f moment report None code v only told = absurd cc
+refused_report l f moment report (Some row) code v only told =
+    let g = settled l (with_report_of (with_moment f moment) (Some row) report) in
     let is = told_refused g row report code told in
-    let same = map_still (reported_if process report) f.services
-    (All-weaker (λ (r : Service). (r.process == process) ≡ true → r ≡ row) (λ (r : Service). reported_if process report r ≡ r)
-    (λ r only. not_taken process report r (λ h. ap (λ (s : Service). takes s.status report) (only h) ∙ is.none)) f.services
-    (found_apart process row f.services first known.apart e)) in (
+    let same = map_still (reported_if row.number report) f.services
+    (All-weaker (λ (r : Service). r.number ≡ row.number → r ≡ row) (λ (r : Service). reported_if row.number report r ≡ r)
+    (λ r one. not_taken row.number report r (λ h. ap (λ (s : Service). takes s.status report) (one (eqb-true r.number row.number h)) ∙ is.none))
+    f.services (only row refl)) in (
       is.is,
       subst (λ (told : Answer). (purged (finished g told).flat).services ≡ f.services)
           (sym (ap (λ (b : Bool). report_answer (cond b (Ok report) (Err 13))) is.none))
-          (put_by_report l f moment process report v same (ap (failed_by report) e ∙ not_failed report row is.none)),
+          (put_by_report l f moment (Some row) report v same (not_failed report row is.none)),
     )
 
 -- ## An end
 
-not_fallen : (process code : ℕ) (row : Service) → (row.process == process) ≡ false → fallen_if process code row ≡ row
+not_fallen : (process code : ℕ) (row : Service) → is_by process row ≡ false → fallen_if process code row ≡ row
 not_fallen process code row e = rw e refl
 
-stale_end : (l : Limits) (f : Flat) (moment process : ℕ) (found : Option Service) → IsValid l f → current_of f process ≡ found
-    → (finished (settled l (without_process (with_end (with_moment f moment) process) process)) (end_told found)).answer ≡ answer.Stale
-    → (purged (finished (settled l (without_process (with_end (with_moment f moment) process) process)) (end_told found)).flat).services ≡
+stale_end : (l : Limits) (f : Flat) (moment process : ℕ) (falling : List Service) → IsValid l f → currents process f.services ≡ falling
+    → (finished (settled l (without_process (with_end (with_moment f moment) process) process)) (end_told falling)).answer ≡ answer.Stale
+    → (purged (finished (settled l (without_process (with_end (with_moment f moment) process) process)) (end_told falling)).flat).services ≡
     f.services
-stale_end l f moment process None v e told =
+stale_end l f moment process [] v e told =
     let others = filter (λ (row : Process). not (row.number == process)) f.processes in
-    let told = notified_of_fall process 1067 (current_of f process) f.registrations in
-    ap (λ (failed : Option Service). (purged (settled l (without_process
-    (if_found with_failure failed (with_fallen (with_moment f moment) process 1067)) process))).services) e
+    ap (λ (rows : List Service). (purged (settled l (without_process (all_failed rows (record f {
+      services = map (fallen_if process 1067) f.services;
+      registrations = notified_of_falls 1067 rows f.registrations;
+      moment = max f.moment moment;
+    })) process))).services) e
     ∙ ap (λ (services : List Service). (purged (settled l (record f {
       services = services;
       processes = others;
       wanted = wanted_of_others process f.wanted;
-      registrations = told;
       moment = max f.moment moment;
     }))).services)
     (map_still (fallen_if process 1067) f.services
-    (All-weaker (λ (row : Service). (row.process == process) ≡ false) (λ (row : Service). fallen_if process 1067 row ≡ row)
-    (not_fallen process 1067) f.services
-    (none_found (λ (row : Service). row.process == process) f.services (ap (λ (o : Option Service). is_some o) e))))
-    ∙ stays_put l f others (wanted_of_others process f.wanted) told (max f.moment moment) v
+    (All-weaker (λ (row : Service). is_by process row ≡ false) (λ (row : Service). fallen_if process 1067 row ≡ row)
+    (not_fallen process 1067) f.services (none_of (is_by process) f.services e)))
+    ∙ stays_put l f others (wanted_of_others process f.wanted) f.registrations (max f.moment moment) v
     (filter_short (λ (row : Process). not (row.number == process)) f.processes)
-stale_end l f moment process (Some row) v e told = absurd cc
+stale_end l f moment process (row ∷ rows) v e told = absurd cc
 
 -- ## Other steps
 
@@ -223,7 +217,7 @@ effect_off l f (Call caller asked append) e = call_off (tells_plan asked (verdic
 effect_off l f (Report process service status) e = absurd cc
 effect_off l f (Ended process) e = absurd cc
 effect_off l f LaunchTaken e = launch_off (first_wanted f.wanted)
-effect_off l f (ControlTaken process) e = control_off (first_control (controls_of f process))
+effect_off l f (ControlTaken process) e = control_off (next_order f process)
 effect_off l f step e = refl
 
 pub step_off : (l : Limits) (f : Flat) (moment : ℕ) (step : Step) → tells_of_process step ≡ false
@@ -236,26 +230,26 @@ pub not_off : (b : Bool) → b ≡ true → b ≡ false → ⊥
 not_off true h e = cc
 not_off false h e = cc
 
-end_off : (code : ℕ) (g : Flat) (found : Option Service) → (finished g (end_told found)).answer ≡ answer.Refused code → ⊥
-end_off code g None told = cc
-end_off code g (Some row) told = cc
+end_off : (code : ℕ) (g : Flat) (falling : List Service) → (finished g (end_told falling)).answer ≡ answer.Refused code → ⊥
+end_off code g [] told = cc
+end_off code g (row ∷ rows) told = cc
 
 -- ## The law
 
 pub stale : (l : Limits) (f : Flat) (moment : ℕ) (step : Step) → IsValid l f → (step_of l f moment step).answer ≡ answer.Stale
     → (step_of l f moment step).flat.services ≡ f.services
-stale l f moment (Report process service report) v told = stale_report l f moment process report (current_of f process) v refl told
-stale l f moment (Ended process) v told = stale_end l f moment process (current_of f process) v refl told
+stale l f moment (Report process service report) v told = stale_report l f moment report (reporting f process service) v told
+stale l f moment (Ended process) v told = stale_end l f moment process (currents process f.services) v refl told
 stale l f moment step v told = absurd (not_off _ (ap tells_off told) (step_off l f moment step refl))
 
-pub refused : (l : Limits) (f : Flat) (moment : ℕ) (step : Step) (code : ℕ) → IsValid l f → Known f → IsTrue (may l f moment step)
+pub refused : (l : Limits) (f : Flat) (moment : ℕ) (step : Step) (code : ℕ) → IsValid l f
     → (step_of l f moment step).answer ≡ answer.Refused code
     → (code ≡ 13) × ((step_of l f moment step).flat.services ≡ f.services)
-refused l f moment (Report process service report) code v known ok told =
-    refused_report l f moment process report (current_of f process) code v known
-    (running_first l f process (process_of f process) v refl (and_parts _ _ (and_parts _ _ ok).0).1) refl told
-refused l f moment (Ended process) code v known ok told = absurd (end_off code _ (current_of f process) told)
-refused l f moment step code v known ok told = absurd (not_off _ (ap tells_off told) (step_off l f moment step refl))
+refused l f moment (Report process service report) code v told =
+    refused_report l f moment report (reporting f process service) code v
+    (λ row is. only_one (is_reporter f process service) row f.services v.services.rising is) told
+refused l f moment (Ended process) code v told = absurd (end_off code _ (currents process f.services) told)
+refused l f moment step code v told = absurd (not_off _ (ap tells_off told) (step_off l f moment step refl))
 
 -- ## A report by a call
 

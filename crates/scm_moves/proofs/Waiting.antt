@@ -19,25 +19,27 @@ use Rattle.scm_model.specs.declared.steps.Step.TheVariants.{Call, LaunchTaken, L
 use Rattle.scm_model.specs.declared.steps.Step.TheVariants.{Raised}
 use Rattle.scm_model.specs.Changes.{with_moment}
 use Rattle.start_plan.specs.Decided.{code_of}
-use Rattle.start_plan.specs.Entered.{wanted_process}
+use Rattle.start_plan.specs.Entered.{is_shared_by, wanted_process}
 use Rattle.start_plan.specs.Settle.{settled}
 use Rattle.start_plan.proofs.Enterings.{all_units}
 use Rattle.start_plan.proofs.Keeps.{Keeps, keeps_all}
-use Rattle.scm_rules.specs.Controls.{controlled_if, controls_in, controls_of, dequeued_if, order_to}
-use Rattle.scm_rules.specs.Launches.{current_of, first_wanted, launched_if, taken_if, without_process}
+use Rattle.scm_rules.specs.Controls.{controlled_if, controls_in, controls_of, dequeued_if, dequeued_in, first_asked, order_to}
+use Rattle.scm_rules.specs.Launches.{currents, first_wanted, launched_if, taken_if, without_process}
+use Rattle.scm_rules.specs.Reports.{is_stopped_by, released_by, released_if, reporting}
 use Rattle.scm_rules.specs.Steps.{at_moment, effect_of, finished, left_by, step_of}
 use Rattle.scm_rules.specs.Verdicts.{call_of, done_of, told_refused, verdict}
 use Rattle.scm_runs.proofs.Calls.{by_verdict}
 use Rattle.scm_runs.proofs.Lists.{find_filter, none_any}
-use Rattle.scm_moves.specs.Controls.{changes_controls, ends_process, is_stopped_at, stops}
+use Rattle.scm_moves.specs.Controls.{changes_controls, ends_process, is_left_by, is_process_of, is_stopped_at, orders_without, stops}
 use Rattle.scm_model.proofs.Found.{found_keeps}
 use Rattle.scm_runs.proofs.Founds.{opened_keeps, started_keeps, notify_apart}
-use Rattle.scm_model.specs.Rows.{held_service}
-use Rattle.scm_runs.specs.Leaving.{is_process_of}
+use Rattle.scm_model.specs.Found.{if_found}
+use Rattle.scm_model.specs.Rows.{held_service, service_of}
+use Rattle.scm_model.specs.declared.flat.Status.{Status}
 use Rattle.scm_model.specs.declared.flat.Service.{Service}
 use Rattle.scm_rules.specs.Failures.{failed_by}
 use Rattle.scm_rules.specs.Raise.{raised}
-use Rattle.scm_runs.proofs.Failing.{failing_apart}
+use Rattle.scm_runs.proofs.Failing.{all_failing_apart, failing_apart}
 use Rattle.scm_runs.proofs.Unasked.{raised_by, ticked_by}
 
 -- the process with a number
@@ -104,6 +106,54 @@ relieved_others : (process number : ℕ) (rows : List Process) → (process == n
 relieved_others process number rows other =
     controls_mapped (dequeued_if process) (λ orders. orders) number rows (relieved_number process)
     (λ row e. rw (other_number process number row.number other e) refl) refl
+
+other_process : (a b : ℕ) → (b == a) ≡ false → (a == b) ≡ false
+other_process a b e = ne_eqb a b (λ same. absurd (let yes = eq-eqb b a (sym same) in cc))
+
+-- what is sent next is taken of one process
+sent_others : (asked : Option Service) (process number : ℕ) (rows : List Process) → (process == number) ≡ false
+    → controls_in (found number (dequeued_in asked process rows)) ≡ controls_in (found number rows)
+sent_others None process number rows other = relieved_others process number rows other
+sent_others (Some row) process number rows other = refl
+
+-- a report leaves the orders of other services, and those of a process of one service
+pub released_number : (process service : ℕ) (row : Process) → (released_if process service row).number ≡ row.number
+released_number process service row =
+    elim (row.number == process && row.shared) as (λ b. (cond b (record row {
+      controls = filter (λ (order : Order). not (order.service == service)) row.controls;
+    }) row).number ≡ row.number) [ true ↦ refl | false ↦ refl ]
+
+released_others : (process service number : ℕ) (rows : List Process) → (process == number) ≡ false
+    → controls_in (found number (map (released_if process service) rows)) ≡ controls_in (found number rows)
+released_others process service number rows other =
+    controls_mapped (released_if process service) (λ orders. orders) number rows (released_number process service)
+    (λ row e. rw (other_number process number row.number other e) refl) refl
+
+pub released : (process service : ℕ) (rows : List Process)
+    → controls_in (found process (map (released_if process service) rows)) ≡ orders_without service (found process rows)
+released process service [] = refl
+released process service (row ∷ rows) =
+    ap (λ n. controls_in (cond (n == process) (Some (released_if process service row))
+    (found process (map (released_if process service) rows)))) (released_number process service row)
+    ∙ elim (row.number == process) as (λ b. controls_in (cond b (Some (cond (b && row.shared) (record row {
+      controls = filter (λ (order : Order). not (order.service == service)) row.controls;
+    }) row)) (found process (map (released_if process service) rows))) ≡ orders_without service (cond b (Some row) (found process rows))) [
+      | true ↦ elim row.shared as (λ b. (cond b (record row {
+        controls = filter (λ (order : Order). not (order.service == service)) row.controls;
+      }) row).controls ≡ cond b (filter (λ (order : Order). not (order.service == service)) row.controls) row.controls)
+          [ true ↦ refl | false ↦ refl ]
+      | false ↦ released process service rows
+    ]
+
+unreleased : (report : Status) (service : Option Service) (number : ℕ) (rows : List Process) → is_left_by report service number ≡ false
+    → controls_in (found number (if_found (released_by report) service rows)) ≡ controls_in (found number rows)
+unreleased report None number rows other = refl
+unreleased report (Some row) number rows other =
+    elim (is_stopped_by report row) as (λ b. (b && number == row.process) ≡ false
+    → controls_in (found number (cond b (map (released_if row.process row.number) rows) rows)) ≡ controls_in (found number rows)) [
+      | true ↦ λ e. released_others row.process row.number number rows (other_process row.process number e)
+      | false ↦ λ e. refl
+    ] other
 
 pub controlled_number : (limit process : ℕ) (order : Order) (row : Process) → (controlled_if limit process order row).number ≡ row.number
 controlled_number limit process order row =
@@ -178,9 +228,6 @@ left_none process number (row ∷ rows) is =
 
 -- ## Effects
 
-other_process : (a b : ℕ) → (b == a) ≡ false → (a == b) ≡ false
-other_process a b e = ne_eqb a b (λ same. absurd (let yes = eq-eqb b a (sym same) in cc))
-
 -- what waits for a process among these
 abbrev WaitsSo : ℕ → List Process → List Process → Type 0
 WaitsSo number before after = controls_in (found number after) ≡ controls_in (found number before)
@@ -198,7 +245,8 @@ waiting_done l f caller (request.OpenService handle name access) append number o
 waiting_done l f caller (request.Start handle words) append number other =
     started_keeps (λ (g : Flat). controls_of g number ≡ controls_of f number) f caller handle words refl (λ row is. refl)
 waiting_done l f caller (request.SetStatus handle status) append number other =
-    failing_apart (λ (g : Flat). controls_of g number ≡ controls_of f number) (failed_by status (held_service f caller handle)) _ refl
+    failing_apart (λ (g : Flat). controls_of g number ≡ controls_of f number) (failed_by status (held_service f caller handle)) _
+    (unreleased status (held_service f caller handle) number f.processes other)
 waiting_done l f caller (request.Notify handle mask) append number other =
     notify_apart (λ (g : Flat). controls_of g number ≡ controls_of f number) f caller handle mask (λ rows next. refl)
 waiting_done l f caller asked append number other = refl
@@ -217,6 +265,8 @@ waiting_call l f moment caller asked append number other =
         → controls_of (done_of l (with_moment f moment) caller asked).flat number ≡ controls_of f number
     waiting_by l f moment caller (request.Control handle control) append number other =
         waiting_done l (with_moment f moment) caller (request.Control handle control) append number other
+    waiting_by l f moment caller (request.SetStatus handle status) append number other =
+        waiting_done l (with_moment f moment) caller (request.SetStatus handle status) append number other
     waiting_by l f moment caller asked append number other = waiting_done l (with_moment f moment) caller asked append number refl
 
 some_not : (b : Bool) (code : ℕ) → is_some (cond b (Some code) None) ≡ false → b ≡ false
@@ -228,14 +278,15 @@ some_is true code h = refl
 some_is false code h = absurd cc
 
 -- a process that is new has no controls
-new_none : (process service number : ℕ) (rows : List Process) → controls_in
-    (found number (rows ++ wanted_process process service ∷ [])) ≡ controls_in (found number rows)
-new_none process service number [] = elim (process == number) as (λ b. controls_in (cond b (Some (wanted_process process service)) None) ≡
-    []) [ true ↦ refl | false ↦ refl ]
-new_none process service number (row ∷ rows) =
-    elim (row.number == number) as (λ b. controls_in (cond b (Some row) (found number (rows ++ wanted_process process service ∷ []))) ≡
+new_none : (process service : ℕ) (shared : Bool) (number : ℕ) (rows : List Process) → controls_in
+    (found number (rows ++ wanted_process process service shared ∷ [])) ≡ controls_in (found number rows)
+new_none process service shared number [] =
+    elim (process == number) as (λ b. controls_in (cond b (Some (wanted_process process service shared)) None) ≡ [])
+    [ true ↦ refl | false ↦ refl ]
+new_none process service shared number (row ∷ rows) =
+    elim (row.number == number) as (λ b. controls_in (cond b (Some row) (found number (rows ++ wanted_process process service shared ∷ []))) ≡
     controls_in (cond b (Some row) (found number rows)))
-    [ true ↦ refl | false ↦ new_none process service number rows ]
+    [ true ↦ refl | false ↦ new_none process service shared number rows ]
 
 -- a service that a raise doesn't stop
 spared_at : (subtype : List ℕ) (number : ℕ) (rows : List Service) → list_any (λ (row : Service). row.process == number
@@ -284,16 +335,16 @@ waiting_effect l f moment (LaunchFailed process code) number other = left_others
     (some_not (process == number) code other)
 waiting_effect l f moment (Report process service status) number other =
     failing_apart (λ (g : Flat). controls_of g number ≡ controls_of f number)
-    (failed_by status (current_of (with_moment f moment) process)) _ refl
+    (failed_by status (reporting (with_moment f moment) process service)) _
+    (unreleased status (reporting f process service) number f.processes other)
 waiting_effect l f moment (Ended process) number other =
-    failing_apart (λ (g : Flat). controls_of (without_process g process) number ≡ controls_of f number)
-    (current_of (with_moment f moment) process) _
+    all_failing_apart (λ (g : Flat). controls_of (without_process g process) number ≡ controls_of f number) (currents process f.services) _
     (left_others process number f.processes (some_not (process == number) 1067 other))
-waiting_effect l f moment (ControlTaken process) number other = relieved_others process number f.processes other
+waiting_effect l f moment (ControlTaken process) number other = sent_others (first_asked f process) process number f.processes other
 waiting_effect l f moment Tick number other = ticked_by (λ (g : Flat). controls_of g number ≡ controls_of f number) l (record {
   spends = λ g row is e. e;
   starts = λ g row there can e. e;
-  runs = λ g row there can e. new_none g.next.process 0 number g.processes ∙ e;
+  runs = λ g row there can e. new_none g.next.process 0 false number g.processes ∙ e;
   reboots = λ g e. e;
 }) (with_moment f moment) refl
 waiting_effect l f moment (Raised caller subtype) number other = waiting_raised l (with_moment f moment) caller subtype number other
@@ -304,7 +355,7 @@ ended_effect : (l : Limits) (f : Flat) (moment : ℕ) (step : Step) (number : �
 ended_effect l f moment (LaunchFailed process code) number is = left_none process number f.processes
     (eqb-true process number (some_is (process == number) code is))
 ended_effect l f moment (Ended process) number is =
-    failing_apart (λ (g : Flat). controls_of (without_process g process) number ≡ []) (current_of (with_moment f moment) process) _
+    all_failing_apart (λ (g : Flat). controls_of (without_process g process) number ≡ []) (currents process f.services) _
     (left_none process number f.processes (eqb-true process number (some_is (process == number) 1067 is)))
 ended_effect l f moment step number is = absurd cc
 
@@ -312,7 +363,7 @@ ended_effect l f moment step number is = absurd cc
 
 waits_on : (l : Limits) (f : Flat) (number : ℕ) → Keeps l (λ (g : Flat). controls_of g number ≡ controls_of f number) (λ plan. Unit {0})
 waits_on l f number = record {
-  enters = λ g plan n words entry same. new_none g.next.process n number g.processes ∙ same;
+  enters = λ g plan n words entry same. new_none g.next.process n (is_shared_by (service_of g n)) number g.processes ∙ same;
   tries = λ g plan n entry q. tt;
   drops = λ plan n rest code q. tt;
 }

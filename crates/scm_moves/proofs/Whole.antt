@@ -1,5 +1,5 @@
 -- Both laws hold in each step from a state that a run reaches.
-use Rattle.std.proofs.Common.{ℕ, List, refl, sym, subst}
+use Rattle.std.proofs.Common.{ℕ, List, sym, subst}
 use Rattle.std.proofs.lemmas.List.Elements.{All-nil}
 use Rattle.scm_model.specs.declared.flat.Config.{Config}
 use Rattle.scm_model.specs.declared.flat.Flat.{Flat}
@@ -7,13 +7,12 @@ use Rattle.scm_model.specs.declared.flat.HandleRow.{HandleRow}
 use Rattle.scm_model.specs.declared.flat.Limits.{Limits}
 use Rattle.scm_rules.specs.Opening.{IsOpening, opening, services_from}
 use Rattle.scm_runs.proofs.Along.{Gives, Keeps}
-use Rattle.scm_runs.proofs.Opened.{pairs_opened}
 use Rattle.scm_runs.proofs.Clear.{Clear, clear_begun, clear_keeps, is_valid_clear}
 use Rattle.scm_moves.specs.Controls.{LawOfControls}
 use Rattle.scm_moves.specs.Moves.{LawOfMoves}
 use Rattle.scm_moves.proofs.Controlled.{controls}
-use Rattle.scm_moves.proofs.Known.{AreApart, IsOfOne, Known, known}
-use Rattle.scm_moves.proofs.Moved.{moved}
+use Rattle.scm_moves.proofs.Known.{IsOfOne, Known, known}
+use Rattle.scm_moves.proofs.Moved.{ended, moved}
 use Rattle.scm_moves.proofs.Stale.{refused, stale, unheard}
 
 -- what is true of every state
@@ -21,10 +20,9 @@ pub record Whole (l : Limits) (f : Flat) : Type 0 where
   pub clear : Clear l f
   pub known : Known f
 
--- services that never ran have no process, and nobody has a handle
+-- there are no handles
 opened_known : (l : Limits) (groups : List (List ℕ)) (configs : List Config) (moment : ℕ) → Known (opening l groups configs moment)
 opened_known l groups configs moment = record {
-  apart = pairs_opened AreApart 1 configs (λ i j d lt within e. refl);
   opened = All-nil (λ (row : HandleRow). IsOfOne (services_from 1 configs) row.kind);
 }
 
@@ -37,7 +35,7 @@ whole_begun l f o = record {
 pub whole_keeps : (l : Limits) → Keeps (Whole l) l
 whole_keeps l f e whole ok = record {
   clear = clear_keeps l f e whole.clear ok;
-  known = known l f e.0 e.1 (is_valid_clear l f whole.clear) whole.known;
+  known = known l f e.0 e.1 whole.known;
 }
 
 pub gives_moves : (l : Limits) → Gives (Whole l) (LawOfMoves l) l
@@ -46,7 +44,8 @@ gives_moves l f e whole ok =
     record {
       moved = moved l f e.0 e.1 valid ok;
       stale = stale l f e.0 e.1 valid;
-      refused = λ code. refused l f e.0 e.1 code valid whole.known ok;
+      refused = λ code. refused l f e.0 e.1 code valid;
+      ended = λ number. ended l f e.0 e.1 number valid ok;
       unheard = λ code. unheard l f e.0 e.1 code valid;
     }
 

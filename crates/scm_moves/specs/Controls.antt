@@ -1,10 +1,11 @@
 -- Which controls services get, and which wait for their processes.
-use Rattle.std.specs.Prelude.{ℕ, Bool, ◌≡◌, ◌↔◌, ◌≤◌, true, false, not, ◌&&◌, ◌||◌, ◌==◌, ◌++◌, All, List, [], ◌∷◌, Option, None, Some}
-use Rattle.std.specs.Prelude.{is_some, if◌then◌else◌}
+use Rattle.std.specs.Prelude.{ℕ, Bool, ◌≡◌, ◌↔◌, ◌≤◌, ◌⊎◌, true, false, not, ◌&&◌, ◌||◌, ◌==◌, ◌++◌, All, List, [], ◌∷◌, Option, None}
+use Rattle.std.specs.Prelude.{Some, filter, is_some, if◌then◌else◌}
 use Rattle.std.specs.List.{list_any}
 use Rattle.scm_model.specs.declared.flat.Flat.{Flat}
 use Rattle.scm_model.specs.declared.flat.Limits.{Limits}
 use Rattle.scm_model.specs.declared.flat.Order.{Order}
+use Rattle.scm_model.specs.declared.flat.Process.{Process}
 use Rattle.scm_model.specs.declared.flat.Service.{Service}
 use Rattle.scm_model.specs.declared.flat.Status.{Status}
 use Rattle.scm_model.specs.declared.calls.Reply.TheVariants as reply
@@ -12,15 +13,16 @@ use Rattle.scm_model.specs.declared.calls.Request.TheVariants as request
 use Rattle.scm_model.specs.declared.steps.Answer.{Answer}
 use Rattle.scm_model.specs.declared.steps.Answer.TheVariants as answer
 use Rattle.scm_model.specs.declared.steps.Step.{Step}
-use Rattle.scm_model.specs.declared.steps.Step.TheVariants.{Call, ControlTaken, Raised}
+use Rattle.scm_model.specs.declared.steps.Step.TheVariants.{Call, ControlTaken, Raised, Report}
 use Rattle.scm_model.specs.Refused.{zero_status}
 use Rattle.scm_model.specs.Rows.{held_service, opened}
 use Rattle.control_dispatch.specs.Judging.{judge}
 use Rattle.dependency_index.specs.Naming.{is_for}
 use Rattle.start_triggers.specs.Triggers.{matching}
-use Rattle.scm_rules.specs.Controls.{control_verdict, controls_of, granted_in, order_to}
+use Rattle.scm_rules.specs.Controls.{control_verdict, controls_of, first_asked, granted_in, order_to}
+use Rattle.scm_rules.specs.Launches.{process_of}
 use Rattle.scm_rules.specs.Query.{status_in}
-use Rattle.scm_runs.specs.Leaving.{is_process_of}
+use Rattle.scm_rules.specs.Reports.{is_stopped_by, reporting}
 use Rattle.scm_model.specs.Entries.{Entry}
 use Rattle.scm_model.specs.declared.codes.TheConstants.{ERROR_DEPENDENT_SERVICES_RUNNING, ERROR_INVALID_SERVICE_CONTROL}
 use Rattle.scm_model.specs.declared.codes.TheConstants.{ERROR_SERVICE_CANNOT_ACCEPT_CTRL, ERROR_SERVICE_NOT_ACTIVE, SERVICE_CONTROL_STOP}
@@ -85,11 +87,35 @@ pub record IsControlled (l : Limits) (before : Flat) (caller handle control : �
   pub services : after.services ≡ before.services
   pub needed : (code ≡ ERROR_DEPENDENT_SERVICES_RUNNING) ↔ IsNeededStill before caller handle control
 
--- the answer is the order that waited first, which no longer waits
+-- the answer is the first service that is asked to start, with code 0, which no longer is; what waits stays
+pub record AskedIsTaken (before : Flat) (process : ℕ) (told : Answer) (after : Flat) : Type 0 where
+  pub row : Service
+  pub first : first_asked before process ≡ Some row
+  pub answers : told ≡ answer.Control (record { service = row.number; code = 0 })
+  pub unasked : All (λ (new : Service). new.number ≡ row.number → new.asked ≡ false) after.services
+  pub waits : controls_of after process ≡ controls_of before process
+
+-- none is asked to start, and the answer is the order that waited first, which no longer waits
 pub record FirstIsTaken (before : Flat) (process : ℕ) (told : Answer) (after : Flat) : Type 0 where
+  pub none : first_asked before process ≡ None
   pub order : Order
   pub answers : told ≡ answer.Control order
   pub first : controls_of before process ≡ order ∷ controls_of after process
+
+-- what is sent to a process next
+abbrev pub IsSent : Flat → ℕ → Answer → Flat → Type 0
+IsSent before process told after = AskedIsTaken before process told after ⊎ FirstIsTaken before process told after
+
+-- the orders of a process without those of a service, where others may live there too
+abbrev pub orders_without : ℕ → Option Process → List Order
+orders_without service None = []
+orders_without service (Some row) = if row.shared then filter (λ (order : Order). not (order.service == service)) row.controls else row.controls
+
+-- a report that stops the service that was found takes its orders from its process, where that is shared
+abbrev pub IsReleased : Flat → Flat → Status → Option Service → Type 0
+IsReleased before after report None = Unit {0}
+IsReleased before after report (Some row) = is_stopped_by report row ≡ true
+    → controls_of after row.process ≡ orders_without row.number (process_of before row.process)
 
 -- only STOPs are added for this process, after what waited
 pub record IsStopped (before after : Flat) (number : ℕ) : Type 0 where
@@ -100,7 +126,10 @@ pub record IsStopped (before after : Flat) (number : ℕ) : Type 0 where
 abbrev pub OfControls : Limits → Flat → Step → Answer → Flat → Type 0
 OfControls l before (Call caller (request.Control handle control) append) told after =
     IsControlled l before caller handle control told after
-OfControls l before (ControlTaken process) told after = FirstIsTaken before process told after
+OfControls l before (Call caller (request.SetStatus handle status) append) told after =
+    told ≡ answer.Reply (reply.Code 0) → IsReleased before after status (held_service before caller handle)
+OfControls l before (ControlTaken process) told after = IsSent before process told after
+OfControls l before (Report process service status) told after = IsReleased before after status (reporting before process service)
 OfControls l before (Raised caller subtype) told after = (number : ℕ) → IsStopped before after number
 OfControls l before step told after = Unit {0}
 
@@ -119,16 +148,29 @@ stops (Some action) = not (action == SERVICE_TRIGGER_ACTION_SERVICE_START)
 abbrev pub is_stopped_at : List ℕ → Service → Bool
 is_stopped_at subtype row = stops (matching row.config subtype)
 
+-- whether a service that was found has the process
+abbrev pub is_process_of : Option Service → ℕ → Bool
+is_process_of None process = false
+is_process_of (Some row) process = process == row.process
+
+-- whether a report stops the service that was found, and this is its process
+abbrev pub is_left_by : Status → Option Service → ℕ → Bool
+is_left_by report None process = false
+is_left_by report (Some row) process = is_stopped_by report row && process == row.process
+
 -- whether a step may change what waits for this process
 abbrev pub changes_controls : Flat → Step → ℕ → Bool
 changes_controls f (Call caller (request.Control handle control) append) number = is_process_of (held_service f caller handle) number
+changes_controls f (Call caller (request.SetStatus handle status) append) number = is_left_by status (held_service f caller handle) number
 changes_controls f (ControlTaken process) number = process == number
+changes_controls f (Report process service status) number = is_left_by status (reporting f process service) number
 changes_controls f (Raised caller subtype) number = list_any (λ (row : Service). row.process == number
     && is_stopped_at subtype row) f.services
 changes_controls f step number = ends_process step number
 
--- a Control puts a control after those that wait, a raise STOPs, and they are taken from the front; a process that ends has none, nor has
--- one that is new, and no other step changes what waits
+-- a Control puts a control after those that wait, a raise STOPs, and they are taken from the front once no service is asked to start; a
+-- report that stops a service takes its orders away from a process that is shared; a process that ends has none, nor has one that is new;
+-- and no other step changes what waits
 pub record LawOfControls (l : Limits) (before : Flat) (e : Entry) (told : Answer) (after : Flat) : Type 0 where
   pub controls : OfControls l before e.1 told after
   pub ended : (number : ℕ) → ends_process e.1 number ≡ true → controls_of after number ≡ []

@@ -1,5 +1,6 @@
 -- How a service moves in a step.
-use Rattle.std.specs.Prelude.{ℕ, Bool, ◌≡◌, ◌⊎◌, ◌≤◌, true, false, ◌==◌, All, Option, None, Some, if◌then◌else◌}
+use Rattle.std.specs.Prelude.{ℕ, Bool, ◌≡◌, ◌⊎◌, ◌≤◌, true, false, ◌==◌, All, Option, None, Some, is_some, if◌then◌else◌}
+use Rattle.scm_model.specs.Processes.{is_by}
 use Rattle.scm_model.specs.declared.flat.Flat.{Flat}
 use Rattle.scm_model.specs.declared.flat.Limits.{Limits}
 use Rattle.scm_model.specs.declared.flat.Service.{Service}
@@ -79,10 +80,12 @@ is_called_report (Call caller (request.SetStatus handle status) append) = true
 is_called_report step = false
 
 -- a service moves by a report of its current process that the table allows, by the end of that process, or by being entered where it is
--- STOPPED, and by nothing else; a stale step and a report that is refused, also one by a call, move none
+-- STOPPED, and by nothing else; a stale step and a report that is refused, also one by a call, move none; and a process that ended or whose
+-- launch failed is no service's current one
 pub record LawOfMoves (l : Limits) (before : Flat) (e : Entry) (told : Answer) (after : Flat) : Type 0 where
   pub moved : All (HasMoved before e.1) after.services
   pub stale : told ≡ answer.Stale → after.services ≡ before.services
   pub refused : (code : ℕ) → told ≡ answer.Refused code → (code ≡ ERROR_INVALID_DATA) × (after.services ≡ before.services)
+  pub ended : (number : ℕ) → is_some (code_of_end e.1 number) ≡ true → All (λ (row : Service). is_by number row ≡ false) after.services
   pub unheard : (code : ℕ) → is_called_report e.1 ≡ true → told ≡ answer.Reply (reply.Code code) → (code == 0) ≡ false
       → after.services ≡ before.services

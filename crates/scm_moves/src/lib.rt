@@ -14,9 +14,10 @@ use scm_text::Items;
 /// The law of moves: in each step a service's status stays as it is but for its type, or its
 /// current process reports another one that the table allows from there, or that process ends and
 /// the service is STOPPED; then it may be entered if it is STOPPED, by a process that none had
-/// before. The answer to a report or an end is that it is stale exactly if its process is no
-/// service's current one, and then it changes no service; a report that is refused changes none: a
-/// process's own with 13, one by a call with any code.
+/// before. The answer to a report is that it is stale exactly if it names no service whose current
+/// process it is, and to an end exactly if its process is no service's current one, and then the
+/// step changes no service; a report that is refused changes none: a process's own with 13, one by
+/// a call with any code. A process that ended, or whose launch failed, is no service's current one.
 pub fn law_of_moves(limits: &Limits, steps: &Items<(u64, Step)>, opening: &Flat)
     requires begins { IsOpening limits.now opening.now }
     requires legal { IsLegal limits.now opening.now steps.now }
@@ -28,9 +29,10 @@ pub fn law_of_moves(limits: &Limits, steps: &Items<(u64, Step)>, opening: &Flat)
 /// changes no service. At code 0 the control waits after those that waited for the service's
 /// process, and at any other nothing more waits. A STOP gets 1051 exactly if no earlier code
 /// applies and a service that isn't STOPPED names this one as a need. A raise puts only STOPs after
-/// what waits, for the services that have such a trigger. What waits is taken from the front; a
-/// process that ends has none, nor has one that is new, and no other step changes what waits for a
-/// process.
+/// what waits, for the services that have such a trigger. A process is sent first, with code 0,
+/// each service that it is to start, and then what waits is taken from the front. A report that
+/// stops a service takes its orders away from a process that is shared. A process that ends has
+/// none, nor has one that is new, and no other step changes what waits for a process.
 pub fn law_of_controls(limits: &Limits, steps: &Items<(u64, Step)>, opening: &Flat)
     requires begins { IsOpening limits.now opening.now }
     requires legal { IsLegal limits.now opening.now steps.now }

@@ -10,7 +10,7 @@ use Rattle.scm_model.specs.declared.flat.Flat.{Flat}
 use Rattle.scm_model.specs.declared.flat.Process.{Process}
 use Rattle.scm_model.specs.declared.flat.Registration.{Registration}
 use Rattle.scm_model.specs.declared.flat.Service.{Service}
-use Rattle.start_plan.specs.Entered.{started_if, starting_in, notified_of_start, wanted_process, with_entered}
+use Rattle.start_plan.specs.Entered.{is_shared_by, started_if, starting_in, notified_of_start, wanted_process, with_entered}
 use Rattle.start_plan.proofs.Rows.{same_number, started_or}
 use Rattle.scm_history.specs.Once.{has_service}
 use Rattle.scm_notices.specs.Events.{Notifies, events_between, events_of_change, events_of_service, notified_between, notified_first}
@@ -91,7 +91,7 @@ entering_settles f g n words row found stopped s = record {
   current = All-map (λ (r : Service). r.process < p + 1) (started_if n p) g.services
       (λ k d lt. started_or (λ (r : Service). r.process < p + 1) n p (get_or g.services k d) (λ e. omega arith)
       (let low = s.current k d lt in omega (arith, low)));
-  listed = All-push (λ (process : Process). process.number < p + 1) g.processes (wanted_process p n)
+  listed = All-push (λ (process : Process). process.number < p + 1) g.processes (wanted_process p n (is_shared_by (service_of g n)))
       (All-weaker (λ (process : Process). process.number < p) (λ (process : Process). process.number < p + 1)
       (λ process low. omega (arith, low)) g.processes s.listed) (omega arith);
 }
@@ -146,7 +146,7 @@ entering_settles f g n words row found stopped s = record {
 
     own_events : events_of_change after.processes row new ≡ event ∷ []
     own_events =
-        let pid : pid_of after.processes new ≡ 0 = pid_unlaunched g.processes (wanted_process p n) new s.listed refl refl in
+        let pid : pid_of after.processes new ≡ 0 = pid_unlaunched g.processes (wanted_process p n (is_shared_by (service_of g n))) new s.listed refl refl in
         let moves : (row.status.state == 2) ≡ false = ne_eqb row.status.state 2 (λ two. absurd (omega (arith, two, stopped))) in
         let unmarked : was_marked row new ≡ false = (unmoved row).1 in
         rw (moves, unmarked, pid) refl
@@ -191,7 +191,7 @@ entering_settles f g n words row found stopped s = record {
             by_old (Some x) None is' = rw is' refl
             by_old (Some x) (Some y) is' =
                 let pid : pid_of after.processes y ≡ pid_of g.processes y =
-                pid_before g.processes (wanted_process p n) y
+                pid_before g.processes (wanted_process p n (is_shared_by (service_of g n))) y
                 (found_has (λ (z : Service). z.process < p) (λ (z : Service). z.number == m) y g.services s.current is') in
                 rw (is', pid) refl
 

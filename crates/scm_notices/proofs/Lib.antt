@@ -6,5 +6,6 @@ pub mod Between
 pub mod Coming
 pub mod Entering
 pub mod Own
+pub mod Falls
 pub mod Effects
 pub mod Whole

@@ -1,8 +1,8 @@
--- The row with a number, and the one with a process.
-use Rattle.std.proofs.Common.{ℕ, ◌≡◌, ◌∙◌, ◌≤◌, ◌==◌, Bool, true, false, cond, List, [], ◌∷◌, Option, None, Some, find, get_or, ap, sym}
-use Rattle.std.proofs.Common.{refl, subst, eqb-true, eq-eqb, ne_eqb, is_some, arith, suc}
-use Rattle.std.specs.Prelude.{All, AllPairs, Contains}
-use Rattle.std.proofs.lemmas.List.Elements.{All-cons, All-contains_itself, All-nil, All-weaker}
+-- The row with a number.
+use Rattle.std.proofs.Common.{ℕ, ◌≡◌, ◌∙◌, ◌≤◌, ◌==◌, Bool, true, false, cond, List, Option, None, Some, find, ap, sym}
+use Rattle.std.proofs.Common.{refl, subst, eqb-true, eq-eqb, ne_eqb, is_some, arith}
+use Rattle.std.specs.Prelude.{All, Contains}
+use Rattle.std.proofs.lemmas.List.Elements.{All-contains_itself, All-weaker}
 use Rattle.scm_model.specs.Changes.{configured_if}
 use Rattle.scm_model.specs.Rows.{service_of}
 use Rattle.scm_model.specs.declared.flat.Config.{Config}
@@ -11,7 +11,6 @@ use Rattle.scm_model.specs.declared.flat.Service.{Service}
 use Rattle.scm_rules.proofs.Needed.{replaced}
 use Rattle.scm_runs.proofs.Lists.{alone, found_has, found_passes, none_found}
 use Rattle.scm_runs.proofs.Sound.{Sound}
-use Rattle.scm_moves.proofs.Known.{AreApart, Known}
 
 -- ## Rows
 
@@ -28,29 +27,6 @@ it_is f old s there =
     (λ row only same. of_any (λ (other : Service). other.number ≡ row.number → other ≡ row) f.services old only there
     (eqb-true old.number row.number same))
     f.services (alone (λ (row : Service). row.number) f.services s.services.numbered.rising)
-
--- so does a process that is one's own
-abbrev pub IsOwn : Service → Service → Type 0
-IsOwn row other = 1 ≤ row.process → (other.process == row.process) ≡ true → other ≡ row
-
-own_process : (rows : List Service) → AllPairs AreApart rows → All (λ (row : Service). All (IsOwn row) rows) rows
-own_process [] apart = All-nil (λ (row : Service). All (IsOwn row) [])
-own_process (x ∷ xs) apart =
-    All-cons (λ (row : Service). All (IsOwn row) (x ∷ xs)) x xs
-    (All-cons (IsOwn x) x xs (λ first same. refl)
-    (λ k d lt first same. absurd (
-    let here = eqb-true (get_or xs k d).process x.process same in
-    let none : x.process ≡ 0 = apart 0 (suc k) d (omega arith) (omega arith) (sym here) in
-    omega (arith, none, first))))
-    (λ k d lt. All-cons (IsOwn (get_or xs k d)) x xs
-    (λ first same. absurd (
-    let here = eqb-true x.process (get_or xs k d).process same in
-    let none : x.process ≡ 0 = apart 0 (suc k) d (omega arith) (omega arith) here in
-    omega (arith, none, here, first)))
-    (own_process xs (λ i j c lt within. apart (suc i) (suc j) c (omega arith) (omega arith)) k d lt))
-
-pub own_of : (f : Flat) (row : Service) → Known f → Contains f.services row → All (IsOwn row) f.services
-own_of f row known there = of_any (λ (r : Service). All (IsOwn r) f.services) f.services row (own_process f.services known.apart) there
 
 -- a row that is there is found by its number
 pub row_of : (f : Flat) (row : Service) → Sound f → Contains f.services row → service_of f row.number ≡ Some row

@@ -548,7 +548,7 @@ comes l f moment step each asked by told = absurd cc
 pub gives : (l : Limits) → Gives (Whole l) (LawOfNotices l) l
 gives l f e whole ok =
     let s = whole.clear.sound in
-    let each = each_stage l f e s whole.known ok in
+    let each = each_stage l f e s ok in
     record {
       rows = rows_stand l f e s each;
       stay = of_step l (StaysThere f e.1) f e.0 e.1 (they_stay f e.1) s ok;

@@ -21,7 +21,6 @@ use Rattle.scm_runs.proofs.Calls.{before_sound, by_verdict, of_effect as sound_e
 use Rattle.scm_runs.proofs.Founds.{notify_apart}
 use Rattle.scm_runs.proofs.Frames.{finished_keeps}
 use Rattle.scm_runs.proofs.Sound.{Sound}
-use Rattle.scm_moves.proofs.Known.{Known}
 use Rattle.scm_moves.proofs.Whole.{Whole}
 use Rattle.scm_notices.specs.Events.{LawOfEvents, Notifies, NotifiesEach, changes_registrations, is_about_registrations}
 use Rattle.scm_notices.proofs.Between.{changed_same, notified_of_nothing}
@@ -79,12 +78,12 @@ same_services l f moment step about = absurd cc
 
 -- ## The law
 
-pub each_stage : (l : Limits) (f : Flat) (e : Entry) → Sound f → Known f → IsTrue (may l f e.0 e.1)
+pub each_stage : (l : Limits) (f : Flat) (e : Entry) → Sound f → IsTrue (may l f e.0 e.1)
     → NotifiesEach f e.1 (stages_of l f e.0 e.1)
-each_stage l f e s known ok =
+each_stage l f e s ok =
     let done = effect_of l (at_moment f e.0 e.1) e.1 in
     record {
-      effect = of_effect l f e.0 e.1 s known ok;
+      effect = of_effect l f e.0 e.1 s ok;
       services = same_services l f e.0 e.1;
       settled = finished_keeps (Notifies done.flat) (λ g plans q. q) (settled l done.flat) done.answer
           (of_settling l done.flat (sound_effect l f e.0 e.1 s ok));
@@ -92,4 +91,4 @@ each_stage l f e s known ok =
     }
 
 pub gives : (l : Limits) → Gives (Whole l) (LawOfEvents l) l
-gives l f e whole ok = each_stage l f e whole.clear.sound whole.known ok
+gives l f e whole ok = each_stage l f e whole.clear.sound ok

@@ -1,11 +1,12 @@
 -- What a step that isn't owed makes owed.
-use Rattle.std.proofs.Common.{ℕ, ◌≡◌, ◌≤◌, ◌+◌, ◌*◌, ◌==◌, true, false, cond, List, [], ◌∷◌, Option, filter, length, length-append, map, ap}
+use Rattle.std.proofs.Common.{ℕ, ◌≡◌, ◌≤◌, ◌+◌, ◌*◌, ◌==◌, true, false, cond, List, [], ◌∷◌, Option, None, Some, filter, length, length-append, map, ap}
 use Rattle.std.proofs.Common.{refl, arith, eqb-true}
 use Rattle.std.specs.Prelude.{is_some, unwrap_or}
 use Rattle.scm_model.specs.declared.flat.Flat.{Flat}
 use Rattle.scm_model.specs.declared.flat.Limits.{Limits}
 use Rattle.scm_model.specs.declared.flat.Process.{Process}
 use Rattle.scm_model.specs.declared.flat.Service.{Service}
+use Rattle.scm_model.specs.declared.flat.Status.{Status}
 use Rattle.scm_model.specs.declared.calls.Reply.{Reply}
 use Rattle.scm_model.specs.declared.calls.Request.{Request}
 use Rattle.scm_model.specs.declared.calls.Request.TheVariants as request
@@ -16,14 +17,14 @@ use Rattle.scm_model.specs.declared.steps.Step.TheVariants.{ControlTaken, Tick, 
 use Rattle.scm_model.specs.Refused.{answered}
 use Rattle.scm_model.specs.Outcomes.{CallResult}
 use Rattle.scm_model.specs.Ready.{state_of}
-use Rattle.scm_rules.specs.Controls.{controlled_if, dequeued_if, order_to}
+use Rattle.scm_rules.specs.Controls.{controlled_if, dequeued_if, dequeued_in, first_asked, order_to}
 use Rattle.scm_rules.specs.Needs.{need_row, need_rows, start_order}
 use Rattle.scm_rules.specs.Start.{new_plan, start_done, start_verdict, with_start}
 use Rattle.scm_rules.specs.Steps.{effect_of}
 use Rattle.scm_rules.specs.Verdicts.{call_of, done_of, told_refused, verdict}
-use Rattle.scm_runs.proofs.Sound.{controls_fewer, controls_more}
+use Rattle.scm_runs.proofs.Sound.{controls_fewer, controls_more, controls_released}
 use Rattle.scm_rules.specs.Owed.{owed, owed_by_process}
-use Rattle.start_plan.specs.Owed.{total}
+use Rattle.start_plan.specs.Owed.{owed_by_plan, total}
 use Rattle.scm_rules.specs.Room.{debt, is_owed, need}
 use Rattle.scm_owed.proofs.Fewer.{few_in_order}
 use Rattle.scm_owed.proofs.Starts.{all_untried, controls_owe, listed, one_at_most, plan_owes}
@@ -32,7 +33,7 @@ use Rattle.scm_owed.proofs.Raising.{raises_owe}
 use Rattle.scm_runs.proofs.Bounded.{AreOnce}
 use Rattle.scm_runs.proofs.Failing.{failing_apart}
 use Rattle.scm_rules.specs.Failures.{failed_by}
-use Rattle.scm_rules.specs.Launches.{current_of}
+use Rattle.scm_rules.specs.Reports.{is_stopped_by, released_by, released_if, reporting}
 use Rattle.scm_rules.specs.Room.{is_started_at}
 use Rattle.std.proofs.lemmas.Nat.{mul-le}
 use Rattle.std.proofs.Math.Nat.{add-mul}
@@ -74,6 +75,27 @@ of_answered code told f done n least owes =
       | false ↦ λ e. omega (arith, least)
     ] refl
 
+-- a report that stops a service makes nothing owed
+released_owe : (report : Status) (service : Option Service) (rows : List Process)
+    → total owed_by_process (if_found (released_by report) service rows) ≡ total owed_by_process rows
+released_owe report service rows =
+    found_keeps (λ (left : List Process). total owed_by_process left ≡ total owed_by_process rows) (released_by report) service rows refl
+    (λ row is. elim (is_stopped_by report row) as (λ b. total owed_by_process (cond b (map (released_if row.process row.number) rows) rows) ≡
+    total owed_by_process rows) [
+      | true ↦ controls_owe (released_if row.process row.number) (controls_released row.process row.number) rows
+      | false ↦ refl
+    ])
+
+-- nor does what is sent next
+sent_owe : (asked : Option Service) (process : ℕ) (rows : List Process)
+    → total owed_by_process (dequeued_in asked process rows) ≡ total owed_by_process rows
+sent_owe None process rows = controls_owe (dequeued_if process) (controls_fewer process) rows
+sent_owe (Some row) process rows = refl
+
+-- what a state owes goes by its callers, processes and plans
+abbrev with_rows : Flat → ℕ → ℕ
+with_rows f n = length f.callers + n + total owed_by_plan f.plans
+
 of_call : (l : Limits) (f : Flat) (caller : ℕ) (asked : Request) (append : Kept) → owed (call_of l f caller asked append).flat + 1 ≤ owed f
     + need f (Call caller asked append)
 of_call l f caller (request.Start handle words) append =
@@ -90,7 +112,8 @@ of_call l f caller (request.Control handle control) append =
     (omega arith) (λ e. omega (arith, same))
 of_call l f caller (request.SetStatus handle status) append =
     let same : owed (done_of l f caller (request.SetStatus handle status)).flat ≡ owed f =
-    failing_apart (λ (g : Flat). owed g ≡ owed f) (failed_by status (held_service f caller handle)) _ refl in
+    failing_apart (λ (g : Flat). owed g ≡ owed f) (failed_by status (held_service f caller handle)) _
+    (ap (with_rows f) (released_owe status (held_service f caller handle) f.processes)) in
     of_answered (verdict l f caller (request.SetStatus handle status) append) _ f (done_of l f caller (request.SetStatus handle status)) 1
     (omega arith) (λ e. omega (arith, same))
 of_call l f caller (request.Notify handle mask) append =
@@ -155,9 +178,10 @@ effects_owe l f (Joined principal) e = let more = length-append f.callers (recor
 effects_owe l f (Call caller asked append) e = of_call l f caller asked append
 effects_owe l f (Report process service status) e =
     let same : owed (effect_of l f (Report process service status)).flat ≡ owed f =
-    failing_apart (λ (g : Flat). owed g ≡ owed f) (failed_by status (current_of f process)) _ refl in
+    failing_apart (λ (g : Flat). owed g ≡ owed f) (failed_by status (reporting f process service)) _
+    (ap (with_rows f) (released_owe status (reporting f process service) f.processes)) in
     omega (arith, same)
-effects_owe l f (ControlTaken process) e = let same = controls_owe (dequeued_if process) (controls_fewer process) f.processes in
+effects_owe l f (ControlTaken process) e = let same = sent_owe (first_asked f process) process f.processes in
     omega (arith, same)
 effects_owe l f Tick e = let more = ticks_owe l f in omega (arith, more)
 effects_owe l f (Raised caller subtype) e = let more = raises_owe l f caller subtype in omega (arith, more)

@@ -15,8 +15,8 @@ use Rattle.scm_model.specs.declared.steps.Step.{Step}
 use Rattle.scm_model.specs.declared.steps.Step.TheVariants.{EndStart, LaunchTaken, Launched, LaunchFailed, Report, Ended, ControlTaken}
 use Rattle.scm_model.specs.declared.steps.Step.TheVariants.{Gone, Joined, Call, Tick, Raised, NoMemory}
 use Rattle.scm_model.specs.Rows.{is_caller}
-use Rattle.start_plan.specs.Decided.{plan_caller, code_of, is_numbered, without_plan}
-use Rattle.scm_rules.specs.Launches.{current_of, first_wanted, is_launched, is_taken, launched_if, process_of, service_of_process, taken_if}
+use Rattle.start_plan.specs.Decided.{aims_among, plan_caller, code_of, is_numbered, without_plan}
+use Rattle.scm_rules.specs.Launches.{currents, currents_in, first_wanted, is_launched, is_taken, launched_if, process_of, taken_if}
 use Rattle.scm_rules.specs.Launches.{with_fallen, without_process}
 use Rattle.scm_rules.specs.Start.{can_end, is_caller_of}
 use Rattle.scm_rules.specs.Steps.{at_moment, effect_of, wants_launch, may}
@@ -30,8 +30,8 @@ use Rattle.scm_owed.proofs.Settling.{kept_owes}
 use Rattle.std.proofs.lemmas.Bool.{and_parts}
 use Rattle.scm_runs.proofs.Wanted.{taken_listed}
 use Rattle.scm_model.specs.Found.{if_found}
-use Rattle.scm_owed.proofs.Starts.{starts_owe}
-use Rattle.scm_runs.proofs.Failing.{failing_apart}
+use Rattle.scm_owed.proofs.Starts.{decision_owes}
+use Rattle.scm_runs.proofs.Failing.{all_failing_apart}
 use Rattle.scm_model.specs.declared.codes.TheConstants.{ERROR_PROCESS_ABORTED}
 use Rattle.scm_model.specs.Changes.{with_moment}
 
@@ -240,15 +240,15 @@ owed_steps_pay l f moment LaunchTaken s ok e =
     omega (arith, pays)
 owed_steps_pay l f moment (Launched process pid) s ok e =
     let pays = launched_pays process pid f.processes (and_parts _ _ ok).0 in
-    let decided = starts_owe (service_of_process f process) 0 f.plans in
+    let decided = decision_owes (aims_among (currents_in process f.services)) 0 f.plans in
     omega (arith, pays, decided)
 owed_steps_pay l f moment (LaunchFailed process code) s ok e =
     let pays = left_pays process f.processes (taken_listed (process_of f process) (and_parts _ _ (and_parts _ _ ok).0).0) in
-    let decided = starts_owe (service_of_process f process) code f.plans in
+    let decided = decision_owes (aims_among (currents_in process f.services)) code f.plans in
     omega (arith, pays, decided)
 owed_steps_pay l f moment (Ended process) s ok e =
     let pays = left_pays process f.processes (running_listed (process_of f process) (and_parts _ _ ok).0) in
-    let same = failing_apart (λ (g : Flat). owed (without_process g process) ≡ owed (without_process f process)) (current_of f process)
+    let same = all_failing_apart (λ (g : Flat). owed (without_process g process) ≡ owed (without_process f process)) (currents process f.services)
     (with_fallen (with_moment f moment) process ERROR_PROCESS_ABORTED) refl in
     omega (arith, pays, same)
 owed_steps_pay l f moment (Gone caller) s ok e =

@@ -6,7 +6,8 @@ use Rattle.std.proofs.lemmas.List.Folds.{list_any-append}
 use Rattle.scm_model.specs.declared.flat.Flat.{Flat}
 use Rattle.scm_model.specs.declared.flat.Limits.{Limits}
 use Rattle.scm_model.specs.declared.flat.Plan.{Plan}
-use Rattle.start_plan.specs.Entered.{wanted_process, with_entered}
+use Rattle.scm_model.specs.Rows.{service_of}
+use Rattle.start_plan.specs.Entered.{is_shared_by, wanted_process, with_entered}
 use Rattle.start_plan.specs.Moves.{move_of}
 use Rattle.start_plan.specs.Settle.{move_code, dropped, moved, settle_all, settle_entries, settle_plan, settled, stays, with_tried}
 use Rattle.start_plan.specs.Settle.{words_for}
@@ -65,7 +66,7 @@ entered_owes : (l : Limits) (f : Flat) (plan : Plan) (s : ℕ) (rest : List ℕ)
     → has plan.tried s ≡ false
     → both (with_entered f s (words_for plan s), with_tried plan s) ≤ both (f, plan)
 entered_owes l f plan s rest is open_ fresh =
-    let more = total_more owed_by_process f.processes (wanted_process f.next.process s) in
+    let more = total_more owed_by_process f.processes (wanted_process f.next.process s (is_shared_by (service_of f s))) in
     let one = one_fewer plan.tried rest s fresh in
     rw (is, open_, more) (omega (arith, one))
 

@@ -1,5 +1,5 @@
 -- What the parts of steps make owed: starts, controls and decisions.
-use Rattle.std.proofs.Common.{ℕ, ◌≡◌, ◌≤◌, ◌+◌, ◌*◌, ◌==◌, ◌||◌, ◌&&◌, Bool, true, false, cond, List, [], ◌∷◌, Option, Some, length, map}
+use Rattle.std.proofs.Common.{ℕ, ◌≡◌, ◌≤◌, ◌+◌, ◌*◌, ◌==◌, ◌||◌, ◌&&◌, Bool, true, false, cond, List, [], ◌∷◌, Some, length, map}
 use Rattle.std.proofs.Common.{find, eqb, ap, refl, sym, arith, eq-eqb, eqb-true, ◌∙◌}
 use Rattle.std.specs.Prelude.{All, is_some, is_none}
 use Rattle.std.specs.List.{list_any}
@@ -10,7 +10,7 @@ use Rattle.scm_model.specs.declared.flat.Plan.{Plan}
 use Rattle.scm_model.specs.declared.flat.Process.{Process}
 use Rattle.scm_model.specs.declared.flat.Service.{Service}
 use Rattle.scm_model.specs.Needs.{numbers_of}
-use Rattle.start_plan.specs.Decided.{decided_if, decided_in, aims_at}
+use Rattle.start_plan.specs.Decided.{decided_if, decided_in}
 use Rattle.scm_model.specs.Ready.{state_of}
 use Rattle.start_plan.specs.Settle.{stays}
 use Rattle.scm_rules.specs.Needs.{need_row, need_rows, start_order}
@@ -20,8 +20,6 @@ use Rattle.scm_rules.specs.Owed.{owed, owed_by_process}
 use Rattle.start_plan.specs.Owed.{owed_by_plan, owed_to, total, untried}
 use Rattle.scm_owed.proofs.Fewer.{few_in_order}
 use Rattle.scm_owed.proofs.Settling.{kept_owes, total_more}
-use Rattle.scm_model.proofs.Found.{found_keeps}
-use Rattle.scm_model.specs.Found.{if_found}
 use Rattle.scm_rules.specs.Ticks.{can_start, with_restart}
 use Rattle.scm_runs.proofs.Lists.{has_own, is_some-find}
 use Rattle.scm_text.specs.Numbers.{has}
@@ -110,10 +108,3 @@ decision_owes test code plans =
     let kept = kept_owes stays (map (decided_if test code) plans) in
     let all = all_decided test code plans in
     omega (arith, kept, all)
-
--- nor does one of the starts of a process's service
-pub starts_owe : (target : Option ℕ) (code : ℕ) (plans : List Plan) → total owed_by_plan
-    (if_found (λ service. decided_in (aims_at service) code) target plans) ≤ total owed_by_plan plans
-starts_owe target code plans =
-    found_keeps (λ (rows : List Plan). total owed_by_plan rows ≤ total owed_by_plan plans)
-    (λ service. decided_in (aims_at service) code) target plans (omega arith) (λ service is. decision_owes (aims_at service) code plans)

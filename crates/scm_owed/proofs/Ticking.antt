@@ -75,7 +75,7 @@ command_within l f bound g row same fits =
     elim (can_run l g row) as (λ b. IsWithin f bound (cond b (with_wanted_command row.config.command g) g)) [
       | true ↦ record {
         services = same;
-        owes = (let more = total_more owed_by_process g.processes (wanted_process g.next.process 0) in
+        owes = (let more = total_more owed_by_process g.processes (wanted_process g.next.process 0 false) in
             omega (arith, more, fits));
       }
       | false ↦ record { services = same; owes = omega (arith, fits) }

@@ -19,7 +19,8 @@ use Rattle.scm_model.specs.Purge.{leaves}
 use Rattle.scm_model.specs.Rows.{held_by, held_service}
 use Rattle.scm_rules.specs.Create.{create_refusals, create_verdict}
 use Rattle.scm_rules.specs.Failures.{failed_by}
-use Rattle.scm_rules.specs.Launches.{current_of}
+use Rattle.scm_rules.specs.Launches.{currents}
+use Rattle.scm_rules.specs.Reports.{reporting}
 use Rattle.scm_rules.specs.Opening.{IsOpening}
 use Rattle.scm_rules.specs.Runs.{run_state}
 use Rattle.scm_rules.specs.Steps.{at_moment, effect_of, may, step_of}
@@ -27,7 +28,7 @@ use Rattle.scm_rules.specs.Verdicts.{call_of, done_of, told_refused, verdict}
 use Rattle.scm_runs.specs.Leaving.{before_leaving, created, numbers}
 use Rattle.scm_runs.proofs.Along.{Keeps}
 use Rattle.scm_runs.proofs.Calls.{all_pass, by_verdict, keeps}
-use Rattle.scm_runs.proofs.Failing.{failing_apart}
+use Rattle.scm_runs.proofs.Failing.{all_failing_apart, failing_apart}
 use Rattle.scm_runs.proofs.Founds.{notify_apart, opened_keeps, started_keeps}
 use Rattle.scm_runs.proofs.Frames.{framed}
 use Rattle.scm_runs.proofs.Leaving.{gives as gives_leaving}
@@ -60,8 +61,8 @@ next_call l f caller asked append =
 next_effect : (l : Limits) (f : Flat) (moment : ℕ) (step : Step) → IsNext f (effect_of l (at_moment f moment step) step).flat
 next_effect l f moment (Call caller asked append) = next_call l (with_moment f moment) caller asked append
 next_effect l f moment (Report process service status) =
-    failing_apart (IsNext f) (failed_by status (current_of (with_moment f moment) process)) _ (omega arith)
-next_effect l f moment (Ended process) = failing_apart (IsNext f) (current_of (with_moment f moment) process) _ (omega arith)
+    failing_apart (IsNext f) (failed_by status (reporting (with_moment f moment) process service)) _ (omega arith)
+next_effect l f moment (Ended process) = all_failing_apart (IsNext f) (currents process f.services) _ (omega arith)
 next_effect l f moment Tick = ticked_apart (IsNext f) l (with_moment f moment) (omega arith)
 next_effect l f moment (Raised caller subtype) = raised_apart (IsNext f) l (with_moment f moment) caller subtype (omega arith)
 next_effect l f moment step = omega arith

@@ -1,5 +1,5 @@
 -- What each step is told.
-use Rattle.std.proofs.Common.{ℕ, ◌≡◌, ◌≢◌, ◌∙◌, Bool, List, cond, ap, ne_eqb, true, Option, None, Some, Result, Ok, Err, IsTrue, refl}
+use Rattle.std.proofs.Common.{ℕ, ◌≡◌, ◌≢◌, ◌∙◌, Bool, List, [], ◌∷◌, cond, ap, ne_eqb, true, Option, None, Some, Result, Ok, Err, IsTrue, refl}
 use Rattle.std.specs.Prelude.{is_some, unwrap_or}
 use Rattle.scm_model.specs.declared.calls.Reply.TheVariants as reply
 use Rattle.scm_model.specs.declared.calls.Request.{Request}
@@ -16,7 +16,7 @@ use Rattle.scm_model.specs.Changes.{with_moment}
 use Rattle.start_plan.specs.Decided.{code_of}
 use Rattle.start_plan.specs.Settle.{settled}
 use Rattle.status_machine.specs.Moves.{take_report}
-use Rattle.scm_rules.specs.Reports.{current_of, report_answer, report_told, reported}
+use Rattle.scm_rules.specs.Reports.{report_answer, report_told, reported, reporting}
 use Rattle.scm_rules.specs.Ends.{end_told, process_ended}
 use Rattle.scm_model.specs.Entries.{Entry}
 use Rattle.scm_rules.specs.Steps.{finished, may, step_of}
@@ -30,8 +30,8 @@ use Rattle.scm_rules.specs.Raise.{all_triggered, raise_verdict}
 use Rattle.scm_model.specs.Outcomes.{StepResult}
 use Rattle.scm_model.specs.Purge.{purged}
 use Rattle.std.proofs.lemmas.Bool.{and_parts}
-use Rattle.scm_rules.specs.Launches.{first_wanted, launch_taken, launch_told}
-use Rattle.scm_rules.specs.Controls.{control_sent, control_taken, controls_of, first_control}
+use Rattle.scm_rules.specs.Launches.{currents, first_wanted, launch_taken, launch_told}
+use Rattle.scm_rules.specs.Controls.{control_sent, control_taken, next_order}
 
 of_call : (l : Limits) (f : Flat) (moment caller : ℕ) (asked : Request) (append : Kept) → IsValid l f → is_caller f caller ≡ true
     → ComesTo l f moment caller asked append (step_of l f moment (Call caller asked append)).answer
@@ -58,9 +58,9 @@ report_untold : (g : Flat) (row : Option Service) (report : Status) → code_tol
 report_untold g None report = refl
 report_untold g (Some row) report = report_answered g (take_report row.status report)
 
-end_untold : (g : Flat) (row : Option Service) → code_told (finished g (end_told row)).answer ≡ None
-end_untold g None = refl
-end_untold g (Some row) = refl
+end_untold : (g : Flat) (falling : List Service) → code_told (finished g (end_told falling)).answer ≡ None
+end_untold g [] = refl
+end_untold g (row ∷ rows) = refl
 
 -- nor have a launch and a control that are taken in hand
 launch_untold : (g : Flat) (found : Option ℕ) → code_told (finished g (launch_told found)).answer ≡ None
@@ -86,14 +86,14 @@ told_rightly l f (moment, Call caller asked append) valid ok = of_call l f momen
 told_rightly l f (moment, EndStart caller plan) valid ok = decided f plan (code_of f.plans plan) refl
     (and_parts _ _ (and_parts _ _ (and_parts _ _ ok).0).1).1
 told_rightly l f (moment, Report process service status) valid ok = report_untold
-    (settled l (reported (with_moment f moment) process status).flat)
-    (current_of f process) status
+    (settled l (reported (with_moment f moment) process service status).flat)
+    (reporting f process service) status
 told_rightly l f (moment, Ended process) valid ok = end_untold (settled l (process_ended (with_moment f moment) process).flat)
-    (current_of f process)
+    (currents process f.services)
 told_rightly l f (moment, LaunchTaken) valid ok = launch_untold (settled l (launch_taken (with_moment f moment)).flat)
     (first_wanted f.wanted)
 told_rightly l f (moment, ControlTaken process) valid ok = control_untold (settled l (control_taken (with_moment f moment) process).flat)
-    (first_control (controls_of f process))
+    (next_order f process)
 told_rightly l f (moment, Raised caller subtype) valid ok = record { reply = refl; refused = raise_refused l f moment caller subtype valid }
 told_rightly l f (moment, step) valid ok = refl
 

@@ -16,7 +16,7 @@ use Rattle.scm_model.specs.declared.calls.Request.TheVariants as request
 use Rattle.scm_model.specs.declared.calls.TriggerIn.{TriggerIn}
 use Rattle.scm_model.specs.declared.steps.Kept.{Kept}
 use Rattle.scm_model.specs.declared.steps.Step.{Step}
-use Rattle.scm_model.specs.declared.steps.Step.TheVariants.{Call, Report, Ended, LaunchFailed, Tick, Raised}
+use Rattle.scm_model.specs.declared.steps.Step.TheVariants.{Call, ControlTaken, Report, Ended, LaunchFailed, Tick, Raised}
 use Rattle.scm_model.specs.Changes.{configured_if, marked_if, new_service, with_moment}
 use Rattle.scm_model.specs.Entries.{Entry}
 use Rattle.scm_model.specs.Purge.{leaves}
@@ -32,17 +32,18 @@ use Rattle.scm_rules.specs.Change2.{config_at, level_config, trigger_of, zero_su
 use Rattle.scm_rules.specs.Create.{created_config, new_status}
 use Rattle.scm_rules.specs.Failures.{failed_by}
 use Rattle.scm_rules.specs.Histories.{state}
-use Rattle.scm_rules.specs.Launches.{current_of, fallen_if, with_fallen}
-use Rattle.scm_rules.specs.Reports.{reported_if}
+use Rattle.scm_rules.specs.Controls.{first_asked, unasked_if}
+use Rattle.scm_rules.specs.Launches.{currents, fallen_if, with_fallen}
+use Rattle.scm_rules.specs.Reports.{reported_if, reporting}
 use Rattle.scm_rules.specs.Runs.{run_state}
 use Rattle.scm_rules.specs.Steps.{at_moment, effect_of, finished, step_of}
 use Rattle.scm_rules.specs.Verdicts.{call_of, done_of, told_refused, verdict}
 use Rattle.scm_runs.proofs.Calls.{by_verdict}
-use Rattle.scm_runs.proofs.Failing.{failing_rows}
+use Rattle.scm_runs.proofs.Failing.{all_failing_rows, failing_rows}
 use Rattle.scm_runs.proofs.Founds.{notify_apart, opened_keeps, started_keeps}
 use Rattle.scm_runs.proofs.Frames.{finished_keeps}
 use Rattle.scm_runs.proofs.Histories.{state_is}
-use Rattle.scm_runs.proofs.Rows.{IsMild, falls_mildly, reports_mildly, starts_mildly}
+use Rattle.scm_runs.proofs.Rows.{IsMild, falls_mildly, reports_mildly, starts_mildly, unasks_mildly}
 use Rattle.scm_runs.proofs.Unasked.{raised_apart, ticked_apart}
 use Rattle.scm_replies.specs.Sizes.{AsksWithUuids, GivesUuids, HasUuids, HaveUuids, IsWithUuid, IsWithUuids}
 use Rattle.scm_replies.proofs.Listings.{held_some}
@@ -117,8 +118,8 @@ done_have l f caller (request.Delete handle) given all =
     (λ row is. mild_have (marked_if row.number) f.services (marks_mildly row.number) all)
 done_have l f caller (request.SetStatus handle status) given all =
     failing_rows HasUuids (λ row failures last has. has) (failed_by status (held_service f caller handle)) _
-    (found_keeps (All HasUuids) (λ row. map (reported_if row.process status)) (held_service f caller handle) f.services all
-    (λ row is. mild_have (reported_if row.process status) f.services (reports_mildly row.process status) all))
+    (found_keeps (All HasUuids) (λ row. map (reported_if row.number status)) (held_service f caller handle) f.services all
+    (λ row is. mild_have (reported_if row.number status) f.services (reports_mildly row.number status) all))
 done_have l f caller (request.OpenService handle name access) given all = opened_keeps AllHave f caller name access all (λ row is. all)
 done_have l f caller (request.Start handle words) given all = started_keeps AllHave f caller handle words all (λ row is. all)
 done_have l f caller (request.Notify handle mask) given all = notify_apart AllHave f caller handle mask (λ rows next. all)
@@ -138,12 +139,16 @@ effect_have : (l : Limits) (f : Flat) (moment : ℕ) (step : Step) → IsWithUui
 effect_have l f moment (Call caller asked append) given all = call_have l (with_moment f moment) caller asked append given all
 effect_have l f moment (LaunchFailed process code) given all = mild_have (fallen_if process code) f.services (falls_mildly process code) all
 effect_have l f moment (Report process service status) given all =
-    failing_rows HasUuids (λ row failures last has. has) (failed_by status (current_of (with_moment f moment) process)) _
-    (mild_have (reported_if process status) f.services (reports_mildly process status) all)
+    failing_rows HasUuids (λ row failures last has. has) (failed_by status (reporting (with_moment f moment) process service)) _
+    (found_keeps (All HasUuids) (λ row. map (reported_if row.number status)) (reporting f process service) f.services all
+    (λ row is. mild_have (reported_if row.number status) f.services (reports_mildly row.number status) all))
 effect_have l f moment (Ended process) given all =
     let g = with_moment f moment in
-    failing_rows HasUuids (λ row failures last has. has) (current_of g process) (with_fallen g process ERROR_PROCESS_ABORTED)
+    all_failing_rows HasUuids (λ row failures last has. has) (currents process f.services) (with_fallen g process ERROR_PROCESS_ABORTED)
     (mild_have (fallen_if process ERROR_PROCESS_ABORTED) f.services (falls_mildly process ERROR_PROCESS_ABORTED) all)
+effect_have l f moment (ControlTaken process) given all =
+    found_keeps (All HasUuids) (λ row. map (unasked_if row.number)) (first_asked f process) f.services all
+    (λ row is. mild_have (unasked_if row.number) f.services (unasks_mildly row.number) all)
 effect_have l f moment Tick given all = ticked_apart AllHave l (with_moment f moment) all
 effect_have l f moment (Raised caller subtype) given all = raised_apart AllHave l (with_moment f moment) caller subtype all
 effect_have l f moment step given all = all

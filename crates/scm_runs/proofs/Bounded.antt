@@ -25,7 +25,8 @@ use Rattle.start_plan.proofs.Keeps.{Keeps as Lasts, keeps_all}
 use Rattle.start_triggers.specs.Order.{auto_rows, automatic_rows, in_order, is_automatic, insert, starts_before}
 use Rattle.scm_rules.specs.Due.{is_due_of, of_others, with_due}
 use Rattle.scm_rules.specs.Failures.{failed_by}
-use Rattle.scm_rules.specs.Launches.{current_of, first_wanted, wanted_of_others, with_fallen, without_process}
+use Rattle.scm_rules.specs.Reports.{reporting}
+use Rattle.scm_rules.specs.Launches.{currents, first_wanted, wanted_of_others, with_fallen, without_process}
 use Rattle.scm_rules.specs.Opening.{CanOpen, automatic_at, opening, services_from, starts_from}
 use Rattle.scm_rules.specs.Start.{with_start}
 use Rattle.scm_rules.specs.Steps.{at_moment, effect_of, step_of}
@@ -34,7 +35,7 @@ use Rattle.scm_rules.specs.Valid.{HasShortWord, dues_of}
 use Rattle.scm_rules.specs.Verdicts.{call_of, done_of, told_refused, verdict}
 use Rattle.scm_model.proofs.Found.{found_keeps}
 use Rattle.scm_runs.proofs.Calls.{by_verdict}
-use Rattle.scm_runs.proofs.Failing.{failing_keeps}
+use Rattle.scm_runs.proofs.Failing.{any_failing_keeps, failing_keeps}
 use Rattle.scm_runs.proofs.Founds.{opened_keeps, started_keeps, notify_apart}
 use Rattle.scm_runs.proofs.Frames.{finished_keeps}
 use Rattle.scm_runs.proofs.Lists.{filter_fewer, none_pass}
@@ -263,15 +264,15 @@ bounded_effect l f moment LaunchTaken s b = record {
 bounded_effect l f moment (Launched process pid) s b = record { commands = fewer_wanted process f.wanted b.commands; once = b.once }
 bounded_effect l f moment (LaunchFailed process code) s b = record { commands = fewer_wanted process f.wanted b.commands; once = b.once }
 bounded_effect l f moment (Report process service status) s b =
-    failing_keeps IsBounded (failed_by status (current_of (with_moment f moment) process)) _
+    failing_keeps IsBounded (failed_by status (reporting (with_moment f moment) process service)) _
     (record { commands = b.commands; once = b.once })
     (λ row is. record { commands = b.commands; once = b.once }) (λ service g at kind is c. due_once g at service kind is c)
 bounded_effect l f moment (Ended process) s b =
     let left : IsBounded (without_process (with_fallen (with_moment f moment) process 1067) process) =
     record { commands = fewer_wanted process f.wanted b.commands; once = b.once } in
-    failing_keeps (λ (g : Flat). IsBounded (without_process g process)) (current_of (with_moment f moment) process)
+    any_failing_keeps (λ (g : Flat). IsBounded (without_process g process)) (currents process f.services)
     (with_fallen (with_moment f moment) process 1067) left
-    (λ row is. record { commands = left.commands; once = left.once }) (λ service g at kind is c. due_once
+    (λ row g c. record { commands = c.commands; once = c.once }) (λ service g at kind is c. due_once
     (without_process g process) at service kind is c)
 bounded_effect l f moment Tick s b = (ticked_by Stands l (record {
   spends = λ g row is t. record {

@@ -34,7 +34,7 @@ use Rattle.scm_rules.specs.Failures.{failed_by}
 use Rattle.scm_rules.specs.Launches.{is_launched, process_of}
 use Rattle.scm_rules.specs.Locks.{lock_refusals}
 use Rattle.scm_rules.specs.Needs.{are_unreadable, makes_cycle, start_order}
-use Rattle.scm_rules.specs.Reports.{may_report, set_status_refusals, set_status_verdict, reported_in, notified_of_report}
+use Rattle.scm_rules.specs.Reports.{may_report, released_by, set_status_refusals, set_status_verdict, reported_in, notified_of_report}
 use Rattle.scm_rules.specs.Start.{start_done, start_refusals, start_verdict, is_aimed_at}
 use Rattle.start_plan.specs.Decided.{code_of}
 use Rattle.scm_model.specs.Ready.{state_in}
@@ -56,8 +56,9 @@ use Rattle.scm_runs.proofs.Ordered.{order_below}
 use Rattle.scm_runs.proofs.Settling.{settles}
 use Rattle.scm_runs.proofs.Sound.{Sound, moved, joined, left, handed, taken, given_back, closed, added, marked, cleared, planned, over, due}
 use Rattle.scm_runs.proofs.Sound.{in_hand, running, not_running, reported, no_more, control_waits, control_sent, are_named, retold}
-use Rattle.scm_runs.proofs.Sound.{watching, reported_by, told, failing, triggers}
+use Rattle.scm_runs.proofs.Sound.{watching, reported_by, told, failing, found_alone, triggers}
 use Rattle.std.proofs.lemmas.Bool.{or_parts, or_right, not-false, and_parts}
+use Rattle.scm_model.specs.Found.{if_found}
 use Rattle.scm_model.proofs.Found.{found_keeps}
 use Rattle.scm_runs.proofs.Founds.{opened_keeps, started_keeps, IsHeld, stopped_there, found_all, notify_keeps}
 use Rattle.scm_rules.specs.Controls.{controlled_if, order_to}
@@ -280,9 +281,12 @@ of_done l f caller (request.SetStatus handle status) append s there e =
     failing (failed_by status (held_service f caller handle)) _
     (found_all (λ found. Sound (record f {
       services = reported_in status found f.services;
+      processes = if_found (released_by status) found f.processes;
       registrations = notified_of_report f.processes status found f.registrations;
     })) (held_service f caller handle) s
-    (λ row is. reported_by f status row (held_named f caller handle row s is) (set_status_runs f caller handle status row is e) s))
+    (λ row is. reported_by f status row (held_named f caller handle row s is)
+    (found_alone f (λ (r : Service). r.number == row.number) row s (held_is f caller handle row is))
+    (set_status_runs f caller handle status row is e) s))
 of_done l f caller (request.Unlock handle) append s there e = given_back f handle s
 of_done l f caller (request.Change change) append s there e = change_done_sound f caller change append s e
 of_done l f caller (request.Change2 handle asked) append s there e = change2_done_sound f caller handle asked append s e
@@ -338,7 +342,7 @@ of_effect l f moment LaunchTaken s ok = in_hand (with_moment f moment) (and_part
 of_effect l f moment (Launched process pid) s ok = running (with_moment f moment) process pid (moved f moment s)
 of_effect l f moment (LaunchFailed process code) s ok = not_running (with_moment f moment) process code (moved f moment s)
 of_effect l f moment (Report process service status) s ok =
-    reported (with_moment f moment) process status (and_parts _ _ (and_parts _ _ ok).0).1 (moved f moment s)
+    reported (with_moment f moment) process service status (and_parts _ _ ok).0 (moved f moment s)
 of_effect l f moment (Ended process) s ok = no_more (with_moment f moment) process (moved f moment s)
 of_effect l f moment (ControlTaken process) s ok = control_sent (with_moment f moment) process (moved f moment s)
 of_effect l f moment Tick s ok = due l (with_moment f moment) (moved f moment s)

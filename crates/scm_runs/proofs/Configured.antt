@@ -13,11 +13,11 @@ use Rattle.scm_model.specs.Rows.{is_shown_by_another}
 use Rattle.scm_model.specs.Changes.{configured_if, reconfigured}
 use Rattle.service_record.specs.Checks.{check_new}
 use Rattle.scm_rules.specs.Change.{display_or}
-use Rattle.scm_rules.specs.Valid.{HasListed, is_started_by}
+use Rattle.scm_rules.specs.Valid.{HasListed, IsAskedRight}
 use Rattle.scm_runs.proofs.Lists.{found_only, found_passes, none_any, pairs_map}
 use Rattle.scm_rules.proofs.Needed.{HasNoCycle, replaced}
 use Rattle.scm_runs.proofs.Numbers.{numbered_map}
-use Rattle.scm_runs.proofs.Processes.{beside, starts_kept}
+use Rattle.scm_runs.proofs.Processes.{StartsStill, beside, starts_kept, still_same}
 use Rattle.scm_runs.proofs.Rows.{AreServices, HasKind, IsChecked, IsStoppedWithout}
 use Rattle.scm_runs.proofs.Sound.{Sound}
 
@@ -160,10 +160,18 @@ listed_kept : (number : ℕ) (config : Config) (processes : List Process) (row :
 listed_kept number config processes row old = elim (row.number == number) as (λ b. HasListed processes (cond b (replaced config row) row))
     [ true ↦ old | false ↦ old ]
 
-start_still : (number : ℕ) (config : Config) (process : Process) (row : Service) → is_started_by process row ≡ true
-    → is_started_by process (configured_if number config row) ≡ true
-start_still number config process row is = elim (row.number == number) as (λ b. is_started_by process
-    (cond b (replaced config row) row) ≡ true) [ true ↦ is | false ↦ is ]
+start_still : (number : ℕ) (config : Config) (process : Process) (row : Service)
+    → StartsStill process (configured_if number config) row
+start_still number config process row = still_same process (configured_if number config) row
+    (elim (row.number == number) as (λ b. (cond b (replaced config row) row).number ≡ row.number) [ true ↦ refl | false ↦ refl ])
+    (elim (row.number == number) as (λ b. (cond b (replaced config row) row).process ≡ row.process) [ true ↦ refl | false ↦ refl ])
+    (elim (row.number == number) as (λ b. (cond b (replaced config row) row).status.state ≡ row.status.state)
+    [ true ↦ refl | false ↦ refl ])
+
+asked_kept : (number : ℕ) (config : Config) (processes : List Process) (row : Service) → IsAskedRight processes row
+    → IsAskedRight processes (configured_if number config row)
+asked_kept number config processes row old = elim (row.number == number) as (λ b. IsAskedRight processes (cond b (replaced config row) row))
+    [ true ↦ old | false ↦ old ]
 
 process_kept : (number : ℕ) (config : Config) (next : ℕ) (row : Service) → row.process < next
     → (configured_if number config row).process < next
@@ -203,7 +211,9 @@ configured f number row config asked s found name_same display_same free checked
   processes = beside f.next.process f.processes f.wanted f.services _ s.processes
       (All-map (HasListed f.processes) (configured_if number config) f.services
       (λ k d lt. listed_kept number config f.processes _ (s.processes.listed k d lt)))
-      (starts_kept f.processes (configured_if number config) f.services (start_still number config) s.processes.starting);
+      (starts_kept f.processes (configured_if number config) f.services (start_still number config) s.processes.starting)
+      (All-map (IsAskedRight f.processes) (configured_if number config) f.services
+      (λ k d lt. asked_kept number config f.processes _ (s.processes.asked k d lt)));
   plans = s.plans;
   dues = s.dues;
   deadlines = s.deadlines;

@@ -13,7 +13,8 @@ use Rattle.scm_model.specs.Rows.{held_service, is_caller}
 use Rattle.scm_model.specs.Changes.{with_moment}
 use Rattle.start_plan.specs.Settle.{settled}
 use Rattle.scm_rules.specs.Failures.{failed_by}
-use Rattle.scm_rules.specs.Launches.{current_of}
+use Rattle.scm_rules.specs.Launches.{currents}
+use Rattle.scm_rules.specs.Reports.{reporting}
 use Rattle.scm_rules.specs.Raise.{raised}
 use Rattle.scm_rules.specs.Steps.{at_moment, effect_of, may}
 use Rattle.scm_rules.specs.Ticks.{ticked}
@@ -24,7 +25,7 @@ use Rattle.scm_runs.proofs.Settling.{AreSettled, IsSettled, all_grown}
 use Rattle.scm_runs.proofs.Sound.{Sound, moved}
 use Rattle.std.proofs.lemmas.Bool.{and_parts}
 use Rattle.scm_runs.proofs.Founds.{opened_keeps, started_keeps, notify_apart}
-use Rattle.scm_runs.proofs.Failing.{failing_apart}
+use Rattle.scm_runs.proofs.Failing.{all_failing_apart, failing_apart}
 use Rattle.scm_runs.proofs.Unasked.{raised_apart, raised_by, ticked_apart, ticked_by}
 
 -- ## Numbers of processes
@@ -52,10 +53,10 @@ pub process_up : (l : Limits) (f : Flat) (moment : ℕ) (step : Step) → f.next
     (effect_of l (at_moment f moment step) step).flat.next.process
 process_up l f moment (Call caller asked append) = (let e = process_call l (with_moment f moment) caller asked append in omega (arith, e))
 process_up l f moment (Report process service status) =
-    failing_apart (λ (g : Flat). f.next.process ≤ g.next.process) (failed_by status (current_of (with_moment f moment) process)) _
+    failing_apart (λ (g : Flat). f.next.process ≤ g.next.process) (failed_by status (reporting (with_moment f moment) process service)) _
     (omega arith)
-process_up l f moment (Ended process) = failing_apart (λ (g : Flat). f.next.process ≤ g.next.process)
-    (current_of (with_moment f moment) process) _ (omega arith)
+process_up l f moment (Ended process) = all_failing_apart (λ (g : Flat). f.next.process ≤ g.next.process)
+    (currents process f.services) _ (omega arith)
 process_up l f moment Tick = ticked_by (λ (g : Flat). f.next.process ≤ g.next.process) l (record {
   spends = λ g row is up. up;
   starts = λ g row there can up. up;
@@ -78,10 +79,10 @@ processes_low l f moment (Call caller asked append) s ok = low_rows f _ (of_effe
     (process_call l (with_moment f moment) caller asked append)
 processes_low l f moment (Report process service status) s ok =
     low_rows f _ (of_effect l f moment (Report process service status) s ok)
-    (failing_apart (λ (g : Flat). g.next.process ≡ f.next.process) (failed_by status (current_of (with_moment f moment) process)) _ refl)
+    (failing_apart (λ (g : Flat). g.next.process ≡ f.next.process) (failed_by status (reporting (with_moment f moment) process service)) _ refl)
 processes_low l f moment (Ended process) s ok =
-    low_rows f _ (of_effect l f moment (Ended process) s ok) (failing_apart (λ (g : Flat). g.next.process ≡ f.next.process)
-    (current_of (with_moment f moment) process) _ refl)
+    low_rows f _ (of_effect l f moment (Ended process) s ok) (all_failing_apart (λ (g : Flat). g.next.process ≡ f.next.process)
+    (currents process f.services) _ refl)
 processes_low l f moment Tick s ok = ticked_apart (λ (g : Flat). All (λ (row : Service). row.process < f.next.process) g.services) l
     (with_moment f moment) s.services.current
 processes_low l f moment (Raised caller subtype) s ok =
@@ -123,10 +124,10 @@ old_plans l f moment (Call caller asked append) s ok = old_call l (with_moment f
     (and_parts _ _ (and_parts _ _ ok).0).0
 old_plans l f moment (Report process service status) s ok =
     let t = moved f moment s in
-    failing_apart (AreOld f.next.service) (failed_by status (current_of (with_moment f moment) process)) _ t.plans
+    failing_apart (AreOld f.next.service) (failed_by status (reporting (with_moment f moment) process service)) _ t.plans
 old_plans l f moment (Ended process) s ok =
     let t = moved f moment s in
-    failing_apart (AreOld f.next.service) (current_of (with_moment f moment) process) _ t.plans
+    all_failing_apart (AreOld f.next.service) (currents process f.services) _ t.plans
 old_plans l f moment Tick s ok =
     let g = ticked l (with_moment f moment) in
     subst (λ n. ArePlans g.next.plan n g.callers g.plans) (ticked_apart (λ (h : Flat). h.next.service ≡ f.next.service) l

@@ -1,8 +1,8 @@
 -- What a failure of a service keeps: it is counted, and a row may become due for the service.
-use Rattle.std.proofs.Common.{ℕ, ◌≡◌, ◌<◌, ◌+◌, ◌==◌, Bool, true, false, cond, List, Option, None, Some, eq-eqb, get_or, map, ap, sym, refl}
+use Rattle.std.proofs.Common.{ℕ, ◌≡◌, ◌<◌, ◌+◌, ◌==◌, Bool, true, false, cond, List, [], ◌∷◌, Option, None, Some, eq-eqb, get_or, map, ap, sym, refl}
 use Rattle.std.proofs.Common.{subst, arith}
 use Rattle.std.specs.Prelude.{All}
-use Rattle.std.proofs.lemmas.List.Elements.{All-map}
+use Rattle.std.proofs.lemmas.List.Elements.{All-head, All-map, All-tail}
 use Rattle.scm_model.specs.declared.flat.Action.{Action}
 use Rattle.scm_model.specs.declared.flat.DueKind.{DueKind}
 use Rattle.scm_model.specs.declared.flat.DueKind.TheVariants as dues
@@ -15,9 +15,9 @@ use Rattle.scm_model.specs.Found.{if_found}
 use Rattle.scm_model.proofs.Found.{found_keeps}
 use Rattle.failure_actions.specs.Failing.{due_action, on_failure}
 use Rattle.scm_rules.specs.Due.{is_due_of, with_due}
-use Rattle.scm_rules.specs.Failures.{counted_if, failed_by, is_failure, moment_after, with_action, with_due_after, with_failure}
-use Rattle.scm_rules.specs.Valid.{HasListed, is_started_by}
-use Rattle.scm_runs.proofs.Processes.{AreProcesses, beside, starts_kept}
+use Rattle.scm_rules.specs.Failures.{all_failed, counted_if, failed_by, is_failure, moment_after, with_action, with_due_after, with_failure}
+use Rattle.scm_rules.specs.Valid.{HasListed, IsAskedRight}
+use Rattle.scm_runs.proofs.Processes.{AreProcesses, beside, starts_kept, still_same}
 use Rattle.scm_runs.proofs.Rows.{AreServices, IsMild, IsStoppedWithout, mildly}
 
 -- ## What becomes due
@@ -59,6 +59,21 @@ pub failing_keeps : (P : Flat → Type 0) (found : Option Service) (f : Flat) �
 failing_keeps P found f was counted more = found_keeps P with_failure found f was
     (λ row is. failure_keeps P row f (counted row is) (more row.number))
 
+-- what holds as it was, once a failure of each of some services is counted, and after a row more
+pub all_failing_keeps : (P : Flat → Type 0) (Q : Service → Type 0) (rows : List Service) (f : Flat) → All Q rows → P f
+    → ((row : Service) (g : Flat) → Q row → P g → P (with_count row g)) → ((service : ℕ) → KeepsDues P service)
+    → P (all_failed rows f)
+all_failing_keeps P Q [] f each was counted more = was
+all_failing_keeps P Q (row ∷ rows) f each was counted more =
+    all_failing_keeps P Q rows (with_failure row f) (All-tail Q row rows each)
+    (failure_keeps P row f (counted row f (All-head Q row rows each) was) (more row.number)) counted more
+
+-- whichever services fail
+pub any_failing_keeps : (P : Flat → Type 0) (rows : List Service) (f : Flat) → P f
+    → ((row : Service) (g : Flat) → P g → P (with_count row g)) → ((service : ℕ) → KeepsDues P service) → P (all_failed rows f)
+any_failing_keeps P rows f was counted more =
+    all_failing_keeps P (λ row. Unit {0}) rows f (λ k d lt. tt) was (λ row g any. counted row g) more
+
 -- ## What it doesn't change
 
 -- a state with services and due rows of another
@@ -77,6 +92,18 @@ failing_as found f =
 pub failing_apart : (P : Flat → Type 0) (found : Option Service) (f : Flat) → P (failed_as f (if_found with_failure found f))
     → P (if_found with_failure found f)
 failing_apart P found f p = subst P (sym (failing_as found f)) p
+
+pub all_failing_as : (rows : List Service) (f : Flat) → all_failed rows f ≡ failed_as f (all_failed rows f)
+all_failing_as rows f =
+    any_failing_keeps (λ (g : Flat). g ≡ failed_as f g) rows f refl
+    (λ row g e. ap (λ (h : Flat). record h { services = map (counted_if row.number g.moment) g.services }) e)
+    (λ service g moment kind is e. ap (λ (h : Flat). record h {
+      dues = (with_due g moment kind).dues;
+      next = record h.next { due = g.next.due + 1 };
+    }) e)
+
+pub all_failing_apart : (P : Flat → Type 0) (rows : List Service) (f : Flat) → P (failed_as f (all_failed rows f)) → P (all_failed rows f)
+all_failing_apart P rows f p = subst P (sym (all_failing_as rows f)) p
 
 -- ## Services
 
@@ -115,6 +142,12 @@ failing_rows P aside found f all =
     failing_keeps (λ (g : Flat). All P g.services) found f all (λ row is. all_counted P aside row.number f.moment f.services all)
     (λ service g moment kind is each. each)
 
+pub all_failing_rows : (P : Service → Type 0) → IsAsideCounts P → (rows : List Service) (f : Flat) → All P f.services
+    → All P (all_failed rows f).services
+all_failing_rows P aside rows f all =
+    any_failing_keeps (λ (g : Flat). All P g.services) rows f all
+    (λ row g each. all_counted P aside row.number g.moment g.services each) (λ service g moment kind is each. each)
+
 counts_mildly : (number moment : ℕ) → IsMild (counted_if number moment)
 counts_mildly number moment = record {
   number = λ row. counted_or (λ new. new.number ≡ row.number) number moment row (λ failures last. refl);
@@ -135,8 +168,11 @@ pub processes_counted : (next number moment : ℕ) (processes : List Process) (w
 processes_counted next number moment processes wanted services s =
     beside next processes wanted services (map (counted_if number moment) services) s
     (all_counted (HasListed processes) (λ row failures last is. is) number moment services s.listed)
-    (starts_kept processes (counted_if number moment) services (λ process row is. counted_or
-    (λ new. is_started_by process new ≡ true) number moment row (λ failures last. is)) s.starting)
+    (starts_kept processes (counted_if number moment) services (λ process row. still_same process (counted_if number moment) row
+    (counted_or (λ new. new.number ≡ row.number) number moment row (λ failures last. refl))
+    (counted_or (λ new. new.process ≡ row.process) number moment row (λ failures last. refl))
+    (counted_or (λ new. new.status.state ≡ row.status.state) number moment row (λ failures last. refl))) s.starting)
+    (all_counted (IsAskedRight processes) (λ row failures last is. is) number moment services s.asked)
 
 -- ## Reports
 

@@ -17,11 +17,12 @@ use Rattle.scm_model.specs.declared.steps.Kept.{Kept}
 use Rattle.scm_model.specs.declared.steps.Step.{Step}
 use Rattle.scm_model.specs.declared.steps.Step.TheVariants.{Call, EndStart, Launched, LaunchFailed, Report, Ended, Tick, Raised, Gone}
 use Rattle.scm_model.specs.Changes.{with_moment}
-use Rattle.start_plan.specs.Decided.{aims_at, code_of, decided_if, decided_in, is_callers, is_numbered}
+use Rattle.start_plan.specs.Decided.{aims_among, code_of, decided_if, decided_in, is_callers, is_numbered}
 use Rattle.start_plan.specs.Planned.{IsRising, plan_numbers}
 use Rattle.start_plan.specs.Settle.{settle_all, settled, stays, with_tried, dropped}
 use Rattle.start_plan.proofs.Keeps.{Keeps, all_filter, keeps_all}
-use Rattle.scm_rules.specs.Launches.{current_of, service_of_process}
+use Rattle.scm_rules.specs.Launches.{currents, currents_in}
+use Rattle.scm_rules.specs.Reports.{reporting}
 use Rattle.scm_rules.specs.Steps.{at_moment, effect_of, finished, left_by, step_of}
 use Rattle.scm_rules.specs.Verdicts.{call_of, done_of, told_refused, verdict}
 use Rattle.scm_runs.specs.Plans.{GoesOn, LawOfPlans, WentOn}
@@ -29,14 +30,12 @@ use Rattle.scm_runs.proofs.Along.{Gives}
 use Rattle.scm_runs.proofs.Calls.{by_verdict, keeps}
 use Rattle.scm_runs.proofs.Plans.{IsPlan, all_more, all_weaker, tried_once}
 use Rattle.scm_runs.proofs.Sound.{Sound, moved}
-use Rattle.scm_model.proofs.Found.{found_keeps}
-use Rattle.scm_model.specs.Found.{if_found}
 use Rattle.scm_runs.proofs.Founds.{started_keeps, opened_keeps, notify_apart}
 use Rattle.scm_rules.specs.Failures.{failed_by}
 use Rattle.scm_rules.specs.Start.{with_start}
 use Rattle.scm_model.specs.Rows.{held_service}
 use Rattle.scm_model.specs.declared.flat.Service.{Service}
-use Rattle.scm_runs.proofs.Failing.{failing_apart}
+use Rattle.scm_runs.proofs.Failing.{all_failing_apart, failing_apart}
 use Rattle.scm_runs.proofs.Unasked.{expired, raised_by, ticked_by}
 
 -- the plan with the same number before, if there was one, goes on in this one
@@ -97,12 +96,6 @@ decided : (befores : List Plan) (test : Plan → Bool) (code : ℕ) (plans : Lis
 decided befores test code plans all = all_filter (Went befores) stays (map (decided_if test code) plans)
     (all_coded befores test code plans all)
 
-starts_decided : (befores : List Plan) (target : Option ℕ) (code : ℕ) (plans : List Plan) → AllWent befores plans
-    → AllWent befores (if_found (λ service. decided_in (aims_at service) code) target plans)
-starts_decided befores target code plans all =
-    found_keeps (AllWent befores) (λ service. decided_in (aims_at service) code) target plans all
-    (λ service is. decided befores (aims_at service) code plans all)
-
 has_expired : (befores plans : List Plan) (kind : DueKind) → AllWent befores plans → AllWent befores (expired plans kind)
 has_expired befores plans (dues.Deadline plan) all = decided befores (is_numbered plan) 1053 plans all
 has_expired befores plans kind all = all
@@ -156,15 +149,15 @@ pub of_effect : (l : Limits) (f : Flat) (moment : ℕ) (step : Step) → Sound f
 of_effect l f moment (Call caller asked append) s = of_call l f moment caller asked append (moved f moment s)
 of_effect l f moment (EndStart caller plan) s = all_filter (Went f.plans) (λ (row : Plan). not (is_numbered plan row)) f.plans
     (all_same f.plans s.plans.rising)
-of_effect l f moment (Launched process pid) s = starts_decided f.plans (service_of_process f process) 0 f.plans
+of_effect l f moment (Launched process pid) s = decided f.plans (aims_among (currents_in process f.services)) 0 f.plans
     (all_same f.plans s.plans.rising)
-of_effect l f moment (LaunchFailed process code) s = starts_decided f.plans (service_of_process f process) code f.plans
+of_effect l f moment (LaunchFailed process code) s = decided f.plans (aims_among (currents_in process f.services)) code f.plans
     (all_same f.plans s.plans.rising)
 of_effect l f moment (Report process service status) s =
-    failing_apart (λ (g : Flat). AllWent f.plans g.plans) (failed_by status (current_of (with_moment f moment) process)) _
+    failing_apart (λ (g : Flat). AllWent f.plans g.plans) (failed_by status (reporting (with_moment f moment) process service)) _
     (all_same f.plans s.plans.rising)
 of_effect l f moment (Ended process) s =
-    failing_apart (λ (g : Flat). AllWent f.plans g.plans) (current_of (with_moment f moment) process) _ (all_same f.plans s.plans.rising)
+    all_failing_apart (λ (g : Flat). AllWent f.plans g.plans) (currents process f.services) _ (all_same f.plans s.plans.rising)
 of_effect l f moment Tick s = (ticked_by (GoesFrom f) l (record {
   spends = λ g row is goes. record { plans = has_expired f.plans g.plans row.kind goes.plans; up = goes.up };
   starts = λ g row there can goes. started_goes f g row goes;

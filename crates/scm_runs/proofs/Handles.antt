@@ -32,8 +32,9 @@ use Rattle.scm_runs.proofs.Sound.{Sound}
 use Rattle.std.proofs.lemmas.Bool.{and_parts}
 use Rattle.scm_runs.proofs.Founds.{opened_keeps, started_keeps, notify_apart}
 use Rattle.scm_rules.specs.Failures.{failed_by}
-use Rattle.scm_rules.specs.Launches.{current_of, without_process}
-use Rattle.scm_runs.proofs.Failing.{failing_apart}
+use Rattle.scm_rules.specs.Launches.{currents, without_process}
+use Rattle.scm_rules.specs.Reports.{reporting}
+use Rattle.scm_runs.proofs.Failing.{all_failing_apart, failing_apart}
 use Rattle.scm_runs.proofs.Unasked.{raised_apart, ticked_apart}
 use Rattle.scm_runs.proofs.Told.{Tells, notified_or}
 use Rattle.scm_runs.proofs.Telling.{step_tells}
@@ -107,10 +108,10 @@ of_effect l f moment (Call caller asked append) =
     record { rows = once.rows; rising = once.rising }
 of_effect l f moment (Gone caller) = record { rows = All-filter _ (StoodOrIsNew f) f.handles (all_stood f); rising = omega arith }
 of_effect l f moment (Report process service status) =
-    failing_apart (Once f) (failed_by status (current_of (with_moment f moment) process)) _
+    failing_apart (Once f) (failed_by status (reporting (with_moment f moment) process service)) _
     (record { rows = all_stood f; rising = omega arith })
 of_effect l f moment (Ended process) =
-    failing_apart (λ (g : Flat). Once f (without_process g process)) (current_of (with_moment f moment) process) _
+    all_failing_apart (λ (g : Flat). Once f (without_process g process)) (currents process f.services) _
     (record { rows = all_stood f; rising = omega arith })
 of_effect l f moment Tick = ticked_apart (Once f) l (with_moment f moment) (record { rows = all_stood f; rising = omega arith })
 of_effect l f moment (Raised caller subtype) = raised_apart (Once f) l (with_moment f moment) caller subtype

@@ -1,15 +1,14 @@
 -- The law of leaving.
-use Rattle.std.proofs.Common.{ℕ, zero, suc, ◌≡◌, ◌<◌, ◌≤◌, ◌∙◌, ◌==◌, ◌||◌, ◌&&◌, Bool, true, false, cond, IsTrue, List, [], ◌∷◌, ◌++◌}
-use Rattle.std.proofs.Common.{Option, None, Some, find, length, map, take, drop, ap, sym, refl, subst, arith, eq-eqb, eqb-true, get_or}
+use Rattle.std.proofs.Common.{ℕ, zero, suc, ◌≡◌, ◌<◌, ◌≤◌, ◌∙◌, ◌==◌, ◌||◌, ◌&&◌, Bool, true, false, not, cond, IsTrue, List, [], ◌∷◌, ◌++◌}
+use Rattle.std.proofs.Common.{Option, Some, length, map, take, drop, ap, sym, refl, subst, arith, eq-eqb, get_or}
 use Rattle.std.proofs.Common.{ne_eqb, inl, inr}
 use Rattle.std.specs.Prelude.{All}
 use Rattle.std.specs.List.{AllZip}
 use Rattle.std.proofs.lemmas.List.{append-nil, drop_all, drop_at, length-map, map-append, map-id, take-append-le, take_all}
-use Rattle.std.proofs.lemmas.List.Elements.{All-cons, All-head, All-nil, All-tail}
+use Rattle.std.proofs.lemmas.List.Elements.{All-cons, All-filter, All-head, All-nil, All-tail, filter_passes}
 use Rattle.scm_model.specs.declared.flat.Config.{Config}
 use Rattle.scm_model.specs.declared.flat.Flat.{Flat}
 use Rattle.scm_model.specs.declared.flat.Limits.{Limits}
-use Rattle.scm_model.specs.declared.flat.Process.{Process}
 use Rattle.scm_model.specs.declared.flat.Service.{Service}
 use Rattle.scm_model.specs.declared.flat.Status.{Status}
 use Rattle.scm_model.specs.declared.calls.NewService.{NewService}
@@ -20,7 +19,7 @@ use Rattle.scm_model.specs.declared.steps.Answer.{Answer}
 use Rattle.scm_model.specs.declared.steps.Answer.TheVariants as answer
 use Rattle.scm_model.specs.declared.steps.Kept.{Kept}
 use Rattle.scm_model.specs.declared.steps.Step.{Step}
-use Rattle.scm_model.specs.declared.steps.Step.TheVariants.{Call, LaunchFailed, Report, Ended, Tick, Raised}
+use Rattle.scm_model.specs.declared.steps.Step.TheVariants.{Call, ControlTaken, LaunchFailed, Report, Ended, Tick, Raised}
 use Rattle.scm_model.specs.Changes.{configured_if, marked_if, with_moment}
 use Rattle.scm_model.specs.Purge.{leaves}
 use Rattle.start_plan.specs.Entered.{starting_in}
@@ -29,24 +28,25 @@ use Rattle.status_machine.specs.Moves.{take_end}
 use Rattle.scm_rules.specs.Change.{new_config, configured_in}
 use Rattle.scm_rules.specs.Change2.{level_config}
 use Rattle.scm_rules.specs.Delete.{delete_done}
-use Rattle.scm_rules.specs.Launches.{current_of, fallen_if, is_taken, process_of, with_fallen}
-use Rattle.scm_rules.specs.Reports.{process_in_state, reported_if, reported_in, notified_of_report, with_report, with_report_of}
+use Rattle.scm_rules.specs.Controls.{first_asked, unasked_if, unasked_in}
+use Rattle.scm_rules.specs.Launches.{currents, fallen_if, is_by, with_fallen}
+use Rattle.scm_rules.specs.Reports.{is_reporter, notified_of_report, process_in_state, released_by, reported_if, reported_in, reporting}
+use Rattle.scm_rules.specs.Reports.{with_report_of}
+use Rattle.scm_model.specs.declared.codes.TheConstants.{SERVICE_STOPPED}
 use Rattle.scm_rules.specs.Steps.{at_moment, effect_of, may, step_of}
 use Rattle.scm_rules.specs.Verdicts.{call_of, done_of, told_refused, verdict}
 use Rattle.scm_runs.specs.Leaving.{IsFresh, IsSameService, LawOfLeaving, before_leaving, configures, created, fails, marks, numbers}
-use Rattle.scm_runs.specs.Leaving.{is_report, is_handle_of, is_number_of, is_process_of}
+use Rattle.scm_runs.specs.Leaving.{is_report, is_handle_of, is_number_of}
 use Rattle.scm_runs.proofs.Along.{Gives}
 use Rattle.scm_runs.proofs.Calls.{by_verdict}
 use Rattle.scm_runs.proofs.Configured.{HasText, name, name_kept, names_found, number_kept}
 use Rattle.scm_runs.proofs.Effects.{step_settled}
 use Rattle.scm_runs.proofs.Frames.{finished_keeps}
 use Rattle.scm_runs.proofs.Levels.{name_left}
-use Rattle.scm_runs.proofs.Lists.{alone, found_has, found_passes, map_both, map_same, passes_not}
-use Rattle.scm_runs.proofs.Processes.{running_first}
-use Rattle.scm_runs.proofs.Rows.{fallen_or, kind_taken, reported_or}
+use Rattle.scm_runs.proofs.Lists.{alone, found_passes, map_both, map_same, passes_not}
+use Rattle.scm_runs.proofs.Rows.{by_parts, fallen_or, kind_taken, reported_or, unasked_or}
 use Rattle.scm_runs.proofs.Settling.{AreSettled, IsSettled}
-use Rattle.scm_runs.proofs.Sound.{Sound}
-use Rattle.std.proofs.lemmas.Bool.{and_parts}
+use Rattle.scm_runs.proofs.Sound.{Sound, found_alone}
 use Rattle.scm_rules.proofs.Needed.{replaced}
 use Rattle.scm_model.proofs.Found.{found_keeps, found_either}
 use Rattle.scm_runs.proofs.Founds.{opened_keeps, started_keeps, notify_apart}
@@ -54,8 +54,9 @@ use Rattle.scm_model.specs.Rows.{held_service}
 use Rattle.scm_rules.proofs.Held.{held_is}
 use Rattle.failure_actions.specs.Failing.{on_failure}
 use Rattle.scm_rules.specs.Ends.{with_end}
-use Rattle.scm_rules.specs.Failures.{counted_if, failed_by}
-use Rattle.scm_runs.proofs.Failing.{counted_or, failed_is, failing_keeps}
+use Rattle.scm_rules.specs.Failures.{counted_if, failed_by, is_failure}
+use Rattle.scm_model.specs.Found.{if_found}
+use Rattle.scm_runs.proofs.Failing.{all_failing_keeps, counted_or, failed_is, failing_keeps}
 use Rattle.scm_runs.proofs.Unasked.{raised_apart, ticked_apart}
 
 -- what the law says of the services before some of them leave
@@ -152,6 +153,7 @@ configured_row f step told caller handle config one row does is has =
         process = (cond b (replaced config row) row).process;
         failures = (cond b (replaced config row) row).failures;
         last_failure = (cond b (replaced config row) row).last_failure;
+        asked = (cond b (replaced config row) row).asked;
         marked = row.marked || marks f step told row.number;
       }) [
         | true ↦ ap (λ (marked : Bool). record (replaced config row) { marked = marked }) stays
@@ -185,30 +187,43 @@ stood_configured f step told caller handle new does named s =
 
 -- ## Reports
 
-reported_row : (f : Flat) (step : Step) (told : Answer) (process : ℕ) (report : Status) (row : Service)
-    → ((number : ℕ) → marks f step told number ≡ false) → (is_report f step row ≡ false → (row.process == process) ≡ false)
-    → IsSameService f step told row (reported_if process report row)
-reported_row f step told process report row unmarked other =
-    reported_or (IsSameService f step told row) process report row
+-- no row but that of a service that reports has its number
+abbrev IsQuiet : Flat → Step → ℕ → Service → Type 0
+IsQuiet f step number row = is_report f step row ≡ false → (row.number == number) ≡ false
+
+all_quiet : (f : Flat) (step : Step) (one : Service) → All (λ (row : Service). row.number ≡ one.number → row ≡ one) f.services
+    → is_report f step one ≡ true → All (IsQuiet f step one.number) f.services
+all_quiet f step one only reporting k d lt quiet =
+    ne_eqb (get_or f.services k d).number one.number (λ same. absurd (let is = only k d lt same in
+    let too : is_report f step (get_or f.services k d) ≡ true = ap (is_report f step) is ∙ reporting in cc))
+
+reported_row : (f : Flat) (step : Step) (told : Answer) (number : ℕ) (report : Status) (row : Service)
+    → ((number : ℕ) → marks f step told number ≡ false) → IsQuiet f step number row
+    → IsSameService f step told row (reported_if number report row)
+reported_row f step told number report row unmarked other =
+    reported_or (IsSameService f step told row) number report row
     (λ is taken. record {
-      row = ap (λ (marked : Bool). record row { status = report; process = process_in_state report.state row.process; marked = marked })
-          (or_false row.marked ∙ ap (λ marked. row.marked || marked) (sym (unmarked row.number)));
+      row = ap (λ (marked : Bool). record row {
+        status = report;
+        process = process_in_state report.state row.process;
+        asked = row.asked && not (report.state == SERVICE_STOPPED);
+        marked = marked;
+      }) (or_false row.marked ∙ ap (λ marked. row.marked || marked) (sym (unmarked row.number)));
       state = λ same quiet. absurd (let isnt = other quiet in cc);
       config = λ kept. (refl, kind_taken row.status report taken);
       name = refl;
       failures = λ fine. (refl, refl);
     }) (same_row f step told row (unmarked row.number))
 
-number_told : (process : ℕ) (report : Status) (row : Service) → (reported_if process report row).number ≡ row.number
-number_told process report row = reported_or (λ new. new.number ≡ row.number) process report row (λ e t. refl) refl
+number_told : (number : ℕ) (report : Status) (row : Service) → (reported_if number report row).number ≡ row.number
+number_told number report row = reported_or (λ new. new.number ≡ row.number) number report row (λ e t. refl) refl
 
-stood_reported : (f : Flat) (step : Step) (told : Answer) (process : ℕ) (report : Status) → created f step told ≡ []
-    → ((number : ℕ) → marks f step told number ≡ false)
-    → ((row : Service) → is_report f step row ≡ false → (row.process == process) ≡ false)
-    → Stood f step told (map (reported_if process report) f.services)
-stood_reported f step told process report none unmarked other =
-    stood_mapped f step told (reported_if process report) (number_told process report) none
-    (λ k d lt. reported_row f step told process report _ unmarked (other _))
+stood_reported : (f : Flat) (step : Step) (told : Answer) (number : ℕ) (report : Status) → created f step told ≡ []
+    → ((number : ℕ) → marks f step told number ≡ false) → All (IsQuiet f step number) f.services
+    → Stood f step told (map (reported_if number report) f.services)
+stood_reported f step told number report none unmarked other =
+    stood_mapped f step told (reported_if number report) (number_told number report) none
+    (λ k d lt. reported_row f step told number report (get_or f.services k d) unmarked (other k d lt))
 
 -- ## Failures
 
@@ -256,12 +271,33 @@ stood_counted f step told one moment g none only failing same each =
     (λ k d lt. (let row = get_or f.services k d in counted_row f step told one.number moment row (g row) (spared k d lt) (same row)
     (each k d lt))))
 
--- no other service has the number of one that is found
-found_alone : (f : Flat) (p : Service → Bool) (one : Service) → Sound f → find p f.services ≡ Some one
-    → All (λ (row : Service). row.number ≡ one.number → row ≡ one) f.services
-found_alone f p one s is =
-    found_has (λ (row : Service). All (λ (other : Service). other.number ≡ row.number → other ≡ row) f.services) p one f.services
-    (alone (λ (row : Service). row.number) f.services s.services.numbered.rising) is
+-- what is known of a service that takes a report
+record Takes (f : Flat) (step : Step) (found : Option Service) (report : Status) : Type 0 where
+  only : (one : Service) → found ≡ Some one → All (λ (row : Service). row.number ≡ one.number → row ≡ one) f.services
+  by : (one : Service) → found ≡ Some one → is_report f step one ≡ true
+  failing : (one : Service) → found ≡ Some one → is_failure report one ≡ true → fails f step one ≡ true
+
+-- the service that was found takes a report
+stood_taken : (f : Flat) (step : Step) (told : Answer) (moment : ℕ) (found : Option Service) (report : Status) → created f step told ≡ []
+    → ((number : ℕ) → marks f step told number ≡ false) → Takes f step found report
+    → Stood f step told (with_report_of (with_moment f moment) found report).services
+stood_taken f step told moment found report none unmarked t =
+    let g = record (with_moment f moment) {
+      services = reported_in report found f.services;
+      processes = if_found (released_by report) found f.processes;
+      registrations = notified_of_report f.processes report found f.registrations;
+    } in
+    failing_keeps (λ (h : Flat). Stood f step told h.services) (failed_by report found) g
+    (found_keeps (Stood f step told) (λ (one : Service). map (reported_if one.number report)) found f.services
+    (stood_same f step told none unmarked)
+    (λ one is. stood_reported f step told one.number report none unmarked (all_quiet f step one (t.only one is) (t.by one is))))
+    (λ one failed. (let is = failed_is report found one failed in
+    subst (λ held. Stood f step told (map (counted_if one.number g.moment) (reported_in report held f.services))) (sym is.0)
+    (stood_counted f step told one g.moment (reported_if one.number report) none (t.only one is.0) (t.failing one is.0 is.1)
+    (number_told one.number report)
+    (λ k d lt. reported_row f step told one.number report (get_or f.services k d) unmarked
+    (all_quiet f step one (t.only one is.0) (t.by one is.0) k d lt)))))
+    (λ service h at kind is stood. stood)
 
 -- ## Calls
 
@@ -299,26 +335,11 @@ stood_told : (f : Flat) (moment caller handle : ℕ) (status : Status) (append :
     (with_report_of (with_moment f moment) (held_service f caller handle) status).services
 stood_told f moment caller handle status append s =
     let step = Call caller (request.SetStatus handle status) append in
-    let told = answer.Reply (reply.Code 0) in
-    let held = held_service f caller handle in
-    let g = record (with_moment f moment) {
-      services = reported_in status held f.services;
-      registrations = notified_of_report f.processes status held f.registrations;
-    } in
-    let other = λ (one : Service) (is : held ≡ Some one) (row : Service) (quiet : is_report f step row ≡ false). ap
-    (λ found. is_process_of found row.process) (sym is) ∙ quiet in
-    failing_keeps (λ (h : Flat). Stood f step told h.services) (failed_by status held) g
-    (found_keeps (Stood f step told) (λ (one : Service). map (reported_if one.process status)) held f.services
-    (stood_same f _ _ refl (λ number. refl))
-    (λ one is. stood_reported f _ _ one.process status refl (λ number. refl) (other one is)))
-    (λ one failed. (let is = failed_is status held one failed in
-    subst (λ found. Stood f step told (map (counted_if one.number g.moment) (reported_in status found f.services))) (sym is.0)
-    (stood_counted f step told one g.moment (reported_if one.process status) refl
-    (found_alone f (λ (row : Service). row.number == one.number) one s (held_is f caller handle one is.0))
-    (rw (is.0, eq-eqb one.process one.process refl) is.1) (number_told one.process status)
-    (λ k d lt. reported_row f step told one.process status (get_or f.services k d) (λ number. refl)
-    (other one is.0 (get_or f.services k d))))))
-    (λ service h at kind is stood. stood)
+    stood_taken f step (answer.Reply (reply.Code 0)) moment (held_service f caller handle) status refl (λ number. refl) (record {
+      only = λ one is. found_alone f (λ (row : Service). row.number == one.number) one s (held_is f caller handle one is);
+      by = λ one is. rw (is, eq-eqb one.number one.number refl) refl;
+      failing = λ one is failing. rw (is, eq-eqb one.number one.number refl) failing;
+    })
 
 stood_call : (l : Limits) (f : Flat) (moment caller : ℕ) (asked : Request) (append : Kept) → Sound f
     → Stood f (Call caller asked append) (step_of l f moment (Call caller asked append)).answer
@@ -406,26 +427,18 @@ stood_call l f moment caller asked append s =
 -- ## A launch that failed
 
 fallen_row : (f : Flat) (step : Step) (told : Answer) (process code : ℕ) (row : Service) → ((number : ℕ) → marks f step told number ≡ false)
-    → 1 ≤ process → IsSameService f step told row (fallen_if process code row)
-fallen_row f step told process code row unmarked first =
+    → IsSameService f step told row (fallen_if process code row)
+fallen_row f step told process code row unmarked =
     fallen_or (IsSameService f step told row) process code row
     (λ is. record {
-      row = ap (λ (marked : Bool). record row { status = take_end row.status code; process = 0; marked = marked }) (or_false row.marked
-          ∙ ap (λ marked. row.marked || marked) (sym (unmarked row.number)));
-      state = λ none quiet. absurd (let e = eqb-true row.process process is in omega (arith, none, e, first));
+      row = ap (λ (marked : Bool). record row { status = take_end row.status code; process = 0; asked = false; marked = marked })
+          (or_false row.marked ∙ ap (λ marked. row.marked || marked) (sym (unmarked row.number)));
+      state = λ none quiet. absurd (let by = by_parts process row is in let zero = eq-eqb process 0 (sym by.1 ∙ sym none) in
+          let some = by.0 in cc);
       config = λ other. (refl, refl);
       name = refl;
       failures = λ fine. (refl, refl);
     }) (same_row f step told row (unmarked row.number))
-
--- a process that is in hand has a number
-in_hand_first : (f : Flat) (process : ℕ) (found : Option Process) → Sound f
-    → find (λ (row : Process). row.number == process) f.processes ≡ found → is_taken found ≡ true → 1 ≤ process
-in_hand_first f process None s e taken = absurd cc
-in_hand_first f process (Some row) s e taken =
-    let is = eqb-true row.number process (found_passes (λ (r : Process). r.number == process) row f.processes e) in
-    subst (λ n. 1 ≤ n) is (found_has (λ (r : Process). 1 ≤ r.number) (λ (r : Process). r.number == process) row f.processes
-    s.processes.numbered.positive e)
 
 -- ## Reports and ends of processes
 
@@ -433,35 +446,95 @@ number_fallen : (process code : ℕ) (row : Service) → (fallen_if process code
 number_fallen process code row = fallen_or (λ new. new.number ≡ row.number) process code row (λ e. refl) refl
 
 stood_own : (f : Flat) (moment process service : ℕ) (status : Status) (told : Answer) → Sound f
-    → Stood f (Report process service status) told (with_report (with_moment f moment) process status).services
+    → Stood f (Report process service status) told (with_report_of (with_moment f moment) (reporting f process service) status).services
 stood_own f moment process service status told s =
-    let step = Report process service status in
-    let found = current_of f process in
-    let g = record (with_moment f moment) {
-      services = map (reported_if process status) f.services;
-      registrations = notified_of_report f.processes status found f.registrations;
-    } in
-    failing_keeps (λ (h : Flat). Stood f step told h.services) (failed_by status found) g
-    (stood_reported f step told process status refl (λ number. refl) (λ row quiet. quiet))
-    (λ one failed. (let is = failed_is status found one failed in
-    stood_counted f step told one g.moment (reported_if process status) refl
-    (found_alone f (λ (row : Service). row.process == process) one s is.0)
-    (rw (found_passes (λ (row : Service). row.process == process) one f.services is.0) is.1) (number_told process status)
-    (λ k d lt. reported_row f step told process status (get_or f.services k d) (λ number. refl) (λ quiet. quiet))))
-    (λ number h at kind is stood. stood)
+    stood_taken f (Report process service status) told moment (reporting f process service) status refl (λ number. refl) (record {
+      only = λ one is. found_alone f (is_reporter f process service) one s is;
+      by = λ one is. found_passes (is_reporter f process service) one f.services is;
+      failing = λ one is failing. rw (found_passes (is_reporter f process service) one f.services is) failing;
+    })
 
-stood_ended : (f : Flat) (moment process : ℕ) (told : Answer) → Sound f → 1 ≤ process
+-- rows one by one, each the same service
+zip_long : {X : Type 0} (R : X → X → Type 0) (xs ys : List X) → AllZip R xs ys → length ys ≡ length xs
+zip_long R [] [] each = refl
+zip_long R [] (y ∷ ys) each = absurd each
+zip_long R (x ∷ xs) [] each = absurd each
+zip_long R (x ∷ xs) (y ∷ ys) each = ap suc (zip_long R xs ys each.1)
+
+zip_numbers : (f : Flat) (step : Step) (told : Answer) (olds news : List Service) → AllZip (IsSameService f step told) olds news
+    → numbers news ≡ numbers olds
+zip_numbers f step told [] [] each = refl
+zip_numbers f step told [] (new ∷ news) each = absurd each
+zip_numbers f step told (old ∷ olds) [] each = absurd each
+zip_numbers f step told (old ∷ olds) (new ∷ news) each =
+    ap (λ n. n ∷ numbers news) (ap (λ (r : Service). r.number) each.0.row)
+    ∙ ap (λ ns. old.number ∷ ns) (zip_numbers f step told olds news each.1)
+
+stood_zipped : (f : Flat) (step : Step) (told : Answer) (rows : List Service) → created f step told ≡ []
+    → AllZip (IsSameService f step told) f.services rows → Stood f step told rows
+stood_zipped f step told rows none each =
+    let long : length rows ≤ length f.services = (let e = zip_long (IsSameService f step told) f.services rows each in omega arith) in
+    record {
+      stood = zip_numbers f step told f.services rows each ∙ none_more (numbers f.services)
+          ∙ ap (λ more. numbers f.services ++ more) (sym none);
+      rows = subst (λ news. AllZip (IsSameService f step told) f.services news) (sym (take_all (length f.services) rows long)) each;
+      fresh = subst (λ news. All IsFresh news) (sym (drop_all (length f.services) rows long)) (All-nil IsFresh);
+      numbered = subst (λ news. All (λ (row : Service). f.next.service ≤ row.number) news)
+          (sym (drop_all (length f.services) rows long)) (All-nil (λ (row : Service). f.next.service ≤ row.number));
+    }
+
+zip_counted : (f : Flat) (step : Step) (told : Answer) (number moment : ℕ) (olds news : List Service)
+    → All (IsSpared f step number) olds → AllZip (IsSameService f step told) olds news
+    → AllZip (IsSameService f step told) olds (map (counted_if number moment) news)
+zip_counted f step told number moment [] [] spared each = tt
+zip_counted f step told number moment [] (new ∷ news) spared each = absurd each
+zip_counted f step told number moment (old ∷ olds) [] spared each = absurd each
+zip_counted f step told number moment (old ∷ olds) (new ∷ news) spared each = (
+  counted_row f step told number moment old new (All-head (IsSpared f step number) old olds spared)
+      (ap (λ (r : Service). r.number) each.0.row) each.0,
+  zip_counted f step told number moment olds news (All-tail (IsSpared f step number) old olds spared) each.1,
+)
+
+stood_ended : (f : Flat) (moment process : ℕ) (told : Answer) → Sound f
     → Stood f (Ended process) told (with_end (with_moment f moment) process).services
-stood_ended f moment process told s first =
+stood_ended f moment process told s =
     let step = Ended process in
-    let each : All (λ row. IsSameService f step told row (fallen_if process 1067 row)) f.services =
-    λ k d lt. fallen_row f step told process 1067 _ (λ number. refl) first in
-    failing_keeps (λ (h : Flat). Stood f step told h.services) (current_of f process) (with_fallen (with_moment f moment) process 1067)
-    (stood_mapped f step told (fallen_if process 1067) (number_fallen process 1067) refl each)
-    (λ one is. stood_counted f step told one _ (fallen_if process 1067) refl
-    (found_alone f (λ (row : Service). row.process == process) one s is)
-    (found_passes (λ (row : Service). row.process == process) one f.services is) (number_fallen process 1067) each)
-    (λ service h at kind is stood. stood)
+    let alone_each = All-filter (is_by process) (λ (row : Service). All (λ (other : Service). other.number ≡ row.number → other ≡ row) f.services)
+    f.services (alone (λ (row : Service). row.number) f.services s.services.numbered.rising) in
+    stood_zipped f step told (with_end (with_moment f moment) process).services refl
+    (all_failing_keeps (λ (h : Flat). AllZip (IsSameService f step told) f.services h.services)
+    (λ (one : Service). All (IsSpared f step one.number) f.services) (currents process f.services)
+    (with_fallen (with_moment f moment) process 1067)
+    (λ k d lt. all_spared f step (get_or (currents process f.services) k d) (alone_each k d lt)
+    (filter_passes (is_by process) f.services k d lt))
+    (zip_map (IsSameService f step told) (fallen_if process 1067) f.services
+    (λ k d lt. fallen_row f step told process 1067 (get_or f.services k d) (λ number. refl)))
+    (λ one h spared each. zip_counted f step told one.number h.moment f.services h.services spared each)
+    (λ service h at kind is each. each))
+
+-- ## Services that are asked no more
+
+unasked_row : (f : Flat) (step : Step) (told : Answer) (number : ℕ) (row : Service) → ((number : ℕ) → marks f step told number ≡ false)
+    → IsSameService f step told row (unasked_if number row)
+unasked_row f step told number row unmarked =
+    unasked_or (IsSameService f step told row) number row
+    (record {
+      row = ap (λ (marked : Bool). record row { asked = false; marked = marked })
+          (or_false row.marked ∙ ap (λ marked. row.marked || marked) (sym (unmarked row.number)));
+      state = λ same quiet. refl;
+      config = λ other. (refl, refl);
+      name = refl;
+      failures = λ fine. (refl, refl);
+    }) (same_row f step told row (unmarked row.number))
+
+stood_sent : (f : Flat) (process : ℕ) (told : Answer) → Stood f (ControlTaken process) told (unasked_in (first_asked f process) f.services)
+stood_sent f process told =
+    let step = ControlTaken process in
+    found_keeps (Stood f step told) (λ (row : Service). map (unasked_if row.number)) (first_asked f process) f.services
+    (stood_same f step told refl (λ number. refl))
+    (λ one is. stood_mapped f step told (unasked_if one.number)
+    (λ row. unasked_or (λ new. new.number ≡ row.number) one.number row refl refl) refl
+    (λ k d lt. unasked_row f step told one.number (get_or f.services k d) (λ number. refl)))
 
 -- ## Effects
 
@@ -470,13 +543,12 @@ stood_effect : (l : Limits) (f : Flat) (moment : ℕ) (step : Step) → Sound f 
 stood_effect l f moment (Call caller asked append) s ok = stood_call l f moment caller asked append s
 stood_effect l f moment (LaunchFailed process code) s ok =
     stood_mapped f _ _ (fallen_if process code) (number_fallen process code) refl
-    (λ k d lt. fallen_row f _ _ process code _ (λ number. refl) (in_hand_first f process (process_of f process) s refl
-    (and_parts _ _ (and_parts _ _ ok).0).0))
+    (λ k d lt. fallen_row f _ _ process code (get_or f.services k d) (λ number. refl))
 stood_effect l f moment (Report process service status) s ok = stood_own f moment process service status
     (step_of l f moment (Report process service status)).answer s
 stood_effect l f moment (Ended process) s ok =
     stood_ended f moment process (step_of l f moment (Ended process)).answer s
-    (running_first f.next.process process f.processes (process_of f process) s.processes.numbered refl (and_parts _ _ ok).0)
+stood_effect l f moment (ControlTaken process) s ok = stood_sent f process (step_of l f moment (ControlTaken process)).answer
 stood_effect l f moment Tick s ok =
     let told = (step_of l f moment Tick).answer in
     ticked_apart (λ (g : Flat). Stood f Tick told g.services) l (with_moment f moment) (stood_same f Tick told refl (λ number. refl))
@@ -551,6 +623,7 @@ settled_row f step told next bound old mid new small is (inr entered) =
             process = new.process;
             failures = r.failures;
             last_failure = r.last_failure;
+            asked = r.asked;
             marked = old.marked || marks f step told old.number;
           }) (sym e);
       state = λ same quiet. absurd (let up = entered.process in omega (arith, up, same, small));

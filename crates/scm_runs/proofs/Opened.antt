@@ -10,7 +10,7 @@ use Rattle.scm_model.specs.Changes.{new_service}
 use Rattle.scm_model.specs.Purge.{leaves}
 use Rattle.scm_rules.specs.Create.{new_status}
 use Rattle.scm_rules.specs.Opening.{CanOpen, services_from}
-use Rattle.scm_rules.specs.Valid.{HasListed}
+use Rattle.scm_rules.specs.Valid.{HasListed, IsAskedRight}
 use Rattle.scm_runs.proofs.Rows.{AreOtherDisplays, AreOtherNames, AreServices, HasKind, IsChecked, IsStoppedWithout}
 
 -- a service that never ran
@@ -68,6 +68,9 @@ opened_services l configs can = record {
 
 pub opened_listed : (configs : List Config) → All (HasListed []) (services_from 1 configs)
 opened_listed configs = each_opened (HasListed []) 1 configs (λ k d lt. refl)
+
+pub opened_asked : (configs : List Config) → All (IsAskedRight []) (services_from 1 configs)
+opened_asked configs = each_opened (IsAskedRight []) 1 configs (λ k d lt asked. absurd cc)
 
 -- none is marked, so none is to leave
 pub opened_stay : (handles : List HandleRow) (number : ℕ) (configs : List Config)

@@ -1,6 +1,6 @@
 -- What is true of the services of every state, and what each change of them keeps.
 use Rattle.std.proofs.Common.{ℕ, ◌≡◌, ◌∙◌, ◌+◌, ◌<◌, ◌≤◌, ◌==◌, Bool, true, false, cond, List, [], ◌∷◌, ◌++◌, None, filter, map, get_or, ap}
-use Rattle.std.proofs.Common.{sym, refl, subst, arith, eqb-true, ne_eqb}
+use Rattle.std.proofs.Common.{sym, refl, subst, arith, eq-eqb, eqb-true, ne_eqb, not}
 use Rattle.std.specs.Prelude.{All, AllPairs, Ok, Err}
 use Rattle.std.proofs.lemmas.List.Elements.{All-filter, All-push, All-map, All-weaker}
 use Rattle.std.proofs.lemmas.List.Kept.{AllPairs-filter}
@@ -13,15 +13,16 @@ use Rattle.scm_model.specs.Changes.{marked_if}
 use Rattle.service_record.specs.Checks.{check_new}
 use Rattle.start_plan.specs.Entered.{started_if}
 use Rattle.start_plan.proofs.Rows.{started_or, same_number}
-use Rattle.status_machine.specs.Moves.{take_end, take_report, takes}
-use Rattle.scm_rules.specs.Launches.{fallen_if}
+use Rattle.status_machine.specs.Moves.{take_report, takes}
+use Rattle.scm_rules.specs.Launches.{fallen as fallen_by, fallen_if, is_by}
+use Rattle.scm_rules.specs.Controls.{unasked_if}
 use Rattle.scm_rules.specs.Needs.{need_row}
 use Rattle.scm_rules.specs.Reports.{moved_by, process_in_state, reported_if}
 use Rattle.scm_rules.specs.Valid.{AreNumbered}
 use Rattle.scm_runs.proofs.Lists.{pairs_map}
 use Rattle.scm_rules.proofs.Needed.{HasNoCycle, fewer, same_graph}
 use Rattle.scm_runs.proofs.Numbers.{numbered_filter, numbered_map, numbered_push}
-use Rattle.std.proofs.lemmas.Bool.{and_parts}
+use Rattle.std.proofs.lemmas.Bool.{and_parts, not-true}
 
 abbrev pub AreOtherNames : Service → Service → Type 0
 AreOtherNames a b = same_text a.config.name b.config.name ≡ false
@@ -112,13 +113,29 @@ begun next process number rows s =
     (λ k d lt. started_or (λ (row : Service). row.process < process + 1) number process (get_or rows k d) (λ e. omega arith)
     (let below = s.current k d lt in omega arith)))
 
--- who has this process falls
-pub fallen_or : (P : Service → Type 0) (process code : ℕ) (row : Service)
-    → ((row.process == process) ≡ true → P (record row { status = take_end row.status code; process = 0 })) → P row
+-- a service's current process has a number
+pub by_parts : (process : ℕ) (row : Service) → is_by process row ≡ true → ((process == 0) ≡ false) × (row.process ≡ process)
+by_parts process row by =
+    let parts = and_parts (not (process == 0)) (row.process == process) by in
+    (not-true (process == 0) parts.0, eqb-true row.process process parts.1)
+
+pub parts_by : (process : ℕ) (row : Service) → (process == 0) ≡ false → row.process ≡ process → is_by process row ≡ true
+parts_by process row some same = rw (some, eq-eqb row.process process same) refl
+
+-- a service whose current process is another one
+pub not_by : (process : ℕ) (row : Service) → is_by process row ≡ false → (row.process == 0) ≡ false → (row.process == process) ≡ false
+not_by process row out some =
+    ne_eqb row.process process (λ same. absurd (let is = parts_by process row (ap (λ n. n == 0) (sym same) ∙ some) same in cc))
+
+-- each service falls whose current process this is
+pub fallen_either : (P : Service → Type 0) (process code : ℕ) (row : Service) → (is_by process row ≡ true → P (fallen_by code row))
+    → (is_by process row ≡ false → P row) → P (fallen_if process code row)
+fallen_either P process code row falls stays =
+    elim (is_by process row) as (λ b. is_by process row ≡ b → P (cond b (fallen_by code row) row)) [ true ↦ falls | false ↦ stays ] refl
+
+pub fallen_or : (P : Service → Type 0) (process code : ℕ) (row : Service) → (is_by process row ≡ true → P (fallen_by code row)) → P row
     → P (fallen_if process code row)
-fallen_or P process code row falls stays =
-    elim (row.process == process) as (λ b. (row.process == process) ≡ b
-    → P (cond b (record row { status = take_end row.status code; process = 0 }) row)) [ true ↦ falls | false ↦ λ e. stays ] refl
+fallen_or P process code row falls stays = fallen_either P process code row falls (λ out. stays)
 
 pub falls_mildly : (process code : ℕ) → IsMild (fallen_if process code)
 falls_mildly process code = record {
@@ -137,12 +154,12 @@ fallen next process number code rows s =
     (λ k d lt. fallen_or (λ (row : Service). row.process < process) number code (get_or rows k d)
     (λ e. let first = s.first_process in omega arith) (s.current k d lt)))
 
--- who has this process moves by a report that is taken
-pub reported_or : (P : Service → Type 0) (process : ℕ) (report : Status) (row : Service)
-    → ((row.process == process) ≡ true → takes row.status report ≡ true → P (moved_by row (Ok report))) → P row
-    → P (reported_if process report row)
-reported_or P process report row moves stays =
-    elim (row.process == process) as (λ b. (row.process == process) ≡ b → P (cond b (moved_by row (take_report row.status report)) row)) [
+-- the service with this number moves by a report that is taken
+pub reported_or : (P : Service → Type 0) (number : ℕ) (report : Status) (row : Service)
+    → ((row.number == number) ≡ true → takes row.status report ≡ true → P (moved_by row (Ok report))) → P row
+    → P (reported_if number report row)
+reported_or P number report row moves stays =
+    elim (row.number == number) as (λ b. (row.number == number) ≡ b → P (cond b (moved_by row (take_report row.status report)) row)) [
       | true ↦ λ e. elim (takes row.status report) as (λ t. takes row.status report ≡ t → P (moved_by row (cond t (Ok report) (Err 13))))
           [ true ↦ moves e | false ↦ λ t. stays ] refl
       | false ↦ λ e. stays
@@ -152,12 +169,16 @@ reported_or P process report row moves stays =
 pub kind_taken : (now report : Status) → takes now report ≡ true → report.kind ≡ now.kind
 kind_taken now report taken = eqb-true report.kind now.kind (and_parts _ _ (and_parts _ _ (and_parts _ _ (and_parts _ _ taken).0).0).0).0
 
-pub reports_mildly : (process : ℕ) (report : Status) → IsMild (reported_if process report)
-reports_mildly process report = record {
-  number = λ row. reported_or (λ new. new.number ≡ row.number) process report row (λ e t. refl) refl;
-  config = λ row. reported_or (λ new. new.config ≡ row.config) process report row (λ e t. refl) refl;
-  kind = λ row. reported_or (λ new. new.status.kind ≡ row.status.kind) process report row (λ e t. kind_taken row.status report t) refl;
+pub reports_mildly : (number : ℕ) (report : Status) → IsMild (reported_if number report)
+reports_mildly number report = record {
+  number = λ row. reported_or (λ new. new.number ≡ row.number) number report row (λ e t. refl) refl;
+  config = λ row. reported_or (λ new. new.config ≡ row.config) number report row (λ e t. refl) refl;
+  kind = λ row. reported_or (λ new. new.status.kind ≡ row.status.kind) number report row (λ e t. kind_taken row.status report t) refl;
 }
+
+-- the service with a number has this process
+abbrev pub LivesIn : ℕ → ℕ → Service → Type 0
+LivesIn number process row = (row.number == number) ≡ true → row.process ≡ process
 
 -- who had a process and is STOPPED now has none
 stopped_without : (state process : ℕ) → (process == 0) ≡ false → (state == 1) ≡ (process_in_state state process == 0)
@@ -169,17 +190,38 @@ below_still bound state process first below = elim (state == 1) as (λ b. cond b
   | false ↦ below
 ]
 
-pub reported : (next process number : ℕ) (report : Status) (rows : List Service) → 1 ≤ number → AreServices next process rows
-    → AreServices next process (map (reported_if number report) rows)
-reported next process number report rows there s =
+pub reported : (next process number by : ℕ) (report : Status) (rows : List Service) → 1 ≤ by → All (LivesIn number by) rows
+    → AreServices next process rows → AreServices next process (map (reported_if number report) rows)
+reported next process number by report rows there lives s =
     mildly next process process (reported_if number report) rows (reports_mildly number report) s (omega arith)
     (All-map IsStoppedWithout (reported_if number report) rows
     (λ k d lt. (let row = get_or rows k d in reported_or IsStoppedWithout number report row
     (λ e t. stopped_without report.state row.process (ne_eqb row.process 0
-    (λ none. absurd (let is = eqb-true row.process number e in omega (arith, none, is, there))))) (s.stopped k d lt))))
+    (λ none. absurd (let is = lives k d lt e in omega (arith, none, is, there))))) (s.stopped k d lt))))
     (All-map (λ (row : Service). row.process < process) (reported_if number report) rows
     (λ k d lt. (let row = get_or rows k d in reported_or (λ (row : Service). row.process < process) number report row
     (λ e t. below_still process report.state row.process s.first_process (s.current k d lt)) (s.current k d lt))))
+
+-- a service that was sent is asked no more
+pub unasked_or : (P : Service → Type 0) (number : ℕ) (row : Service) → P (record row { asked = false }) → P row → P (unasked_if number row)
+unasked_or P number row told stays =
+    elim (row.number == number) as (λ b. P (cond b (record row { asked = false }) row)) [ true ↦ told | false ↦ stays ]
+
+pub unasks_mildly : (number : ℕ) → IsMild (unasked_if number)
+unasks_mildly number = record {
+  number = λ row. unasked_or (λ new. new.number ≡ row.number) number row refl refl;
+  config = λ row. unasked_or (λ new. new.config ≡ row.config) number row refl refl;
+  kind = λ row. unasked_or (λ new. new.status.kind ≡ row.status.kind) number row refl refl;
+}
+
+pub unasked : (next process number : ℕ) (rows : List Service) → AreServices next process rows
+    → AreServices next process (map (unasked_if number) rows)
+unasked next process number rows s =
+    mildly next process process (unasked_if number) rows (unasks_mildly number) s (omega arith)
+    (All-map IsStoppedWithout (unasked_if number) rows (λ k d lt. unasked_or IsStoppedWithout number (get_or rows k d)
+    (s.stopped k d lt) (s.stopped k d lt)))
+    (All-map (λ (row : Service). row.process < process) (unasked_if number) rows
+    (λ k d lt. unasked_or (λ (row : Service). row.process < process) number (get_or rows k d) (s.current k d lt) (s.current k d lt)))
 
 -- with a number of a process given to no service
 pub later : (next process : ℕ) (rows : List Service) → AreServices next process rows → AreServices next (process + 1) rows

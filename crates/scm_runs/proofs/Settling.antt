@@ -1,7 +1,8 @@
 -- Settling keeps what is true of every state, and what it leaves of each service.
 use Rattle.std.proofs.Common.{ℕ, ◌≡◌, ◌⊎◌, ◌∙◌, ◌<◌, ◌≤◌, ◌==◌, ◌&&◌, ◌||◌, true, false, cond, List, [], ◌∷◌, Some, eq-eqb, filter, find}
 use Rattle.std.proofs.Common.{map, ap, sym, refl, subst, arith, eqb-true, inl, inr}
-use Rattle.std.specs.Prelude.{is_some}
+use Rattle.std.specs.Prelude.{All, is_some}
+use Rattle.scm_model.specs.Rows.{service_of}
 use Rattle.std.specs.List.{AllByRecursion, AllZip, list_any}
 use Rattle.std.proofs.lemmas.Cmp.{nat_eq_equiv}
 use Rattle.std.proofs.lemmas.Map.Keys.{IsDistinct-push}
@@ -10,7 +11,7 @@ use Rattle.scm_model.specs.declared.flat.Flat.{Flat}
 use Rattle.scm_model.specs.declared.flat.Limits.{Limits}
 use Rattle.scm_model.specs.declared.flat.Plan.{Plan}
 use Rattle.scm_model.specs.declared.flat.Service.{Service}
-use Rattle.start_plan.specs.Entered.{starting_in, started_if, with_entered}
+use Rattle.start_plan.specs.Entered.{is_shared_by, is_sharing, starting_in, started_if, with_entered}
 use Rattle.start_plan.specs.Moves.{move_of}
 use Rattle.start_plan.specs.Settle.{move_code, dropped, is_due_still, moved, settle_all, settle_entries, settle_plan, settled, stays}
 use Rattle.start_plan.specs.Settle.{tidied, with_tried, words_for}
@@ -20,7 +21,8 @@ use Rattle.start_plan.proofs.Rising.{rising_settled}
 use Rattle.scm_runs.proofs.Deadlines.{settled_deadlines}
 use Rattle.scm_runs.proofs.Numbers.{numbered_filter}
 use Rattle.scm_runs.proofs.Plans.{AreBelow, ArePlans, IsPlan}
-use Rattle.scm_runs.proofs.Processes.{AreProcesses, more}
+use Rattle.scm_runs.proofs.Lists.{found_only}
+use Rattle.scm_runs.proofs.Processes.{AreProcesses, SharesAs, more}
 use Rattle.scm_runs.proofs.Rows.{AreServices, begun}
 use Rattle.scm_model.specs.declared.flat.Registration.{Registration}
 use Rattle.scm_runs.proofs.Registered.{AreRegistered, events_keep}
@@ -161,6 +163,13 @@ stopped_there n row (first ∷ rows) found stopped =
       | false ↦ λ h. stopped_there n row rows h stopped
     ] found
 
+-- and it is the only one with its number
+shares_as : (next process n : ℕ) (rows : List Service) (row : Service) → AreServices next process rows
+    → find (λ (r : Service). r.number == n) rows ≡ Some row
+    → All (SharesAs n (is_shared_by (find (λ (r : Service). r.number == n) rows))) rows
+shares_as next process n rows row s found k d lt e =
+    ap is_sharing (found_only (λ (r : Service). r.number) n row rows s.numbered.rising found k d lt e) ∙ ap is_shared_by (sym found)
+
 grows : (l : Limits) (P : List Registration → Type 0) (f : Flat) (bound : ℕ) → Tells P
     → Lasts l (Grown P f bound) (IsPlan f.next.plan bound f.callers) bound
 grows l P f bound tells = record {
@@ -175,7 +184,8 @@ grows l P f bound tells = record {
     up = (let up = grown.up in omega arith);
     rows = all_settled f.next.process bound n g.next.process f.services g.services small grown.up grown.rows;
     services = begun f.next.service g.next.process n g.services grown.services;
-    processes = more g.next.process n words g.processes g.wanted g.services grown.services.first_process
+    processes = more g.next.process n (is_shared_by (service_of g n)) words g.processes g.wanted g.services
+        grown.services.first_process (shares_as f.next.service g.next.process n g.services entry.row grown.services entry.found)
         (stopped_there n entry.row g.services entry.found (eq-eqb entry.row.status.state 1 entry.stopped)) grown.processes;
     told = start_tells P tells n g.next.process g.services g.registrations
         (all_named f.next.service g.next.process g.services grown.services) grown.told;

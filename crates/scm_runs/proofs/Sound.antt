@@ -1,6 +1,6 @@
 -- What is true of every state, before and after services leave, and that each change keeps it.
 use Rattle.std.proofs.Common.{ℕ, zero, suc, get_or, ◌≡◌, ◌<◌, ◌≤◌, ◌==◌, ◌&&◌, true, false, not, cond, List, [], ◌∷◌, ◌++◌, Option, None}
-use Rattle.std.proofs.Common.{drop, length, map, ap, sym, refl, subst, arith, eqb, ◌+◌, filter, eqb-true, Some, Bool, ◌∙◌}
+use Rattle.std.proofs.Common.{drop, length, map, ap, sym, refl, subst, arith, eqb, ◌+◌, filter, find, eqb-true, Some, Bool, ◌∙◌}
 use Rattle.std.specs.Prelude.{All, Contains, is_some, nat_lt}
 use Rattle.std.proofs.lemmas.List.Elements.{All-contains, All-filter, All-map, All-push, recursion_from_All}
 use Rattle.std.specs.List.{AllByRecursion, IsDistinct}
@@ -26,21 +26,21 @@ use Rattle.scm_model.specs.declared.flat.Status.{Status}
 use Rattle.scm_model.specs.Rows.{is_caller, is_lock, principal_of}
 use Rattle.scm_model.specs.Changes.{marked_if, with_caller, with_handle, with_mark, with_moment, with_service, without_handle}
 use Rattle.scm_model.specs.Purge.{leaves, leaving, purged}
-use Rattle.scm_model.specs.Notices.{Event, all_noted, event_of_leaving, noted, pid_of, notified_of_move, with_noted, with_registration}
+use Rattle.scm_model.specs.Notices.{Event, all_noted, event_of_leaving, noted, with_noted, with_registration}
 use Rattle.scm_rules.specs.Valid.{HasShortName}
-use Rattle.scm_rules.specs.Launches.{current_of, notified_of_fall, with_fallen, without_process}
-use Rattle.scm_rules.specs.Reports.{reported_if, notified_of_report}
-use Rattle.scm_runs.proofs.Lists.{found_has}
+use Rattle.scm_rules.specs.Launches.{currents, currents_in, is_by, notified_of_falls, with_fallen, without_process}
+use Rattle.scm_rules.specs.Reports.{is_reporter, notified_of_report, released_by, released_if, reported_if, reported_in, reporter, reporting, is_stopped_by}
+use Rattle.scm_runs.proofs.Lists.{found_has, found_passes}
 use Rattle.scm_runs.proofs.Registered.{AreRegistered, IsOfCaller, events_keep, no_registrations, one_registered, who_joined, who_left}
 use Rattle.scm_runs.proofs.Told.{IsNamed, IsProper, all_named, fall_tells, leaving_tells, report_tells}
 use Rattle.database_lock.specs.Locking.{unlocked}
 use Rattle.service_record.specs.Checks.{check_new}
-use Rattle.start_plan.specs.Decided.{aims_at, is_callers, is_numbered, decided_in}
-use Rattle.scm_rules.specs.Controls.{controlled_if, dequeued_if, order_to, with_control, with_control_taken}
-use Rattle.scm_rules.specs.Launches.{is_launched, launch_failed, launch_taken, launched, process_of, service_of_process}
+use Rattle.start_plan.specs.Decided.{aims_among, is_callers, is_numbered}
+use Rattle.scm_rules.specs.Controls.{controlled_if, dequeued_if, dequeued_in, first_asked, order_to, unasked_if, unasked_in, with_control, with_control_taken}
+use Rattle.scm_rules.specs.Launches.{is_launched, launch_failed, launch_taken, launched, process_of}
 use Rattle.scm_rules.specs.Locks.{lock_done, unlock_done}
 use Rattle.scm_rules.specs.Opening.{CanOpen, IsOpening, automatic_starts, opening, services_from, starts_from}
-use Rattle.scm_rules.specs.Reports.{with_report}
+use Rattle.scm_rules.specs.Reports.{with_report_of}
 use Rattle.scm_rules.specs.Ends.{process_ended}
 use Rattle.scm_rules.specs.Due.{beside, is_due_of, next_due, with_due}
 use Rattle.scm_rules.specs.Failures.{counted_if, failed_by, with_failure}
@@ -51,7 +51,7 @@ use Rattle.scm_rules.specs.Start.{ended, new_plan, with_plan, with_start}
 use Rattle.scm_rules.specs.Needs.{start_order}
 use Rattle.scm_runs.proofs.Ordered.{order_below}
 use Rattle.scm_rules.specs.Steps.{gone, wants_launch}
-use Rattle.scm_rules.specs.Valid.{AreNumbered, HasListed}
+use Rattle.scm_rules.specs.Valid.{AreNumbered, HasListed, IsAskedRight}
 use Rattle.scm_runs.specs.Handles.{AreRights}
 use Rattle.scm_runs.proofs.Deadlines.{AreDeadlines, IsBelow, no_plans_yet, plan_more, plans_decided, plans_fewer, fired as deadlines_fired}
 use Rattle.scm_runs.proofs.Deadlines.{service_more as service_due}
@@ -59,21 +59,21 @@ use Rattle.scm_runs.proofs.Handled.{AreHandled, caller_joined, caller_left as ha
 use Rattle.scm_runs.proofs.Lists.{filter_twice, alone}
 use Rattle.scm_runs.proofs.Locked.{Locked, one_holds, one_more}
 use Rattle.scm_rules.proofs.Needed.{HasNoCycle}
-use Rattle.scm_runs.proofs.Opened.{opened_listed, opened_services}
+use Rattle.scm_runs.proofs.Opened.{opened_asked, opened_listed, opened_services}
+use Rattle.scm_runs.proofs.Founds.{found_all}
+use Rattle.std.proofs.lemmas.Bool.{and_parts}
 use Rattle.scm_runs.proofs.Numbers.{numbered_filter, numbered_push}
 use Rattle.scm_runs.proofs.Plans.{AreBelow, ArePlans, IsKnown, IsPlan, all_weaker, caller_left as plans_left, caller_more, decided, fewer}
 use Rattle.scm_runs.proofs.Plans.{more, no_plans, service_more, has_expired}
 use Rattle.scm_runs.proofs.Processes.{AreProcesses, IsOfControls, beside as processes_beside, command_more, controlled, failed, first_taken}
 use Rattle.scm_runs.proofs.Processes.{no_processes, one_launched, reported as processes_reported, running_first, running_launched}
-use Rattle.scm_runs.proofs.Processes.{starts_kept, starts_more, starts_stay}
+use Rattle.scm_runs.proofs.Processes.{starts_kept, starts_more, starts_stay, still_same, unasked as processes_unasked}
 use Rattle.scm_runs.proofs.Rows.{AreServices, added as row_added, cleared as rows_cleared, fallen, later, marked as rows_marked}
-use Rattle.scm_runs.proofs.Rows.{reported as rows_reported}
+use Rattle.scm_runs.proofs.Rows.{LivesIn, by_parts, reported as rows_reported, unasked as rows_unasked}
 use Rattle.scm_model.specs.Found.{if_found}
-use Rattle.scm_model.proofs.Found.{found_keeps}
-use Rattle.scm_model.specs.declared.flat.Caller.{Caller}
 use Rattle.scm_rules.proofs.Dues.{next_has}
 use Rattle.scm_runs.proofs.Unasked.{raised_by, spent, ticked_by}
-use Rattle.scm_runs.proofs.Failing.{counted, failing_keeps, processes_counted}
+use Rattle.scm_runs.proofs.Failing.{any_failing_keeps, counted, failing_keeps, processes_counted}
 
 -- rows that become due have numbers
 pub record AreDues (next : ℕ) (rows : List Due) : Type 0 where
@@ -126,7 +126,7 @@ opened : (l : Limits) (groups : List (List ℕ)) (configs : List Config) (moment
 opened l groups configs moment can = record {
   services = opened_services l configs can;
   handles = no_handles;
-  processes = no_processes (services_from 1 configs) (opened_listed configs);
+  processes = no_processes (services_from 1 configs) (opened_listed configs) (opened_asked configs);
   plans = no_plans (length configs + 1);
   dues = record { numbered = opened_dues moment (auto_rows (services_from 1 configs) groups); first = omega arith };
   deadlines = no_plans_yet (automatic_starts groups configs moment) (opened_below moment 1 (auto_rows (services_from 1 configs) groups));
@@ -254,7 +254,8 @@ added f config status s names displays checked kind state free = record {
   handles = s.handles;
   processes = processes_beside f.next.process f.processes f.wanted f.services _ s.processes
       (All-push (HasListed f.processes) f.services _ s.processes.listed refl)
-      (starts_more f.processes f.services _ s.processes.starting);
+      (starts_more f.processes f.services _ refl s.processes.starting)
+      (All-push (IsAskedRight f.processes) f.services _ s.processes.asked (λ asked. absurd cc));
   plans = service_more f.next.plan f.next.service f.callers f.plans s.plans;
   dues = s.dues;
   deadlines = s.deadlines;
@@ -267,7 +268,9 @@ marked f number s = record {
   handles = s.handles;
   processes = processes_beside f.next.process f.processes f.wanted f.services _ s.processes
       (All-map (HasListed f.processes) (marked_if number) f.services s.processes.listed)
-      (starts_kept f.processes (marked_if number) f.services (λ process row is. is) s.processes.starting);
+      (starts_kept f.processes (marked_if number) f.services
+      (λ process row. still_same process (marked_if number) row refl refl refl) s.processes.starting)
+      (All-map (IsAskedRight f.processes) (marked_if number) f.services s.processes.asked);
   plans = s.plans;
   dues = s.dues;
   deadlines = s.deadlines;
@@ -282,7 +285,8 @@ cleared f s =
       handles = s.handles;
       processes = processes_beside f.next.process f.processes f.wanted f.services _ s.processes
           (All-filter p (HasListed f.processes) f.services s.processes.listed)
-          (starts_stay f.handles f.processes f.services s.processes.starting);
+          (starts_stay f.handles f.processes f.services s.processes.starting)
+          (All-filter p (IsAskedRight f.processes) f.services s.processes.asked);
       plans = s.plans;
       dues = s.dues;
       deadlines = s.deadlines;
@@ -364,28 +368,14 @@ in_hand f is s = record {
   registrations = s.registrations;
 }
 
--- the starts of a process's service are decided
-starts_decided : (next service : ℕ) (callers : List Caller) (target : Option ℕ) (code : ℕ) (plans : List Plan)
-    → ArePlans next service callers plans
-    → ArePlans next service callers (if_found (λ one. decided_in (aims_at one) code) target plans)
-starts_decided next service callers target code plans s =
-    found_keeps (ArePlans next service callers) (λ one. decided_in (aims_at one) code) target plans s
-    (λ one is. decided next service callers (aims_at one) code plans s)
-
-deadlines_decided : (next : ℕ) (target : Option ℕ) (code : ℕ) (plans : List Plan) (rows : List Due) → AreDeadlines next plans rows
-    → AreDeadlines next (if_found (λ one. decided_in (aims_at one) code) target plans) rows
-deadlines_decided next target code plans rows s =
-    found_keeps (λ (ps : List Plan). AreDeadlines next ps rows) (λ one. decided_in (aims_at one) code) target plans s
-    (λ one is. plans_decided next (aims_at one) code plans rows s)
-
 pub running : (f : Flat) (number pid : ℕ) → Sound f → Sound (launched f number pid)
 running f number pid s = record {
   services = s.services;
   handles = s.handles;
   processes = one_launched f.next.process number pid f.processes f.wanted f.services s.processes;
-  plans = starts_decided f.next.plan f.next.service f.callers (service_of_process f number) 0 f.plans s.plans;
+  plans = decided f.next.plan f.next.service f.callers (aims_among (currents_in number f.services)) 0 f.plans s.plans;
   dues = s.dues;
-  deadlines = deadlines_decided f.next.plan (service_of_process f number) 0 f.plans f.dues s.deadlines;
+  deadlines = plans_decided f.next.plan (aims_among (currents_in number f.services)) 0 f.plans f.dues s.deadlines;
   registrations = s.registrations;
 }
 
@@ -435,9 +425,9 @@ pub failing : (found : Option Service) (f : Flat) → Sound f → Sound (if_foun
 failing found f s = failing_keeps Sound found f s (λ row is. counts f row.number f.moment s)
     (λ service g moment kind is t. due_more g moment service kind is t)
 
--- a service falls
+-- services fall
 registrations_fallen : (f : Flat) (number code : ℕ) → Sound f → AreRegistered f.next.registration f.callers
-    (notified_of_fall number code (current_of f number) f.registrations)
+    (notified_of_falls code (currents number f.services) f.registrations)
 registrations_fallen f number code s =
     fall_tells (AreRegistered f.next.registration f.callers) (events_keep f.next.registration f.callers) number code f.services
     f.registrations (are_named f s) s.registrations
@@ -447,52 +437,37 @@ not_running f number code s = record {
   services = fallen f.next.service f.next.process number code f.services s.services;
   handles = s.handles;
   processes = failed f.next.process number code f.processes f.wanted f.services s.processes;
-  plans = starts_decided f.next.plan f.next.service f.callers (service_of_process f number) code f.plans s.plans;
+  plans = decided f.next.plan f.next.service f.callers (aims_among (currents_in number f.services)) code f.plans s.plans;
   dues = s.dues;
-  deadlines = deadlines_decided f.next.plan (service_of_process f number) code f.plans f.dues s.deadlines;
+  deadlines = plans_decided f.next.plan (aims_among (currents_in number f.services)) code f.plans f.dues s.deadlines;
   registrations = registrations_fallen f number code s;
 }
 
--- a process that runs tells how its service stands, and registrations are told of it
-retold_report : (f : Flat) (number : ℕ) (report : Status) (rows : List Registration) → is_launched (process_of f number) ≡ true → Sound f
+-- a service whose process runs takes a report, and registrations are notified of it
+retold_report : (f : Flat) (number by : ℕ) (report : Status) (rows : List Registration) → All (LivesIn number by) f.services
+    → is_launched (process_of f by) ≡ true → Sound f
     → AreRegistered f.next.registration f.callers rows
     → Sound (record f { services = map (reported_if number report) f.services; registrations = rows })
-retold_report f number report rows runs s told = record {
-  services = rows_reported f.next.service f.next.process number report f.services
-      (running_first f.next.process number f.processes (process_of f number) s.processes.numbered refl runs) s.services;
+retold_report f number by report rows lives runs s told = record {
+  services = rows_reported f.next.service f.next.process number by report f.services
+      (running_first f.next.process by f.processes (process_of f by) s.processes.numbered refl runs) lives s.services;
   handles = s.handles;
-  processes = processes_reported f.next.process number report f.processes f.wanted f.services
-      (running_launched number f.processes (process_of f number) s.processes.numbered.rising refl runs) s.processes;
+  processes = processes_reported f.next.process number by report f.processes f.wanted f.services lives
+      (running_launched by f.processes (process_of f by) s.processes.numbered.rising refl runs) s.processes;
   plans = s.plans;
   dues = s.dues;
   deadlines = s.deadlines;
   registrations = told;
 }
 
--- the service that is found takes it
-pub reported_by : (f : Flat) (report : Status) (row : Service) → IsNamed row → is_launched (process_of f row.process) ≡ true → Sound f
-    → Sound (record f {
-      services = map (reported_if row.process report) f.services;
-      registrations = notified_of_report f.processes report (Some row) f.registrations;
-    })
-reported_by f report row is runs s =
-    retold_report f row.process report (notified_of_report f.processes report (Some row) f.registrations) runs s
-    (report_tells (AreRegistered f.next.registration f.callers) (events_keep f.next.registration f.callers) f.processes report row
-    f.registrations is s.registrations)
+-- no other service has the number of one that is found
+pub found_alone : (f : Flat) (p : Service → Bool) (one : Service) → Sound f → find p f.services ≡ Some one
+    → All (λ (row : Service). row.number ≡ one.number → row ≡ one) f.services
+found_alone f p one s is =
+    found_has (λ (row : Service). All (λ (other : Service). other.number ≡ row.number → other ≡ row) f.services) p one f.services
+    (alone (λ (row : Service). row.number) f.services s.services.numbered.rising) is
 
-pub reported : (f : Flat) (number : ℕ) (report : Status) → is_launched (process_of f number) ≡ true → Sound f
-    → Sound (with_report f number report)
-reported f number report runs s =
-    failing (failed_by report (current_of f number)) _
-    (retold_report f number report (notified_of_report f.processes report (current_of f number) f.registrations) runs s
-    (found_keeps (AreRegistered f.next.registration f.callers) (λ (row : Service). notified_of_move
-    (pid_of f.processes (reported_if row.process report row)) row (reported_if row.process report row))
-    (current_of f number) f.registrations s.registrations
-    (λ row is. report_tells (AreRegistered f.next.registration f.callers)
-    (events_keep f.next.registration f.callers) f.processes report row f.registrations
-    (found_has IsNamed (λ (row : Service). row.process == number) row f.services (are_named f s) is) s.registrations)))
-
--- a process leaves, and its service falls
+-- a process leaves, and its services fall
 pub gone_with : (f : Flat) (number code : ℕ) → Sound f → Sound (without_process (with_fallen f number code) number)
 gone_with f number code s = record {
   services = fallen f.next.service f.next.process number code f.services s.services;
@@ -506,9 +481,8 @@ gone_with f number code s = record {
 
 pub no_more : (f : Flat) (number : ℕ) → Sound f → Sound (process_ended f number).flat
 no_more f number s =
-    failing_keeps (λ (g : Flat). Sound (without_process g number)) (current_of f number) (with_fallen f number 1067)
-    (gone_with f number 1067 s)
-    (λ row is. counts (without_process (with_fallen f number 1067) number) row.number f.moment (gone_with f number 1067 s))
+    any_failing_keeps (λ (g : Flat). Sound (without_process g number)) (currents number f.services) (with_fallen f number 1067)
+    (gone_with f number 1067 s) (λ row g t. counts (without_process g number) row.number g.moment t)
     (λ service g moment kind is t. due_more (without_process g number) moment service kind is t)
 
 -- ## Controls
@@ -535,6 +509,57 @@ pub controls_fewer : (number : ℕ) → IsOfControls (dequeued_if number)
 controls_fewer number row =
     elim (row.number == number) as (λ b. cond b (record row { controls = drop 1 row.controls }) row ≡
     record row { controls = (cond b (record row { controls = drop 1 row.controls }) row).controls }) [ true ↦ refl | false ↦ refl ]
+
+pub controls_released : (process service : ℕ) → IsOfControls (released_if process service)
+controls_released process service row =
+    let left = filter (λ (order : Order). not (order.service == service)) row.controls in
+    elim (row.number == process && row.shared) as (λ b. cond b (record row { controls = left }) row
+    ≡ record row { controls = (cond b (record row { controls = left }) row).controls }) [ true ↦ refl | false ↦ refl ]
+
+released : (f : Flat) (report : Status) (row : Service) → Sound f → Sound (record f { processes = released_by report row f.processes })
+released f report row s =
+    elim (is_stopped_by report row) as (λ b. Sound (record f {
+      processes = cond b (map (released_if row.process row.number) f.processes) f.processes;
+    })) [ true ↦ of_controls f (released_if row.process row.number) (controls_released row.process row.number) s | false ↦ s ]
+
+-- the service that is found takes the report of its process
+pub reported_by : (f : Flat) (report : Status) (row : Service) → IsNamed row
+    → All (λ (r : Service). r.number ≡ row.number → r ≡ row) f.services → is_launched (process_of f row.process) ≡ true → Sound f
+    → Sound (record f {
+      services = map (reported_if row.number report) f.services;
+      processes = released_by report row f.processes;
+      registrations = notified_of_report f.processes report (Some row) f.registrations;
+    })
+reported_by f report row is only runs s =
+    let g = record f {
+      services = map (reported_if row.number report) f.services;
+      registrations = notified_of_report f.processes report (Some row) f.registrations;
+    } in
+    released g report row (retold_report f row.number row.process report (notified_of_report f.processes report (Some row) f.registrations)
+    (λ k d lt e. ap (λ (r : Service). r.process) (only k d lt (eqb-true (get_or f.services k d).number row.number e))) runs s
+    (report_tells (AreRegistered f.next.registration f.callers) (events_keep f.next.registration f.callers) f.processes report row
+    f.registrations is s.registrations))
+
+-- the service that a report names has the process
+pub reporting_by : (f : Flat) (process service : ℕ) (row : Service) → reporting f process service ≡ Some row
+    → ((row.number == reporter f process service) ≡ true) × (is_by process row ≡ true)
+reporting_by f process service row is =
+    and_parts (row.number == reporter f process service) (is_by process row)
+    (found_passes (is_reporter f process service) row f.services is)
+
+pub reported : (f : Flat) (process service : ℕ) (report : Status) → is_launched (process_of f process) ≡ true → Sound f
+    → Sound (with_report_of f (reporting f process service) report)
+reported f process service report runs s =
+    failing (failed_by report (reporting f process service)) _
+    (found_all (λ found. Sound (record f {
+      services = reported_in report found f.services;
+      processes = if_found (released_by report) found f.processes;
+      registrations = notified_of_report f.processes report found f.registrations;
+    })) (reporting f process service) s
+    (λ row is. reported_by f report row
+    (found_has IsNamed (is_reporter f process service) row f.services (are_named f s) is)
+    (found_alone f (is_reporter f process service) row s is)
+    (subst (λ n. is_launched (process_of f n) ≡ true) (sym (by_parts process row (reporting_by f process service row is).1).1) runs) s))
 
 pub control_waits : (l : Limits) (f : Flat) (number : ℕ) (order : Order) → Sound f → Sound (with_control l f number order)
 control_waits l f number order s = of_controls f (controlled_if l.controls number order) (controls_more l.controls number order) s
@@ -577,8 +602,25 @@ triggers l f caller subtype s = raised_by Sound l subtype (record {
   stops = λ g row action there is stops gets t. control_waits l g row.process (order_to row.number SERVICE_CONTROL_STOP) t;
 }) f caller s
 
+-- a service is asked no more
+unasks : (f : Flat) (number : ℕ) → Sound f → Sound (record f { services = map (unasked_if number) f.services })
+unasks f number s = record {
+  services = rows_unasked f.next.service f.next.process number f.services s.services;
+  handles = s.handles;
+  processes = processes_unasked f.next.process number f.processes f.wanted f.services s.processes;
+  plans = s.plans;
+  dues = s.dues;
+  deadlines = s.deadlines;
+  registrations = s.registrations;
+}
+
 pub control_sent : (f : Flat) (number : ℕ) → Sound f → Sound (with_control_taken f number)
-control_sent f number s = of_controls f (dequeued_if number) (controls_fewer number) s
+control_sent f number s =
+    found_all (λ found. Sound (record f {
+      services = unasked_in found f.services;
+      processes = dequeued_in found number f.processes;
+    })) (first_asked f number) (of_controls f (dequeued_if number) (controls_fewer number) s)
+    (λ row is. unasks f row.number s)
 
 -- ## Services that leave
 

@@ -18,15 +18,16 @@ use Rattle.scm_model.specs.declared.calls.Request.{Request}
 use Rattle.scm_model.specs.declared.calls.Request.TheVariants as request
 use Rattle.scm_model.specs.declared.steps.Kept.{Kept}
 use Rattle.scm_model.specs.declared.steps.Step.{Step}
-use Rattle.scm_model.specs.declared.steps.Step.TheVariants.{Call, LaunchFailed, Report, Ended, Tick, Raised}
+use Rattle.scm_model.specs.declared.steps.Step.TheVariants.{Call, ControlTaken, LaunchFailed, Report, Ended, Tick, Raised}
 use Rattle.scm_model.specs.Changes.{configured_if, marked_if, with_moment}
 use Rattle.scm_model.specs.Purge.{leaves, purged}
 use Rattle.scm_model.specs.Ready.{is_fulfilled, is_running, is_up}
 use Rattle.start_plan.specs.Settle.{settled}
 use Rattle.start_plan.specs.Started.{IsOnce, IsStarted}
 use Rattle.start_plan.proofs.Enterings.{enters_the_ready}
-use Rattle.scm_rules.specs.Launches.{current_of, fallen_if, with_fallen}
-use Rattle.scm_rules.specs.Reports.{reported_if}
+use Rattle.scm_rules.specs.Controls.{first_asked, unasked_if}
+use Rattle.scm_rules.specs.Launches.{currents, fallen_if, with_fallen}
+use Rattle.scm_rules.specs.Reports.{reported_if, reporting}
 use Rattle.scm_rules.specs.Steps.{at_moment, effect_of, finished_step, may}
 use Rattle.scm_rules.specs.Verdicts.{call_of, done_of, told_refused, verdict}
 use Rattle.scm_runs.specs.Starts.{IsStarting, LawOfStarts}
@@ -35,7 +36,7 @@ use Rattle.scm_runs.proofs.Calls.{by_verdict, of_effect}
 use Rattle.scm_runs.proofs.Effects.{processes_low, step_settled}
 use Rattle.scm_runs.proofs.Frames.{finished_keeps}
 use Rattle.scm_runs.proofs.Lists.{any_at}
-use Rattle.scm_runs.proofs.Rows.{fallen_or, reported_or}
+use Rattle.scm_runs.proofs.Rows.{fallen_or, reported_or, unasked_or}
 use Rattle.scm_runs.proofs.Settling.{IsEntered, IsSettled}
 use Rattle.scm_runs.proofs.Sound.{Sound}
 use Rattle.std.proofs.lemmas.Bool.{or_right}
@@ -44,7 +45,7 @@ use Rattle.scm_runs.proofs.Founds.{opened_keeps, started_keeps, notify_apart}
 use Rattle.scm_model.specs.Rows.{held_service}
 use Rattle.scm_rules.specs.Change.{new_config}
 use Rattle.scm_rules.specs.Failures.{failed_by}
-use Rattle.scm_runs.proofs.Failing.{failing_rows}
+use Rattle.scm_runs.proofs.Failing.{all_failing_rows, failing_rows}
 use Rattle.scm_runs.proofs.Unasked.{raised_apart, ticked_apart}
 use Rattle.scm_rules.specs.Change2.{level_config}
 
@@ -74,11 +75,11 @@ old_change f number config =
       | false ↦ all_old f.services k d lt
     ]))
 
-old_reported : (f : Flat) (process : ℕ) (report : Status) → All (HasOld f.services) (map (reported_if process report) f.services)
-old_reported f process report =
-    All-map (HasOld f.services) (reported_if process report) f.services
+old_reported : (f : Flat) (number : ℕ) (report : Status) → All (HasOld f.services) (map (reported_if number report) f.services)
+old_reported f number report =
+    All-map (HasOld f.services) (reported_if number report) f.services
     (λ k d lt. (let row = get_or f.services k d in
-    reported_or (HasOld f.services) process report row
+    reported_or (HasOld f.services) number report row
     (λ e t. elim (report.state == 1) as (λ b. HasOld f.services (record row { status = report; process = cond b 0 row.process }))
     [ true ↦ refl | false ↦ all_old f.services k d lt ]) (all_old f.services k d lt)))
 
@@ -94,8 +95,8 @@ old_done l f caller (request.Delete handle) =
     (λ row is. All-map (HasOld f.services) (marked_if row.number) f.services (all_old f.services))
 old_done l f caller (request.SetStatus handle status) =
     failing_rows (HasOld f.services) (λ row failures last has. has) (failed_by status (held_service f caller handle)) _
-    (found_keeps (All (HasOld f.services)) (λ (row : Service). map (reported_if row.process status))
-    (held_service f caller handle) f.services (all_old f.services) (λ row is. old_reported f row.process status))
+    (found_keeps (All (HasOld f.services)) (λ (row : Service). map (reported_if row.number status))
+    (held_service f caller handle) f.services (all_old f.services) (λ row is. old_reported f row.number status))
 old_done l f caller (request.Change change) =
     found_keeps (All (HasOld f.services)) (λ (row : Service). map (configured_if row.number (new_config f change row)))
     (held_service f caller change.handle) f.services (all_old f.services)
@@ -127,11 +128,17 @@ old_effect : (l : Limits) (f : Flat) (moment : ℕ) (step : Step) → All (HasOl
 old_effect l f moment (Call caller asked append) = old_call l (with_moment f moment) caller asked append
 old_effect l f moment (LaunchFailed process code) = old_fallen f process code
 old_effect l f moment (Report process service status) =
-    failing_rows (HasOld f.services) (λ row failures last has. has) (failed_by status (current_of (with_moment f moment) process)) _
-    (old_reported f process status)
+    failing_rows (HasOld f.services) (λ row failures last has. has) (failed_by status (reporting (with_moment f moment) process service)) _
+    (found_keeps (All (HasOld f.services)) (λ (row : Service). map (reported_if row.number status))
+    (reporting f process service) f.services (all_old f.services) (λ row is. old_reported f row.number status))
 old_effect l f moment (Ended process) =
-    failing_rows (HasOld f.services) (λ row failures last has. has) (current_of (with_moment f moment) process)
+    all_failing_rows (HasOld f.services) (λ row failures last has. has) (currents process f.services)
     (with_fallen (with_moment f moment) process 1067) (old_fallen f process 1067)
+old_effect l f moment (ControlTaken process) =
+    found_keeps (All (HasOld f.services)) (λ (row : Service). map (unasked_if row.number)) (first_asked f process) f.services
+    (all_old f.services)
+    (λ row is. All-map (HasOld f.services) (unasked_if row.number) f.services (λ k d lt. unasked_or (HasOld f.services) row.number
+    (get_or f.services k d) (all_old f.services k d lt) (all_old f.services k d lt)))
 old_effect l f moment Tick = ticked_apart (λ (g : Flat). All (HasOld f.services) g.services) l (with_moment f moment) (all_old f.services)
 old_effect l f moment (Raised caller subtype) = raised_apart (λ (g : Flat). All (HasOld f.services) g.services) l
     (with_moment f moment) caller subtype (all_old f.services)

@@ -3,7 +3,7 @@ use Rattle.std.proofs.Common.{ℕ, ◌≡◌, ◌∙◌, ◌≤◌, ◌==◌, �
 use Rattle.std.proofs.Common.{find, map, sym, refl, subst, arith}
 use Rattle.std.specs.Prelude.{All}
 use Rattle.std.proofs.lemmas.Bool.{or_parts}
-use Rattle.std.proofs.lemmas.List.Elements.{All-head, All-tail}
+use Rattle.std.proofs.lemmas.List.Elements.{All-filter, All-head, All-tail}
 use Rattle.scm_model.proofs.Found.{found_keeps}
 use Rattle.scm_model.specs.Notices.{Event, all_noted, event_of_creation, event_of_leaving, event_of_mark, event_of_state, noted, notified}
 use Rattle.scm_model.specs.Notices.{pid_of, takes_event, notified_of_move}
@@ -14,10 +14,10 @@ use Rattle.scm_model.specs.declared.flat.Service.{Service}
 use Rattle.scm_model.specs.declared.flat.Status.{Status}
 use Rattle.service_record.specs.Checks.{check_new, has_bad_names, is_longer}
 use Rattle.start_plan.specs.Entered.{started_if, notified_of_start}
-use Rattle.scm_rules.specs.Launches.{fallen_if, notified_of_fall}
+use Rattle.scm_rules.specs.Launches.{currents, fallen, is_by, notified_of_falls}
 use Rattle.scm_rules.specs.Reports.{reported_if}
 use Rattle.scm_runs.proofs.Lists.{found_has}
-use Rattle.scm_runs.proofs.Rows.{AreServices, IsMild, falls_mildly, reports_mildly, starts_mildly}
+use Rattle.scm_runs.proofs.Rows.{AreServices, IsMild, reports_mildly, starts_mildly}
 
 -- ## Events
 
@@ -106,22 +106,26 @@ start_tells P tells number process services rows named p =
     (named_still (started_if number process) (starts_mildly number process) row
     (found_has IsNamed (λ (row : Service). row.number == number) row services named is)) p)
 
+-- of services that fall, one after another
+pub falls_tell : (P : List Registration → Type 0) → Tells P → (code : ℕ) (services : List Service) (rows : List Registration)
+    → All IsNamed services → P rows → P (notified_of_falls code services rows)
+falls_tell P tells code [] rows named p = p
+falls_tell P tells code (row ∷ services) rows named p =
+    let here = All-head IsNamed row services named in
+    falls_tell P tells code services (notified_of_move 0 row (fallen code row) rows) (All-tail IsNamed row services named)
+    (move_tells P tells 0 row (fallen code row) rows (record { number = here.number; short = here.short }) p)
+
 pub fall_tells : (P : List Registration → Type 0) → Tells P → (process code : ℕ) (services : List Service) (rows : List Registration)
-    → All IsNamed services → P rows
-    → P (notified_of_fall process code (find (λ (row : Service). row.process == process) services) rows)
+    → All IsNamed services → P rows → P (notified_of_falls code (currents process services) rows)
 fall_tells P tells process code services rows named p =
-    found_keeps P (λ (row : Service). notified_of_move 0 row (fallen_if process code row))
-    (find (λ (row : Service). row.process == process) services) rows p
-    (λ row is. move_tells P tells 0 row (fallen_if process code row) rows
-    (named_still (fallen_if process code) (falls_mildly process code) row
-    (found_has IsNamed (λ (row : Service). row.process == process) row services named is)) p)
+    falls_tell P tells code (currents process services) rows (All-filter (is_by process) IsNamed services named) p
 
 pub report_tells : (P : List Registration → Type 0) → Tells P → (processes : List Process) (report : Status) (row : Service)
     (rows : List Registration) → IsNamed row → P rows
-    → P (notified_of_move (pid_of processes (reported_if row.process report row)) row (reported_if row.process report row) rows)
+    → P (notified_of_move (pid_of processes (reported_if row.number report row)) row (reported_if row.number report row) rows)
 report_tells P tells processes report row rows named p =
-    move_tells P tells (pid_of processes (reported_if row.process report row)) row (reported_if row.process report row) rows
-    (named_still (reported_if row.process report) (reports_mildly row.process report) row named) p
+    move_tells P tells (pid_of processes (reported_if row.number report row)) row (reported_if row.number report row) rows
+    (named_still (reported_if row.number report) (reports_mildly row.number report) row named) p
 
 pub mark_tells : (P : List Registration → Type 0) → Tells P → (processes : List Process) (row : Service) (rows : List Registration)
     → IsNamed row → P rows

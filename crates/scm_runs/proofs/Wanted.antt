@@ -6,7 +6,8 @@ use Rattle.scm_model.specs.declared.flat.Limits.{Limits}
 use Rattle.scm_model.specs.declared.flat.Process.{Process}
 use Rattle.scm_model.specs.declared.steps.Step.TheVariants.{LaunchTaken}
 use Rattle.scm_model.specs.Changes.{with_moment}
-use Rattle.start_plan.specs.Entered.{wanted_process}
+use Rattle.scm_model.specs.Rows.{service_of}
+use Rattle.start_plan.specs.Entered.{is_shared_by, wanted_process}
 use Rattle.start_plan.proofs.Enterings.{all_units}
 use Rattle.start_plan.proofs.Keeps.{Keeps, keeps_all}
 use Rattle.scm_rules.specs.Launches.{first_wanted, is_taken, launch_taken, process_of, taken_if}
@@ -29,7 +30,7 @@ IsTaken number f = is_taken (process_of f number) ≡ true
 stays_taken : (l : Limits) (number : ℕ) → Keeps l (IsTaken number) (λ plan. Unit {0})
 stays_taken l number = record {
   enters = λ f plan service words entry taken.
-      ap is_taken (find_more (λ (row : Process). row.number == number) f.processes (wanted_process f.next.process service ∷ [])
+      ap is_taken (find_more (λ (row : Process). row.number == number) f.processes (wanted_process f.next.process service (is_shared_by (service_of f service)) ∷ [])
       (taken_listed (process_of f number) taken)) ∙ taken;
   tries = λ f plan service entry q. tt;
   drops = λ plan service rest code q. tt;

@@ -14,7 +14,9 @@ use Rattle.scm_model.specs.declared.steps.Step.{Step}
 use Rattle.scm_model.specs.declared.steps.Step.TheVariants.{Call, Report, Ended}
 use Rattle.scm_model.specs.Rows.{held_service}
 use Rattle.scm_model.specs.Purge.{leaves}
+use Rattle.scm_model.specs.Processes.{is_by}
 use Rattle.scm_rules.specs.Failures.{is_failure}
+use Rattle.scm_rules.specs.Reports.{is_reporter}
 use Rattle.scm_rules.specs.Steps.{finished_step}
 use Rattle.scm_model.specs.Entries.{Entry}
 use Rattle.scm_model.specs.declared.codes.TheConstants.{SERVICE_STOPPED}
@@ -68,11 +70,6 @@ is_number_of (Some row) number = number == row.number
 abbrev pub is_handle_of : Flat → ℕ → ℕ → ℕ → Bool
 is_handle_of f caller handle number = is_number_of (held_service f caller handle) number
 
--- whether a service that was found has the process
-abbrev pub is_process_of : Option Service → ℕ → Bool
-is_process_of None process = false
-is_process_of (Some row) process = process == row.process
-
 -- whether a step is a Delete of the service with code 0
 abbrev pub marks : Flat → Step → Answer → ℕ → Bool
 marks f (Call caller (request.Delete handle) append) told number = succeeds told && is_handle_of f caller handle number
@@ -86,21 +83,20 @@ configures f step told number = false
 
 -- whether a step is a report of the service's current process, its own or by a call
 abbrev pub is_report : Flat → Step → Service → Bool
-is_report f (Report process service status) row = row.process == process
-is_report f (Call caller (request.SetStatus handle status) append) row = is_process_of (held_service f caller handle) row.process
+is_report f (Report process service status) row = is_reporter f process service row
+is_report f (Call caller (request.SetStatus handle status) append) row = is_handle_of f caller handle row.number
 is_report f step row = false
 
 -- whether a step is a failure of the service: its current process ends, or a report that counts as one stops it, its own or by a call
 abbrev pub fails : Flat → Step → Service → Bool
-fails f (Ended process) row = row.process == process
-fails f (Report process service status) row = row.process == process && is_failure status row
-fails f (Call caller (request.SetStatus handle status) append) row = is_process_of (held_service f caller handle) row.process
-    && is_failure status row
+fails f (Ended process) row = is_by process row
+fails f (Report process service status) row = is_reporter f process service row && is_failure status row
+fails f (Call caller (request.SetStatus handle status) append) row = is_handle_of f caller handle row.number && is_failure status row
 fails f step row = false
 
 -- a service after a step is the one before it: only its Delete marks it, and only its changes give it another configuration, with another
 -- type in its status, under the same name; as long as its current process is the same and reports nothing, so is its status but for the
--- type; and only its failures are counted
+-- type; only its failures are counted; and whether it is asked to start may change
 pub record IsSameService (f : Flat) (step : Step) (told : Answer) (old new : Service) : Type 0 where
   pub row : new ≡ record old {
     config = new.config;
@@ -108,6 +104,7 @@ pub record IsSameService (f : Flat) (step : Step) (told : Answer) (old new : Ser
     process = new.process;
     failures = new.failures;
     last_failure = new.last_failure;
+    asked = new.asked;
     marked = old.marked || marks f step told old.number;
   }
   pub state : new.process ≡ old.process → is_report f step old ≡ false → new.status ≡ record old.status { kind = new.status.kind }
