@@ -107,12 +107,12 @@ unmapped n change (row ∷ rows) all = rw (ne_eqb row.number n (omega (arith, al
 
 -- a service that changes
 pub replaced : (p : Service → Bool) (rows : List Service) (old : Service) (n : ℕ) (change : Service → Service) (passes : Bool)
-    → ((row : Service) → p (change row) ≡ passes) → ((row : Service) → (change row).number ≡ row.number)
+    → p (change old) ≡ passes → (change old).number ≡ old.number
     → AreRisingBy number_of rows → find (has_number n) rows ≡ Some old
     → numbers_if p (map (λ (row : Service). cond (has_number n row) (change row) row) rows) ≡ cond passes
     (with_number (without_number (numbers_if p rows) n) n) (without_number (numbers_if p rows) n)
-replaced p [] old n change passes is_passing numbers rising found = absurd (cc found)
-replaced p (row ∷ rows) old n change passes is_passing numbers rising found =
+replaced p [] old n change passes is_passing same rising found = absurd (cc found)
+replaced p (row ∷ rows) old n change passes is_passing same rising found =
     elim (cases_Bool (has_number n row)) [
       | inl is ↦
           let number : row.number ≡ n = eqb-true row.number n is in
@@ -123,16 +123,19 @@ replaced p (row ∷ rows) old n change passes is_passing numbers rising found =
             | true ↦ rw is (without_above n (numbers_if p rows) above)
             | false ↦ without_above n (numbers_if p rows) above
           ]) in
-          rw (is, unmapped n change rows later, rest, is_passing row, with_first n (numbers_if p rows) above)
+          let here : row ≡ old = cc (sym (ap (λ b. cond b (Some row) (find (has_number n) rows)) is) ∙ found) in
+          let passing : p (change row) ≡ passes = ap (λ (r : Service). p (change r)) here ∙ is_passing in
+          let kept : (change row).number ≡ row.number = subst (λ (r : Service). (change r).number ≡ r.number) (sym here) same in
+          rw (is, unmapped n change rows later, rest, passing, with_first n (numbers_if p rows) above)
           (elim passes as (λ b. map number_of (cond b (change row ∷ filter p rows) (filter p rows)) ≡ cond b (n ∷ numbers_if p rows)
           (numbers_if p rows)) [
-            | true ↦ ap (λ m. m ∷ numbers_if p rows) (numbers row ∙ number)
+            | true ↦ ap (λ m. m ∷ numbers_if p rows) (kept ∙ number)
             | false ↦ refl
           ])
       | inr other ↦
           let next : find (has_number n) rows ≡ Some old = sym (ap (λ b. cond b (Some row) (find (has_number n) rows)) other) ∙ found in
           let less : row.number < n = found_above row.number n rows old rising.0 next in
-          let step = replaced p rows old n change passes is_passing numbers rising.1 next in
+          let step = replaced p rows old n change passes is_passing same rising.1 next in
           rw other (elim (p row) as (λ b. map number_of (cond b (row ∷ filter p
           (map (λ (r : Service). cond (has_number n r) (change r) r) rows))
           (filter p (map (λ (r : Service). cond (has_number n r) (change r) r) rows)))
@@ -161,3 +164,33 @@ same_members p change (row ∷ rows) numbers same =
           ∙ ap (λ rest. row.number ∷ rest) (same_members p change rows numbers same)
       | false ↦ same_members p change rows numbers same
     ])
+
+-- one service changes, and passes as it did
+pub same_at : (p : Service → Bool) (rows : List Service) (old : Service) (n : ℕ) (change : Service → Service)
+    → p (change old) ≡ p old → (change old).number ≡ old.number
+    → AreRisingBy number_of rows → find (has_number n) rows ≡ Some old
+    → numbers_if p (map (λ (row : Service). cond (has_number n row) (change row) row) rows) ≡ numbers_if p rows
+same_at p [] old n change passes same rising found = refl
+same_at p (row ∷ rows) old n change passes same rising found =
+    elim (cases_Bool (has_number n row)) [
+      | inl is ↦
+          let later = subst (λ m. AllByRecursion (λ (other : Service). m < other.number) rows) (eqb-true row.number n is) rising.0 in
+          let here : row ≡ old = cc (sym (ap (λ b. cond b (Some row) (find (has_number n) rows)) is) ∙ found) in
+          let passing : p (change row) ≡ p row = subst (λ (r : Service). p (change r) ≡ p r) (sym here) passes in
+          let kept : (change row).number ≡ row.number = subst (λ (r : Service). (change r).number ≡ r.number) (sym here) same in
+          rw (is, unmapped n change rows later, passing)
+          (elim (p row) as (λ b. map number_of (cond b (change row ∷ filter p rows) (filter p rows))
+          ≡ map number_of (cond b (row ∷ filter p rows) (filter p rows))) [
+            | true ↦ ap (λ m. m ∷ numbers_if p rows) kept
+            | false ↦ refl
+          ])
+      | inr other ↦
+          let next : find (has_number n) rows ≡ Some old = sym (ap (λ b. cond b (Some row) (find (has_number n) rows)) other) ∙ found in
+          let rest = same_at p rows old n change passes same rising.1 next in
+          rw other (elim (p row) as (λ b. map number_of (cond b (row ∷ filter p (map (λ (r : Service). cond (has_number n r) (change r) r) rows))
+          (filter p (map (λ (r : Service). cond (has_number n r) (change r) r) rows)))
+          ≡ map number_of (cond b (row ∷ filter p rows) (filter p rows))) [
+            | true ↦ ap (λ ns. row.number ∷ ns) rest
+            | false ↦ rest
+          ])
+    ]

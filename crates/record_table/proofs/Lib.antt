@@ -1,5 +1,5 @@
 pub mod Finding
 pub mod Groups
 pub mod Moving
+pub mod Processes
 pub mod Rising
-pub mod Walking

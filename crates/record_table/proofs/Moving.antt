@@ -7,6 +7,8 @@ use Rattle.scm_model.specs.declared.flat.Config.{Config}
 use Rattle.scm_model.specs.declared.flat.Service.{Service}
 use Rattle.number_lists.specs.Rising.{with_number, without_number}
 use Rattle.number_lists.specs.UnderName.{UnderName, at, Changes}
+use Rattle.number_pairs.specs.declared.pairs.Pair.{Pair}
+use Rattle.scm_text.specs.Roomed.{Roomed}
 use Rattle.std.specs.Prelude.{IfSome}
 use Rattle.row_slab.specs.Rowed.{Rowed, AreRisingBy, altered_at}
 use Rattle.record_table.specs.declared.texts.KeptTexts.{KeptTexts}
@@ -57,8 +59,8 @@ module _ (text_of : Config → List ℕ) where
   exchanged_text before after rows old n config lists rising found moves q =
       moves q ∙ ap (relisted (text_of old.config) (text_of config) n q) (lists q)
       ∙ ap (λ l. cond (same_text (text_of config) q) (with_number l n) l) (less rows old n rising found q)
-      ∙ sym (groups.replaced (has_text q) rows old n (with_config config) (same_text (text_of config) q) (λ (row : Service). refl)
-      (λ (row : Service). refl) rising found)
+      ∙ sym (groups.replaced (has_text q) rows old n (with_config config) (same_text (text_of config) q) refl refl rising
+      found)
 
   lives_on : (lists : UnderName) (rows : List Service) (change : Service → Service) → Indexes has_text lists rows
       → ((row : Service) → (change row).number ≡ row.number) → ((row : Service) → (change row).config ≡ row.config)
@@ -141,7 +143,7 @@ still_of old new rows same lists = record {
 pub still_room : (spare : Option Spare) (table : Inside) (rows : Rowed Service) → rows.room ≡ table.rows.room → IfSome spare (HasRoom table)
     → IfSome spare (HasRoom (record table { rows = rows }))
 still_room None table rows same had = tt
-still_room (Some row) table rows same had = record { rows = rw same had.rows; texts = had.texts }
+still_room (Some row) table rows same had = record { rows = rw same had.rows; processes = had.processes; texts = had.texts }
 
 -- there is room under the texts of a row as long as no text loses room
 pub still_texts : (spare : Option Spare) (old new : KeptTexts) → KeepRooms old new → IfSome spare (HasTexts old)
@@ -154,8 +156,13 @@ still_texts (Some row) old new rooms had = record {
 }
 
 -- there is room for a row where there is no less, and under its texts
-pub more_room : (spare : Option Spare) (table : Inside) (rows : Rowed Service) (texts : KeptTexts) → table.rows.room ≤ rows.room
+pub more_room : (spare : Option Spare) (table : Inside) (rows : Rowed Service) (texts : KeptTexts) (processes : Roomed Pair)
+    → table.rows.room ≤ rows.room → table.processes.room ≤ processes.room
     → (IfSome spare (HasTexts table.texts) → IfSome spare (HasTexts texts)) → IfSome spare (HasRoom table)
-    → IfSome spare (HasRoom (record table { rows = rows; texts = texts }))
-more_room None table rows texts more kept had = tt
-more_room (Some row) table rows texts more kept had = record { rows = omega (arith, more, had.rows); texts = kept had.texts }
+    → IfSome spare (HasRoom (record table { rows = rows; texts = texts; processes = processes }))
+more_room None table rows texts processes more too kept had = tt
+more_room (Some row) table rows texts processes more too kept had = record {
+  rows = omega (arith, more, had.rows);
+  processes = omega (arith, too, had.processes);
+  texts = kept had.texts;
+}

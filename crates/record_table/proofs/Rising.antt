@@ -1,9 +1,9 @@
 -- Services in order of number, as they come, go and change.
-use Rattle.std.proofs.Common.{ℕ, zero, suc, ◌≡◌, ◌<◌, Bool, true, false, cond, List, [], ◌∷◌, ◌++◌, filter, map, eqb, arith, refl}
+use Rattle.std.proofs.Common.{ℕ, ◌≡◌, ◌<◌, Bool, true, false, cond, List, [], ◌∷◌, ◌++◌, filter, map, eqb, arith, refl}
 use Rattle.std.specs.List.{AllByRecursion}
 use Rattle.scm_model.specs.declared.flat.Service.{Service}
 use Rattle.row_slab.specs.Rowed.{AreRisingBy, altered_at}
-use Rattle.record_table.specs.Recorded.{number_of, changed_to}
+use Rattle.record_table.specs.Recorded.{number_of}
 
 pub rising_push : (rows : List Service) (new : Service) → AreRisingBy number_of rows
     → AllByRecursion (λ (row : Service). row.number < new.number) rows → AreRisingBy number_of (rows ++ new ∷ [])
@@ -49,21 +49,3 @@ altered_number n change same row = elim (eqb row.number n) as (λ b. (cond b (ch
   | true ↦ same row
   | false ↦ refl
 ]
-
--- as the first of the services are changed
-pub rising_to : (change : Service → Service) → ((row : Service) → (change row).number ≡ row.number) → (i : ℕ) (rows : List Service)
-    → AreRisingBy number_of rows → AreRisingBy number_of (changed_to i change rows)
-rising_to change same zero rows rising = rising
-rising_to change same (suc i) [] rising = tt
-rising_to change same (suc i) (row ∷ rows) rising = (by i rows rising.0, rising_to change same i rows rising.1)
-  where
-    kept : (rs : List Service) → AllByRecursion (λ (other : Service). row.number < other.number) rs
-        → AllByRecursion (λ (other : Service). (change row).number < other.number) rs
-    kept [] all = tt
-    kept (r ∷ rs) all = (omega (arith, all.0, same row), kept rs all.1)
-
-    by : (n : ℕ) (rs : List Service) → AllByRecursion (λ (other : Service). row.number < other.number) rs
-        → AllByRecursion (λ (other : Service). (change row).number < other.number) (changed_to n change rs)
-    by zero rs all = kept rs all
-    by (suc n) [] all = tt
-    by (suc n) (r ∷ rs) all = (omega (arith, all.0, same row, same r), by n rs all.1)

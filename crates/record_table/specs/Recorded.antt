@@ -1,5 +1,5 @@
 -- What contracts see of a table of services.
-use Rattle.std.specs.Prelude.{ℕ, zero, suc, Bool, not, ◌==◌, List, [], ◌∷◌, ◌++◌, Option, None, Some, filter, find, map, option_and_then}
+use Rattle.std.specs.Prelude.{ℕ, Bool, not, ◌==◌, List, [], ◌∷◌, ◌++◌, Option, None, Some, filter, find, map, option_and_then}
 use Rattle.std.specs.Prelude.{option_map}
 use Rattle.scm_text.specs.Fold.{same_text}
 use Rattle.scm_model.specs.declared.flat.Config.{Config}
@@ -20,6 +20,9 @@ number_of row = row.number
 
 abbrev pub has_number : ℕ → Service → Bool
 has_number number row = row.number == number
+
+abbrev pub has_process : ℕ → Service → Bool
+has_process process row = row.process == process
 
 abbrev pub is_named : List ℕ → Service → Bool
 is_named name row = same_text row.config.name name
@@ -46,17 +49,23 @@ service_at rows number = option_and_then (λ (n : ℕ). find (has_number n) rows
 abbrev pub config_of_number : List Service → ℕ → Option Config
 config_of_number rows number = option_map (λ (row : Service). row.config) (find (has_number number) rows)
 
+-- the process of the service that was found, and 0 if none was
+abbrev pub process_in : Option Service → ℕ
+process_in None = 0
+process_in (Some row) = row.process
+
 abbrev pub with_config : Config → Service → Service
 with_config config row = record row { config = config }
 
 -- what changes of a service while it lives
-abbrev pub lived : Status → Bool → ℕ → ℕ → ℕ → Service → Service
-lived status marked process failures last_failure row = record row {
+abbrev pub lived : Status → Bool → ℕ → ℕ → ℕ → Bool → Service → Service
+lived status marked process failures last_failure asked row = record row {
   status = status;
   marked = marked;
   process = process;
   failures = failures;
   last_failure = last_failure;
+  asked = asked;
 }
 
 -- the service with a number changes
@@ -66,12 +75,6 @@ change_at number change rows = map (altered_at number_of number change) rows
 -- the services but for the one with a number
 abbrev pub without : ℕ → List Service → List Service
 without number rows = filter (λ (row : Service). not (has_number number row)) rows
-
--- so many of the first services change
-abbrev pub changed_to : ℕ → (Service → Service) → List Service → List Service
-changed_to zero change rows = rows
-changed_to (suc n) change [] = []
-changed_to (suc n) change (row ∷ rows) = change row ∷ changed_to n change rows
 
 abbrev pub spare_of : Config → Spare
 spare_of config = record { name = config.name; display = config.display; group = config.group }
@@ -110,6 +113,3 @@ replaced table number config = record {
 -- the texts that there is room for stay
 abbrev pub altered : Recorded → ℕ → (Service → Service) → Recorded
 altered table number change = record { services = change_at number change table.services; spare = table.spare }
-
-abbrev pub altered_each : Recorded → (Service → Service) → Recorded
-altered_each table change = record { services = map change table.services; spare = table.spare }

@@ -13,11 +13,12 @@ pub struct Live {
     pub process: u64,
     pub failures: u32,
     pub last_failure: u64,
+    pub asked: bool,
 }
 
 impl Change<Service> for Live {
     ghost changed = { λ live.
-        lived live.status live.marked live.process live.failures live.last_failure };
+        lived live.status live.marked live.process live.failures live.last_failure live.asked };
 
     ghost keeps = { λ live row. refl };
 
@@ -27,6 +28,7 @@ impl Change<Service> for Live {
         row.process = self.process;
         row.failures = self.failures;
         row.last_failure = self.last_failure;
+        row.asked = self.asked;
     }
 }
 

@@ -1,14 +1,17 @@
-ghost use Rattle.std.specs.Prelude.{◌≡◌, ◌+◌, ◌<◌, ◌^◌, List, find, length, map, option_copied};
-ghost use Rattle.std.specs.Prelude.{slice_get, is_some, Ok, OnOk, OnErr, Some};
+ghost use Rattle.std.specs.Prelude.{◌≡◌, ◌≢◌, ◌≤◌, ◌<◌, ◌^◌, find, length, map, option_copied};
+ghost use Rattle.std.specs.Prelude.{slice_get, is_some, true, Ok, OnOk, OnErr, Some};
 ghost use Rattle.std.specs.List.{AllByRecursion};
 ghost use Rattle.number_lists.specs.Rising.{AreRising};
+ghost use Rattle.number_pairs.specs.declared.pairs.Pair.{Pair};
+ghost use Rattle.number_pairs.specs.Keyed.{has_pair};
 ghost use Rattle.row_slab.specs.Rowed.{AreRisingBy, is_above};
 ghost use Rattle.scm_model.specs.declared.flat.Service.{Service};
-ghost use Rattle.record_table.specs.Recorded.{altered, altered_each, change_at, changed_to};
-ghost use Rattle.record_table.specs.Recorded.{config_of_number, empty, first_with, has_number};
-ghost use Rattle.record_table.specs.Recorded.{inserted};
+ghost use Rattle.record_table.specs.Kept.{MovesUnder};
+ghost use Rattle.record_table.specs.Recorded.{altered, change_at, config_of_number, empty};
+ghost use Rattle.record_table.specs.Recorded.{first_with, has_number, has_process, inserted};
 ghost use Rattle.record_table.specs.Recorded.{is_displayed, is_member, is_named, lived, number_of};
-ghost use Rattle.record_table.specs.Recorded.{numbers_with, removed, replaced, reserved};
+ghost use Rattle.record_table.specs.Recorded.{numbers_with, process_in, removed, replaced};
+ghost use Rattle.record_table.specs.Recorded.{reserved};
 ghost use Rattle.record_table.specs.Recorded.{service_at};
 ghost use Rattle.record_table.specs.Recorded.{spare_of, unreserved, with_config};
 
@@ -18,6 +21,7 @@ use super::texts::{
     KeptTexts, Spare, enter_texts, exchange_room, forget_room, leave_texts, move_texts,
     reserve_texts,
 };
+use number_pairs::{NumberPairs, Pair};
 use row_slab::{Change, Rows};
 use scm_model::{Config, Service, Status};
 use scm_text::{OutOfMemory, WText};
@@ -30,6 +34,7 @@ use std::marker::Model;
 pub struct RecordTable {
     rows: Rows<Service>,
     texts: KeptTexts,
+    processes: NumberPairs,
     spare: Option<Spare>,
     alloc: Global,
 }
@@ -63,30 +68,31 @@ fn exchange(rows: &mut Rows<Service>, number: u64, config: Config) -> Option<Con
     }
 }
 
-/// Changes the service at a place. Those before it were changed.
-fn change_next<C: Change<Service>>(rows: &mut Rows<Service>, place: usize, change: &C)
-    requires place { place < length rows.old.items }
-    requires rising { AreRisingBy number_of rows.old.items }
-    ensures items { (all : List Service) → rows.old.items ≡ changed_to place
-        (C.changed change.now) all
-        → rows.new.items ≡ changed_to (place + 1) (C.changed change.now) all }
-    ensures room { rows.new.room ≡ rows.old.room }
+/// The process of the service with a number, and 0 if no service has it.
+fn process_of(rows: &Rows<Service>, number: u64) -> u64
+    ensures { result ≡ process_in (find (has_number number) rows.now.items) }
 {
-    if let Some(row) = rows.at(place) {
-        let number = row.number;
-        rows.alter(number, change);
+    match rows.get(number) {
+        Some(row) => row.process,
+        None => 0,
     }
 }
 
-/// Changes each service.
-fn change_each<C: Change<Service>>(rows: &mut Rows<Service>, change: &C)
-    requires { AreRisingBy number_of rows.old.items }
-    ensures items { rows.new.items ≡ map (C.changed change.now) rows.old.items }
-    ensures room { rows.new.room ≡ rows.old.room }
+/// Moves a number from those under one process to those under another.
+fn move_under(processes: &mut NumberPairs, before: u64, after: u64, number: u64)
+    requires { before ≢ after → has_pair processes.old.items
+        (record { key = before; number = number }) ≡ true }
+    ensures under { MovesUnder processes.old.items processes.new.items before after number }
+    ensures room { processes.old.room ≤ processes.new.room }
 {
-    for place in 0..rows.len() {
-        change_next(rows, place, change);
+    if before == after {
+        return;
     }
+    processes.remove(Pair {
+        key: before,
+        number,
+    });
+    processes.add(Pair { key: after, number });
 }
 
 impl RecordTable {
@@ -97,6 +103,7 @@ impl RecordTable {
         Ok(RecordTable {
             rows: Rows::new(alloc),
             texts: KeptTexts::new(alloc),
+            processes: NumberPairs::new(alloc),
             spare: None,
             alloc,
         })
@@ -110,6 +117,7 @@ impl RecordTable {
     {
         let alloc = self.alloc;
         self.rows.reserve()?;
+        self.processes.reserve()?;
         let spare = Spare::of(config, alloc)?;
         if reserve_texts(&mut self.texts, alloc, &spare, &self.spare).is_err() {
             drop(spare);
@@ -137,6 +145,10 @@ impl RecordTable {
             return;
         };
         enter_texts(&mut self.texts, &spare, service.number);
+        self.processes.add(Pair {
+            key: service.process,
+            number: service.number,
+        });
         self.rows.push(service);
     }
 
@@ -165,6 +177,10 @@ impl RecordTable {
         let row = self.rows.remove(number)?;
         forget_room(&mut self.texts, self.spare.take());
         leave_texts(&mut self.texts, &row.config, number);
+        self.processes.remove(Pair {
+            key: row.process,
+            number,
+        });
         Some(row)
     }
 
@@ -174,15 +190,11 @@ impl RecordTable {
         ensures found { result ≡ is_some (find (has_number number) self.old.services) }
         ensures table { self.new ≡ altered self.old number (C.changed change.now) }
     {
-        self.rows.alter(number, change)
-    }
-
-    /// Changes each service, but for its configuration.
-    pub fn alter_each<C: Change<Service>>(&mut self, change: &C)
-        requires { (row : Service) → (C.changed change.now row).config ≡ row.config }
-        ensures { self.new ≡ altered_each self.old (C.changed change.now) }
-    {
-        change_each(&mut self.rows, change);
+        let before = process_of(&self.rows, number);
+        let is_found = self.rows.alter(number, change);
+        let after = process_of(&self.rows, number);
+        move_under(&mut self.processes, before, after, number);
+        is_found
     }
 
     /// Sets what changes of a service while it lives. False where no service has the number.
@@ -194,10 +206,11 @@ impl RecordTable {
         process: u64,
         failures: u32,
         last_failure: u64,
+        asked: bool,
     ) -> bool
         ensures found { result ≡ is_some (find (has_number number) self.old.services) }
         ensures table { self.new ≡ altered self.old number
-            (lived status marked process failures last_failure) }
+            (lived status marked process failures last_failure asked) }
     {
         let live = Live {
             status,
@@ -205,6 +218,7 @@ impl RecordTable {
             process,
             failures,
             last_failure,
+            asked,
         };
         self.alter(number, &live)
     }
@@ -269,6 +283,26 @@ impl RecordTable {
         ensures rising { AreRising result.now }
     {
         self.texts.groups.at(group)
+    }
+
+    /// The services with a process, which may be 0, each as a pair of the process and its number.
+    pub fn of_process(&self, process: u64) -> &[Pair]
+        ensures { map (λ (pair : Pair). pair.number) result.now
+            ≡ numbers_with (has_process process) self.now.services }
+    {
+        self.processes.at(process)
+    }
+
+    /// The number of the first service with a process, which may be 0.
+    pub fn first_of_process(&self, process: u64) -> Option<u64>
+        ensures number { result ≡ first_with (has_process process) self.now.services }
+        ensures row { service_at self.now.services result ≡ find
+            (has_process process) self.now.services }
+    {
+        match self.processes.at(process).first() {
+            Some(pair) => Some(pair.number),
+            None => None,
+        }
     }
 
     /// The number of the first service with the same name.

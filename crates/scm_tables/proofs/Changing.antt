@@ -1,5 +1,5 @@
 -- What changes of processes do to a row, by its number.
-use Rattle.std.proofs.Common.{ℕ, ◌≡◌, ◌≢◌, ◌∙◌, ◌<◌, ◌==◌, ◌&&◌, ◌++◌, nat_lt, cond, true, false, List, [], ◌∷◌, Some, ap, arith, drop}
+use Rattle.std.proofs.Common.{ℕ, ◌≡◌, ◌≢◌, ◌∙◌, ◌<◌, ◌==◌, ◌&&◌, ◌++◌, nat_lt, not, cond, true, false, List, [], ◌∷◌, Some, ap, arith, drop}
 use Rattle.std.proofs.Common.{filter, find, get_or, length, map, refl, sym, eq-eqb}
 use Rattle.std.specs.Prelude.{option_map, slice_get}
 use Rattle.std.proofs.lemmas.Bool.{ne_eqb}
@@ -9,6 +9,7 @@ use Rattle.scm_model.specs.declared.flat.Order.{Order}
 use Rattle.scm_model.specs.declared.flat.Process.{Process}
 use Rattle.scm_rules.specs.Controls.{controlled_if, dequeued_if}
 use Rattle.scm_rules.specs.Launches.{launched_if, taken_if}
+use Rattle.scm_rules.specs.Reports.{released_if}
 use Rattle.scm_tables.specs.Listed.{is_wanted_row, listed_as, process_shown, processes_in, wanted_in, wanted_of}
 use Rattle.scm_tables.specs.Tabled.{AreInOrder}
 use Rattle.scm_tables.specs.declared.process_rows.ProcessRow.{ProcessRow}
@@ -57,6 +58,21 @@ relieved_here n row is = rw (eq-eqb row.number n is) refl
 pub relieved_elsewhere : (n : ℕ) (row : ProcessRow) → row.number ≢ n → listed_as (dequeued_if n) row ≡ row
 relieved_elsewhere n row other = rw (ne_eqb row.number n other) refl
 
+abbrev pub orders_left : ℕ → List Order → List Order
+orders_left service orders = filter (λ (order : Order). not (order.service == service)) orders
+
+abbrev pub released : ℕ → ProcessRow → ProcessRow
+released service row = cond row.shared (record row { controls = orders_left service row.controls }) row
+
+pub released_here : (n service : ℕ) (row : ProcessRow) → row.number ≡ n → listed_as (released_if n service) row ≡ released service row
+released_here n service row is =
+    rw (eq-eqb row.number n is) (elim row.shared as (λ b. listed_as
+    (λ p. cond b (record p { controls = orders_left service p.controls }) p) row ≡ cond b
+    (record row { controls = orders_left service row.controls }) row) [ true ↦ refl | false ↦ refl ])
+
+pub released_elsewhere : (n service : ℕ) (row : ProcessRow) → row.number ≢ n → listed_as (released_if n service) row ≡ row
+released_elsewhere n service row other = rw (ne_eqb row.number n other) refl
+
 -- ## What the changes keep
 
 pub taken_number : (n : ℕ) (row : ProcessRow) → (listed_as (taken_if n) row).number ≡ row.number
@@ -87,6 +103,16 @@ relieved_number n row = elim (row.number == n) as (λ b. (listed_as (λ p. cond 
 pub relieved_phase : (n : ℕ) (row : ProcessRow) → (listed_as (dequeued_if n) row).phase ≡ row.phase
 relieved_phase n row = elim (row.number == n) as (λ b. (listed_as (λ p. cond b (record p { controls = drop 1 p.controls }) p) row).phase ≡
     row.phase) [ true ↦ refl | false ↦ refl ]
+
+pub released_number : (n service : ℕ) (row : ProcessRow) → (listed_as (released_if n service) row).number ≡ row.number
+released_number n service row =
+    elim (row.number == n && row.shared) as (λ b. (listed_as (λ p. cond b (record p { controls = orders_left service p.controls }) p)
+    row).number ≡ row.number) [ true ↦ refl | false ↦ refl ]
+
+pub released_phase : (n service : ℕ) (row : ProcessRow) → (listed_as (released_if n service) row).phase ≡ row.phase
+released_phase n service row =
+    elim (row.number == n && row.shared) as (λ b. (listed_as (λ p. cond b (record p { controls = orders_left service p.controls }) p)
+    row).phase ≡ row.phase) [ true ↦ refl | false ↦ refl ]
 
 -- ## Rows that show the same processes
 

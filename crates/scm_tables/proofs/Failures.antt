@@ -39,28 +39,37 @@ found_listed p change same (one ∷ rows) row e =
     or_true true b e = refl
     or_true false b e = e
 
--- so is the service of a failure
-pub failure_listed : (moment : ℕ) (p : Service → Bool) (change : Service → Service) → ((row : Service) → (change row).number ≡ row.number)
-    → (rows : List Service) (found : Option Service) → find p rows ≡ found
-    → IfSome (option_map (failed_at moment) found) (IsListed (map change rows))
-failure_listed moment p change same rows None e = tt
-failure_listed moment p change same rows (Some row) e = found_listed p change same rows row e
+-- so it is as it stood
+found_there : (p : Service → Bool) (rows : List Service) (row : Service) → find p rows ≡ Some row
+    → list_any (λ (r : Service). row.number == r.number) rows ≡ true
+found_there p [] row e = absurd cc
+found_there p (one ∷ rows) row e =
+    elim (p one) as (λ b. cond b (Some one) (find p rows) ≡ Some row → list_any (λ (r : Service). row.number == r.number) (one ∷ rows)
+    ≡ true) [
+      | true ↦ λ is.
+          let one_is : one ≡ row = cc in
+          ap (λ b. b || list_any (λ (r : Service). row.number == r.number) rows)
+          (eq-eqb row.number one.number (sym (ap (λ (r : Service). r.number) one_is)))
+      | false ↦ λ is. or_true (row.number == one.number) _ (found_there p rows row is)
+    ] e
+  where
+    or_true : (a b : Bool) → b ≡ true → (a || b) ≡ true
+    or_true true b e = refl
+    or_true false b e = e
 
-pub report_listed : (moment : ℕ) (report : Status) (p : Service → Bool) (change : Service → Service)
-    → ((row : Service) → (change row).number ≡ row.number) → (rows : List Service) (found : Option Service)
-    → find p rows ≡ found → IfSome (option_map (failed_at moment) (failed_by report found)) (IsListed (map change rows))
-report_listed moment report p change same rows None e = tt
-report_listed moment report p change same rows (Some row) e =
-    elim (is_failure report row) as (λ b. IfSome (option_map (failed_at moment) (cond b (Some row) None)) (IsListed (map change rows)))
-    [ true ↦ found_listed p change same rows row e | false ↦ tt ]
+-- so is the service of a failure
+pub failure_there : (moment : ℕ) (p : Service → Bool) (rows : List Service) (found : Option Service) → find p rows ≡ found
+    → IfSome (option_map (failed_at moment) found) (IsListed rows)
+failure_there moment p rows None e = tt
+failure_there moment p rows (Some row) e = found_there p rows row e
 
 pub taken_listed : (moment : ℕ) (report : Status) (p : Service → Bool) (rows : List Service) (found : Option Service) → find p rows ≡ found
     → IfSome (option_map (failed_at moment) (failed_by report found)) (IsListed (reported_in report found rows))
 taken_listed moment report p rows None e = tt
 taken_listed moment report p rows (Some row) e =
     elim (is_failure report row) as (λ b. IfSome (option_map (failed_at moment) (cond b (Some row) None))
-    (IsListed (map (reported_if row.process report) rows)))
-    [ true ↦ found_listed p (reported_if row.process report) (reported_number row.process report) rows row e | false ↦ tt ]
+    (IsListed (map (reported_if row.number report) rows)))
+    [ true ↦ found_listed p (reported_if row.number report) (reported_number row.number report) rows row e | false ↦ tt ]
 
 pub listed_map : (number : ℕ) (change : Service → Service) → ((row : Service) → (change row).number ≡ row.number) → (rows : List Service)
     → list_any (λ (r : Service). number == r.number) (map change rows) ≡ list_any (λ (r : Service). number == r.number) rows

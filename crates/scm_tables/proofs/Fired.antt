@@ -137,7 +137,7 @@ found_runs l (Some row) f =
         dues = refl;
         plans = refl;
         due = refl;
-        alike = omega (arith, length-append f.processes (wanted_process f.next.process 0 ∷ []));
+        alike = omega (arith, length-append f.processes (wanted_process f.next.process 0 false ∷ []));
       }
       | false ↦ runs_nothing l f
     ]

@@ -1,19 +1,20 @@
 -- What the changes keep of texts and of the numbers of plans.
-use Rattle.std.proofs.Common.{ℕ, ◌≡◌, ◌+◌, ◌==◌, Bool, true, false, cond, List, [], ◌∷◌, ◌++◌, filter, map, get_or, sym, refl, subst}
+use Rattle.std.proofs.Common.{ℕ, ◌≡◌, ◌+◌, ◌<◌, ◌==◌, ◌&&◌, not, Bool, true, false, cond, ap, Option, None, List, [], ◌∷◌, ◌++◌, filter, map, get_or, sym, refl, subst}
 use Rattle.std.proofs.Common.{arith, ◌∙◌}
-use Rattle.std.specs.Prelude.{All}
+use Rattle.std.specs.Prelude.{All, is_some}
 use Rattle.std.specs.List.{AllByRecursion}
-use Rattle.std.proofs.lemmas.List.Elements.{All-map}
+use Rattle.std.proofs.lemmas.List.Elements.{All-from_recursion, All-map}
 use Rattle.scm_model.specs.declared.flat.Config.{Config}
 use Rattle.scm_model.specs.declared.flat.Flat.{Flat}
 use Rattle.scm_model.specs.declared.flat.Limits.{Limits}
 use Rattle.scm_model.specs.declared.flat.Plan.{Plan}
 use Rattle.scm_model.specs.declared.flat.Service.{Service}
 use Rattle.scm_model.specs.Changes.{configured_if}
-use Rattle.scm_rules.specs.Launches.{fallen_if}
+use Rattle.scm_rules.specs.Controls.{unasked_if}
+use Rattle.scm_rules.specs.Launches.{fallen}
 use Rattle.scm_rules.specs.Needs.{need_row}
 use Rattle.scm_rules.specs.Reports.{moved_by, reported_if}
-use Rattle.status_machine.specs.Moves.{take_end, take_report}
+use Rattle.status_machine.specs.Moves.{take_report}
 use Rattle.scm_model.specs.declared.flat.Status.{Status}
 use Rattle.std.specs.Prelude.{Result, Ok, Err}
 use Rattle.start_plan.specs.Asleep.{ArePending}
@@ -21,13 +22,13 @@ use Rattle.start_plan.specs.Decided.{decided_if, decided_in}
 use Rattle.start_plan.specs.Entered.{started_if}
 use Rattle.start_plan.specs.Settle.{is_due_still, settle_all, settled, stays, with_plans}
 use Rattle.start_plan.proofs.Plain.{settles_beside}
-use Rattle.start_plan.proofs.Keeps.{all_filter, keeps_all}
+use Rattle.start_plan.proofs.Keeps.{keeps_all}
 use Rattle.start_plan.proofs.Enterings.{all_units}
 use Rattle.start_plan.proofs.Rows.{started_or}
 use Rattle.scm_model.specs.declared.flat.Due.{Due}
 use Rattle.scm_tables.specs.Places.{HasPlaces}
-use Rattle.scm_tables.specs.Inside.{IsBelow, IsKept}
-use Rattle.scm_tables.specs.Owned.{AreOwners}
+use Rattle.scm_tables.specs.Failed.{fallen_at}
+use Rattle.scm_tables.specs.Inside.{IsKept, IsKeptPlan}
 use Rattle.scm_tables.specs.Processed.{Processed}
 use Rattle.scm_tables.specs.Tabled.{HasShort, HasShortTexts}
 use Rattle.scm_tables.specs.declared.tables.Tables.TheInside.{Inside}
@@ -40,23 +41,21 @@ pub texts_map : (change : Service → Service) → ((row : Service) → (change 
 texts_map change same rows old = All-map HasShort change rows (λ k d lt. subst HasShortTexts (sym (same (get_or rows k d))) (old k d lt))
 
 -- what holds of a service that falls and of one that stays as it is
-pub fallen_or : (P : Service → Type 0) (process code : ℕ) (row : Service) → P (record row { status = take_end row.status code; process = 0 })
-    → P row → P (fallen_if process code row)
-fallen_or P process code row falls stays =
-    elim (row.process == process) as (λ b. P (cond b (record row { status = take_end row.status code; process = 0 }) row))
-    [ true ↦ falls | false ↦ stays ]
+pub fallen_or : (P : Service → Type 0) (number code : ℕ) (row : Service) → P (fallen code row) → P row → P (fallen_at number code row)
+fallen_or P number code row falls stays =
+    elim (row.number == number) as (λ b. P (cond b (fallen code row) row)) [ true ↦ falls | false ↦ stays ]
 
 pub started_config : (number process : ℕ) (row : Service) → (started_if number process row).config ≡ row.config
 started_config number process row = started_or (λ new. new.config ≡ row.config) number process row (λ e. refl) refl
 
-pub fallen_config : (process code : ℕ) (row : Service) → (fallen_if process code row).config ≡ row.config
-fallen_config process code row = fallen_or (λ new. new.config ≡ row.config) process code row refl refl
+pub fallen_config : (number code : ℕ) (row : Service) → (fallen_at number code row).config ≡ row.config
+fallen_config number code row = fallen_or (λ new. new.config ≡ row.config) number code row refl refl
 
 pub started_number : (number process : ℕ) (row : Service) → (started_if number process row).number ≡ row.number
 started_number number process row = started_or (λ new. new.number ≡ row.number) number process row (λ e. refl) refl
 
-pub fallen_number : (process code : ℕ) (row : Service) → (fallen_if process code row).number ≡ row.number
-fallen_number process code row = fallen_or (λ new. new.number ≡ row.number) process code row refl refl
+pub fallen_number : (number code : ℕ) (row : Service) → (fallen_at number code row).number ≡ row.number
+fallen_number number code row = fallen_or (λ new. new.number ≡ row.number) number code row refl refl
 
 moved_config : (row : Service) (told : Result Status ℕ) → (moved_by row told).config ≡ row.config
 moved_config row (Ok status) = refl
@@ -66,31 +65,45 @@ moved_number : (row : Service) (told : Result Status ℕ) → (moved_by row told
 moved_number row (Ok status) = refl
 moved_number row (Err code) = refl
 
-pub reported_config : (process : ℕ) (report : Status) (row : Service) → (reported_if process report row).config ≡ row.config
-reported_config process report row =
-    elim (row.process == process) as (λ b. (cond b (moved_by row (take_report row.status report)) row).config ≡ row.config)
+pub reported_config : (number : ℕ) (report : Status) (row : Service) → (reported_if number report row).config ≡ row.config
+reported_config number report row =
+    elim (row.number == number) as (λ b. (cond b (moved_by row (take_report row.status report)) row).config ≡ row.config)
     [ true ↦ moved_config row (take_report row.status report) | false ↦ refl ]
 
-pub reported_number : (process : ℕ) (report : Status) (row : Service) → (reported_if process report row).number ≡ row.number
-reported_number process report row =
-    elim (row.process == process) as (λ b. (cond b (moved_by row (take_report row.status report)) row).number ≡ row.number)
+pub reported_number : (number : ℕ) (report : Status) (row : Service) → (reported_if number report row).number ≡ row.number
+reported_number number report row =
+    elim (row.number == number) as (λ b. (cond b (moved_by row (take_report row.status report)) row).number ≡ row.number)
     [ true ↦ moved_number row (take_report row.status report) | false ↦ refl ]
 
+-- what holds of a service that isn't asked any more and of one that stays as it is
+pub unasked_or : (P : Service → Type 0) (number : ℕ) (row : Service) → P (record row { asked = false }) → P row → P (unasked_if number row)
+unasked_or P number row changes stays =
+    elim (row.number == number) as (λ b. P (cond b (record row { asked = false }) row)) [ true ↦ changes | false ↦ stays ]
+
+pub unasked_config : (number : ℕ) (row : Service) → (unasked_if number row).config ≡ row.config
+unasked_config number row = unasked_or (λ new. new.config ≡ row.config) number row refl refl
+
+pub unasked_number : (number : ℕ) (row : Service) → (unasked_if number row).number ≡ row.number
+unasked_number number row = unasked_or (λ new. new.number ≡ row.number) number row refl refl
+
 -- ## Needs
+
+pub unasked_needs : (number : ℕ) (row : Service) → need_row (unasked_if number row) ≡ need_row row
+unasked_needs number row = unasked_or (λ new. need_row new ≡ need_row row) number row refl refl
 
 pub started_needs : (number process : ℕ) (row : Service) → need_row (started_if number process row) ≡ need_row row
 started_needs number process row = started_or (λ new. need_row new ≡ need_row row) number process row (λ e. refl) refl
 
-pub fallen_needs : (process code : ℕ) (row : Service) → need_row (fallen_if process code row) ≡ need_row row
-fallen_needs process code row = fallen_or (λ new. need_row new ≡ need_row row) process code row refl refl
+pub fallen_needs : (number code : ℕ) (row : Service) → need_row (fallen_at number code row) ≡ need_row row
+fallen_needs number code row = fallen_or (λ new. need_row new ≡ need_row row) number code row refl refl
 
 moved_needs : (row : Service) (told : Result Status ℕ) → need_row (moved_by row told) ≡ need_row row
 moved_needs row (Ok status) = refl
 moved_needs row (Err code) = refl
 
-pub reported_needs : (process : ℕ) (report : Status) (row : Service) → need_row (reported_if process report row) ≡ need_row row
-reported_needs process report row =
-    elim (row.process == process) as (λ b. need_row (cond b (moved_by row (take_report row.status report)) row) ≡ need_row row)
+pub reported_needs : (number : ℕ) (report : Status) (row : Service) → need_row (reported_if number report row) ≡ need_row row
+reported_needs number report row =
+    elim (row.number == number) as (λ b. need_row (cond b (moved_by row (take_report row.status report)) row) ≡ need_row row)
     [ true ↦ moved_needs row (take_report row.status report) | false ↦ refl ]
 
 -- ## Another configuration
@@ -106,23 +119,39 @@ texts_configured number config rows short old =
 
 -- ## Plans
 
-pub below_decided : (n : ℕ) (test : Plan → Bool) (code : ℕ) (plans : List Plan) → AllByRecursion (IsBelow n) plans
-    → AllByRecursion (IsBelow n) (decided_in test code plans)
-below_decided n test code plans all = all_filter (IsBelow n) stays (map (decided_if test code) plans) (changed plans all)
+abbrev IsBelow : ℕ → Plan → Type 0
+IsBelow next plan = plan.number < next
+
+numbers_below : (n : ℕ) (plans : List Plan) → AllByRecursion (IsKeptPlan n) plans → AllByRecursion (IsBelow n) plans
+numbers_below n [] all = tt
+numbers_below n (plan ∷ plans) all = (all.0.below, numbers_below n plans all.1)
+
+-- those that stay
+kept_staying : (n : ℕ) (plans : List Plan) → AllByRecursion (IsBelow n) plans → AllByRecursion (IsKeptPlan n) (filter stays plans)
+kept_staying n [] all = tt
+kept_staying n (plan ∷ plans) all =
+    elim (stays plan) as (λ b. stays plan ≡ b → AllByRecursion (IsKeptPlan n) (cond b (plan ∷ filter stays plans) (filter stays plans))) [
+      | true ↦ λ is. (record { below = all.0; staying = is }, kept_staying n plans all.1)
+      | false ↦ λ out. kept_staying n plans all.1
+    ] refl
+
+pub kept_decided : (n : ℕ) (test : Plan → Bool) (code : ℕ) (plans : List Plan) → AllByRecursion (IsKeptPlan n) plans
+    → AllByRecursion (IsKeptPlan n) (decided_in test code plans)
+kept_decided n test code plans all = kept_staying n (map (decided_if test code) plans) (changed plans (numbers_below n plans all))
   where
     changed : (ps : List Plan) → AllByRecursion (IsBelow n) ps → AllByRecursion (IsBelow n) (map (decided_if test code) ps)
     changed [] a = tt
     changed (p ∷ ps) a = (a.0, changed ps a.1)
 
-pub below_settled : (l : Limits) (f : Flat) (n : ℕ) (plans : List Plan) → AllByRecursion (IsBelow n) plans
-    → AllByRecursion (IsBelow n) (filter stays (settle_all l f plans).1)
-below_settled l f n plans all =
-    all_filter (IsBelow n) stays (settle_all l f plans).1
+pub kept_settled : (l : Limits) (f : Flat) (n : ℕ) (plans : List Plan) → AllByRecursion (IsKeptPlan n) plans
+    → AllByRecursion (IsKeptPlan n) (filter stays (settle_all l f plans).1)
+kept_settled l f n plans all =
+    kept_staying n (settle_all l f plans).1
     (keeps_all l (λ g. Unit {0}) (IsBelow n) (record {
       enters = λ g plan s words entry p. tt;
       tries = λ g plan s entry q. q;
       drops = λ plan s rest code q. q;
-    }) f plans tt all).plans
+    }) f plans tt (numbers_below n plans all)).plans
 
 pub next_settled : (l : Limits) (f : Flat) (plans : List Plan) → (settle_all l f plans).0.next.plan ≡ f.next.plan
 next_settled l f plans =
@@ -132,10 +161,26 @@ next_settled l f plans =
       drops = λ plan s rest code q. tt;
     }) f plans refl (all_units plans)).flat
 
-pub below_more : (n : ℕ) (plans : List Plan) (plan : Plan) → AllByRecursion (IsBelow n) plans → plan.number ≡ n
-    → AllByRecursion (IsBelow (n + 1)) (plans ++ plan ∷ [])
-below_more n [] plan all e = (omega (arith, e), tt)
-below_more n (p ∷ ps) plan all e = (let lt = all.0 in omega arith, below_more n ps plan all.1 e)
+stays_undecided : (plan : Plan) → plan.code ≡ None → stays plan ≡ true
+stays_undecided plan undecided = ap (λ (code : Option ℕ). not (is_some code && plan.caller == 0)) undecided
+
+-- one more begins, which is undecided
+pub kept_more : (n : ℕ) (plans : List Plan) (plan : Plan) → AllByRecursion (IsKeptPlan n) plans → plan.number ≡ n → plan.code ≡ None
+    → AllByRecursion (IsKeptPlan (n + 1)) (plans ++ plan ∷ [])
+kept_more n [] plan all e undecided = (record { below = omega (arith, e); staying = stays_undecided plan undecided }, tt)
+kept_more n (p ∷ ps) plan all e undecided = (
+  record { below = (let lt = all.0.below in omega arith); staying = all.0.staying },
+  kept_more n ps plan all.1 e undecided,
+)
+
+-- each of them has a number below it
+pub all_below : (n : ℕ) (plans : List Plan) → AllByRecursion (IsKeptPlan n) plans → All (λ (plan : Plan). plan.number < n) plans
+all_below n plans all = All-from_recursion (IsBelow n) plans (numbers_below n plans all)
+
+-- and stays
+pub all_stay : (n : ℕ) (plans : List Plan) → AllByRecursion (IsKeptPlan n) plans → AllByRecursion (λ (plan : Plan). stays plan ≡ true) plans
+all_stay n [] all = tt
+all_stay n (plan ∷ plans) all = (all.0.staying, all_stay n plans all.1)
 
 -- plans that are settled beside the rest of the state, and the deadlines that are left
 pub settles : (l : Limits) (f g : Flat) (plans ended : List Plan) (rows : List Due) → ended ≡ filter stays (settle_all l f plans).1
@@ -150,12 +195,10 @@ pub other_plans : {t u : Inside} → IsKept t → u.next.service ≡ t.next.serv
     → u.index.rows ≡ t.index.rows → u.acyclic ≡ t.acyclic → u.leaving ≡ t.leaving
     → u.limits.processes ≡ t.limits.processes → u.processes ≡ t.processes → u.tried.items ≡ t.tried.items
     → u.start_room ≡ t.start_room → u.starts.items ≡ t.starts.items → u.commands.items ≡ t.commands.items
-    → AllByRecursion (IsBelow u.next.plan) u.plans.plans → ArePending t.services.services u.plans.awaited
+    → AllByRecursion (IsKeptPlan u.next.plan) u.plans.plans → ArePending t.services.services u.plans.awaited
     → HasPlaces t.services.services u.dues.rows u.dues.capacity → IsKept u
 other_plans kept next rows index acyclic marked limit processes tried wide starts commands plans pending dues = record {
   rising = rw next (rw rows kept.rising);
-  owns = rw processes (rw rows kept.owns);
-  listed = rw processes (rw rows kept.listed);
   texts = rw rows kept.texts;
   index = rw (index, rows) kept.index;
   needs = rw acyclic (rw rows kept.needs);
@@ -169,14 +212,11 @@ other_plans kept next rows index acyclic marked limit processes tried wide start
   rooms = rw (wide, starts, commands) kept.rooms;
 }
 
--- lists that differ in processes are kept where there is room for as many, the next one has the same number, and those that are listed are
--- of their services
+-- lists that differ in processes are kept where there is room for as many, and the next one has the same number
 pub other_processes : {t : Inside} → IsKept t → (all : Processed) → {new : Processed} → all ≡ new → new.next ≡ t.processes.next
-    → new.capacity ≡ t.processes.capacity → AreOwners new.processes t.services.services → IsKept (record t { processes = all })
-other_processes kept all is next capacity listed = record {
+    → new.capacity ≡ t.processes.capacity → IsKept (record t { processes = all })
+other_processes kept all is next capacity = record {
   rising = kept.rising;
-  owns = rw (is, next) kept.owns;
-  listed = rw is listed;
   texts = kept.texts;
   index = kept.index;
   needs = kept.needs;

@@ -12,9 +12,12 @@ pub mod Marks
 pub mod Bisecting
 pub mod Counting
 pub mod Changing
-pub mod Owning
+pub mod Deciding
+pub mod Currents
+pub mod Exits
 pub mod Permuted
 pub mod Placed
 pub mod Fired
 pub mod Failures
+pub mod Falling
 pub mod Promising

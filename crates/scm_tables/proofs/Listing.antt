@@ -6,8 +6,10 @@ use Rattle.scm_model.specs.declared.flat.Process.{Process}
 use Rattle.scm_model.specs.declared.flat.Wanted.{Wanted}
 use Rattle.scm_rules.specs.Controls.{controlled_if, dequeued_if}
 use Rattle.scm_rules.specs.Launches.{taken_if, launched_if}
+use Rattle.scm_rules.specs.Reports.{released_if}
 use Rattle.scm_tables.specs.declared.process_rows.ProcessRow.{ProcessRow}
 use Rattle.scm_tables.specs.Listed.{processes_in, wanted_in, listed_as, process_shown, is_wanted_row, wanted_of}
+use Rattle.scm_tables.proofs.Changing.{orders_left}
 
 pub processes_changed : (change : Process → Process) (rows : List ProcessRow)
     → processes_in (map (listed_as change) rows) ≡ map change (processes_in rows)
@@ -121,4 +123,20 @@ wanted_relieved number rows =
     is_wanted_row row) [ true ↦ refl | false ↦ refl ])
     (λ row. elim (row.number == number) as (λ b. wanted_of (listed_as (λ p. cond b (record p { controls = drop 1 p.controls }) p) row) ≡
     wanted_of row) [ true ↦ refl | false ↦ refl ])
+    rows
+
+pub wanted_released : (number service : ℕ) (rows : List ProcessRow)
+    → wanted_in (map (listed_as (released_if number service)) rows) ≡ wanted_in rows
+wanted_released number service rows =
+    wanted_alone (released_if number service)
+    (λ row. elim (row.number == number && row.shared) as (λ b. is_wanted_row
+    (listed_as (λ p. cond b (record p { controls = orders_left service p.controls }) p) row) ≡ is_wanted_row row) [
+      | true ↦ refl
+      | false ↦ refl
+    ])
+    (λ row. elim (row.number == number && row.shared) as (λ b. wanted_of
+    (listed_as (λ p. cond b (record p { controls = orders_left service p.controls }) p) row) ≡ wanted_of row) [
+      | true ↦ refl
+      | false ↦ refl
+    ])
     rows

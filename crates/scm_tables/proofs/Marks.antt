@@ -15,7 +15,8 @@ use Rattle.scm_model.specs.Changes.{configured_if, marked_if}
 use Rattle.scm_model.specs.Found.{if_found}
 use Rattle.scm_model.specs.Notices.{all_noted, event_of_leaving, noted}
 use Rattle.scm_model.specs.Purge.{leaves, purged}
-use Rattle.scm_rules.specs.Launches.{fallen_if}
+use Rattle.scm_tables.specs.Failed.{fallen_at}
+use Rattle.scm_rules.specs.Controls.{unasked_if}
 use Rattle.scm_rules.specs.Opening.{services_from}
 use Rattle.scm_rules.specs.Reports.{moved_by, reported_if}
 use Rattle.start_plan.specs.Entered.{started_if}
@@ -23,7 +24,7 @@ use Rattle.start_plan.proofs.Rows.{started_or}
 use Rattle.status_machine.specs.Moves.{take_report}
 use Rattle.number_lists.specs.Rising.{with_number, without_number}
 use Rattle.row_slab.specs.Rowed.{AreRisingBy}
-use Rattle.scm_tables.proofs.Keeping.{fallen_or}
+use Rattle.scm_tables.proofs.Keeping.{fallen_or, unasked_or}
 use Rattle.scm_tables.specs.Marked.{has_mark, marked_numbers, may_leave, number_leaves}
 use Rattle.scm_text.specs.Numbers.{has}
 use Rattle.record_table.specs.Recorded.{without}
@@ -84,16 +85,19 @@ marks_without n (row ∷ rows) =
 pub started_mark : (number process : ℕ) (row : Service) → (started_if number process row).marked ≡ row.marked
 started_mark number process row = started_or (λ new. new.marked ≡ row.marked) number process row (λ e. refl) refl
 
-pub fallen_mark : (process code : ℕ) (row : Service) → (fallen_if process code row).marked ≡ row.marked
-fallen_mark process code row = fallen_or (λ new. new.marked ≡ row.marked) process code row refl refl
+pub fallen_mark : (number code : ℕ) (row : Service) → (fallen_at number code row).marked ≡ row.marked
+fallen_mark number code row = fallen_or (λ new. new.marked ≡ row.marked) number code row refl refl
+
+pub unasked_mark : (number : ℕ) (row : Service) → (unasked_if number row).marked ≡ row.marked
+unasked_mark number row = unasked_or (λ new. new.marked ≡ row.marked) number row refl refl
 
 moved_mark : (row : Service) (told : Result Status ℕ) → (moved_by row told).marked ≡ row.marked
 moved_mark row (Ok status) = refl
 moved_mark row (Err code) = refl
 
-pub reported_mark : (process : ℕ) (report : Status) (row : Service) → (reported_if process report row).marked ≡ row.marked
-reported_mark process report row =
-    elim (row.process == process) as (λ b. (cond b (moved_by row (take_report row.status report)) row).marked ≡ row.marked)
+pub reported_mark : (number : ℕ) (report : Status) (row : Service) → (reported_if number report row).marked ≡ row.marked
+reported_mark number report row =
+    elim (row.number == number) as (λ b. (cond b (moved_by row (take_report row.status report)) row).marked ≡ row.marked)
     [ true ↦ moved_mark row (take_report row.status report) | false ↦ refl ]
 
 pub configured_mark : (number : ℕ) (config : Config) (row : Service) → (configured_if number config row).marked ≡ row.marked

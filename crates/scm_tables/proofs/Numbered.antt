@@ -1,6 +1,6 @@
 -- The services whose numbers are kept.
 use Rattle.std.proofs.Common.{ℕ, ◌≡◌, ◌∙◌, ◌<◌, ◌==◌, ◌&&◌, suc, Bool, true, false, cond, List, [], ◌∷◌, Option, Some, filter, find, get_or}
-use Rattle.std.proofs.Common.{length, map, max, not, refl, ap, subst}
+use Rattle.std.proofs.Common.{length, map, max, not, refl, ap, subst, eqb-true}
 use Rattle.std.specs.Prelude.{All, AllPairs, fold}
 use Rattle.std.specs.List.{list_any}
 use Rattle.std.proofs.lemmas.List.Elements.{All-filter, All-head, All-tail}
@@ -21,7 +21,7 @@ use Rattle.scm_tables.specs.Tags.{tag_in}
 use Rattle.scm_tables.specs.declared.tables.Tables.TheInside.{Inside}
 use Rattle.scm_tables.proofs.Bisecting.{found_here}
 
-abbrev number_of : Service → ℕ
+abbrev pub number_of : Service → ℕ
 number_of row = row.number
 
 -- the service with a number
@@ -29,11 +29,20 @@ abbrev pub with_number : List Service → ℕ → Option Service
 with_number rows number = find (λ (row : Service). row.number == number) rows
 
 -- a service is found by its number
-abbrev IsFound : List Service → Service → Type 0
+abbrev pub IsFound : List Service → Service → Type 0
 IsFound rows row = with_number rows row.number ≡ Some row
 
-each_found : (rows : List Service) → AllPairs (λ (a b : Service). a.number < b.number) rows → All (IsFound rows) rows
+pub each_found : (rows : List Service) → AllPairs (λ (a b : Service). a.number < b.number) rows → All (IsFound rows) rows
 each_found rows rising k d within = found_here number_of rows k (get_or rows k d).number d rising within refl
+
+-- the service that is found by a number has it
+pub found_number : (n : ℕ) (rows : List Service) (row : Service) → Some row ≡ with_number rows n → row.number ≡ n
+found_number n [] row e = absurd (cc e)
+found_number n (one ∷ rows) row e =
+    elim (one.number == n) as (λ b. (one.number == n) ≡ b → Some row ≡ cond b (Some one) (with_number rows n) → row.number ≡ n) [
+      | true ↦ λ is h. let same : row ≡ one = cc h in ap (λ (r : Service). r.number) same ∙ eqb-true one.number n is
+      | false ↦ λ is h. found_number n rows row h
+    ] refl e
 
 -- the numbers that the index has are those of the services whose rows pass
 kept_numbers : (p : NeedRow → Bool) (rows : List Service) → numbers_of (filter p (need_rows rows)) ≡ map number_of
@@ -52,7 +61,7 @@ any_of q all [] found = refl
 any_of q all (row ∷ some) found =
     rw (All-head (IsFound all) row some found, any_of q all some (All-tail (IsFound all) row some found)) refl
 
-count_of : (q : Option Service → Bool) (all some : List Service) → All (IsFound all) some
+pub count_of : (q : Option Service → Bool) (all some : List Service) → All (IsFound all) some
     → length (filter (λ n. q (with_number all n)) (map number_of some)) ≡ length (filter (λ (row : Service). q (Some row)) some)
 count_of q all [] found = refl
 count_of q all (row ∷ some) found =
@@ -73,7 +82,7 @@ greatest_of before all (row ∷ some) found =
     ∙ greatest_of (max before row.config.tag) all some (All-tail (IsFound all) row some found)
 
 -- those that are active among those that name one
-active_rows : (p q : Service → Bool) (rows : List Service) → filter q (filter p rows) ≡ filter (λ (row : Service). p row && q row) rows
+pub active_rows : (p q : Service → Bool) (rows : List Service) → filter q (filter p rows) ≡ filter (λ (row : Service). p row && q row) rows
 active_rows p q [] = refl
 active_rows p q (row ∷ rows) =
     elim (p row) as (λ b. filter q (cond b (row ∷ filter p rows) (filter p rows)) ≡ cond (b && q row)
@@ -87,7 +96,7 @@ active_rows p q (row ∷ rows) =
 -- ## By lists of services in order of number
 
 module _ (rows : List Service) (rising : AllPairs (λ (a b : Service). a.number < b.number) rows) where
-  passing_found : (p : Service → Bool) → All (IsFound rows) (filter p rows)
+  pub passing_found : (p : Service → Bool) → All (IsFound rows) (filter p rows)
   passing_found p = All-filter p (IsFound rows) rows (each_found rows rising)
 
   -- whether a group has a RUNNING member

@@ -1,7 +1,6 @@
 -- Plans go on sleeping for services whose state is about to change.
-use Rattle.std.proofs.Common.{ℕ, ◌≡◌, ◌≢◌, ◌∙◌, ◌==◌, ◌&&◌, zero, suc, Bool, true, false, cond, not, List, [], ◌∷◌, ◌++◌, Option, None}
-use Rattle.std.proofs.Common.{Some, find, map, refl, sym, ap, subst, arith, eq-eqb, eqb-true}
-use Rattle.std.specs.Prelude.{All}
+use Rattle.std.proofs.Common.{ℕ, ◌≡◌, ◌≢◌, ◌∙◌, ◌==◌, ◌&&◌, Bool, true, false, cond, not, List, [], ◌∷◌, ◌++◌, Option, None}
+use Rattle.std.proofs.Common.{Some, find, map, refl, sym, ap, subst, eq-eqb, eqb-true}
 use Rattle.std.specs.List.{list_any}
 use Rattle.std.proofs.lemmas.Bool.{ne_eqb}
 use Rattle.scm_model.specs.Changes.{configured_if}
@@ -13,15 +12,15 @@ use Rattle.scm_model.specs.declared.flat.Service.{Service}
 use Rattle.scm_model.specs.declared.flat.Status.{Status}
 use Rattle.failure_actions.specs.Failing.{on_failure}
 use Rattle.scm_rules.specs.Failures.{counted_if}
-use Rattle.scm_rules.specs.Launches.{fallen_if}
+use Rattle.scm_rules.specs.Controls.{unasked_if}
 use Rattle.scm_rules.specs.Reports.{reported_if}
 use Rattle.start_plan.specs.Asleep.{all_but, ArePending, IsPending}
 use Rattle.start_plan.specs.Moves.{is_pending}
 use Rattle.start_plan.proofs.Pending.{pending_by}
 use Rattle.scm_tables.specs.Marked.{may_leave, number_leaves}
-use Rattle.scm_tables.specs.Owned.{NoOtherHas}
-use Rattle.scm_tables.specs.Woken.{AreWokenFor, IsChangeOf}
-use Rattle.scm_tables.proofs.Keeping.{fallen_number, reported_number}
+use Rattle.scm_tables.specs.Failed.{fallen_at}
+use Rattle.scm_tables.specs.Woken.{IsChangeOf}
+use Rattle.scm_tables.proofs.Keeping.{fallen_number, reported_number, unasked_or}
 use Rattle.record_table.specs.Recorded.{without}
 
 abbrev state_at : List Service → ℕ → ℕ
@@ -129,55 +128,46 @@ pending_left handles rows marks n ns first pending = pending_by rows (without n 
           | false ↦ λ e. same_pending rows (without n rows) m (ap state_in (found_without n m e rows)) h
         ] refl
 
--- ## Services with a process
+-- ## One service
 
--- only the service with a number may have a process
-abbrev OnlyHas : ℕ → List Service → ℕ → Type 0
-OnlyHas process rows service = All (λ (row : Service). row.process ≡ process → row.number ≡ service) rows
-
-changed_elsewhere : (process service : ℕ) (change : Service → Service) → IsChangeOf process change → (n : ℕ) → (n == service) ≡ false
-    → (rows : List Service) → OnlyHas process rows service
-    → find (λ (row : Service). row.number == n) (map change rows) ≡ find (λ (row : Service). row.number == n) rows
-changed_elsewhere process service change is n other [] only = refl
-changed_elsewhere process service change is n other (row ∷ rows) only =
-    ap (λ m. cond (m == n) (Some (change row)) (find (λ (r : Service). r.number == n) (map change rows))) (is.number row)
+changed_elsewhere : (number : ℕ) (change : Service → Service) → IsChangeOf number change → (n : ℕ) → (n == number) ≡ false
+    → (rows : List Service) → find (λ (row : Service). row.number == n) (map change rows) ≡ find (λ (row : Service). row.number == n) rows
+changed_elsewhere number change is n other [] = refl
+changed_elsewhere number change is n other (row ∷ rows) =
+    ap (λ m. cond (m == n) (Some (change row)) (find (λ (r : Service). r.number == n) (map change rows))) (is.same row)
     ∙ elim (row.number == n) as (λ b. (row.number == n) ≡ b → cond b (Some (change row))
     (find (λ (r : Service). r.number == n) (map change rows)) ≡ cond b (Some row) (find (λ (r : Service). r.number == n) rows)) [
       | true ↦ λ e. ap (λ (r : Service). Some r) (is.others row (λ same. absurd
-          (cc (sym (eq-eqb n service (sym (eqb-true row.number n e) ∙ only zero row (omega arith) same)) ∙ other))))
-      | false ↦ λ e. changed_elsewhere process service change is n other rows (λ k d lt. only (suc k) d (omega (arith, lt)))
+          (cc (sym (eq-eqb n number (sym (eqb-true row.number n e) ∙ same)) ∙ other))))
+      | false ↦ λ e. changed_elsewhere number change is n other rows
     ] refl
 
--- those that wait for the one service that has a process are woken
-woken_one : (process service : ℕ) (rows : List Service) (ns : List ℕ) → OnlyHas process rows service
-    → AreWokenFor process rows ns (all_but service ns)
-woken_one process service rows [] only pending change is = tt
-woken_one process service rows (n ∷ ns) only pending change is =
-    let rest = woken_one process service rows ns only pending.1 change is in
-    elim (n == service) as (λ b. (n == service) ≡ b → ArePending (map change rows)
-    (cond (not b) (n ∷ all_but service ns) (all_but service ns))) [
+-- whatever becomes of a service: those that slept for it are woken
+pub woken : (number : ℕ) (change : Service → Service) → IsChangeOf number change → (rows : List Service) (ns : List ℕ)
+    → ArePending rows ns → ArePending (map change rows) (all_but number ns)
+woken number change is rows [] pending = tt
+woken number change is rows (n ∷ ns) pending =
+    let rest = woken number change is rows ns pending.1 in
+    elim (n == number) as (λ b. (n == number) ≡ b → ArePending (map change rows)
+    (cond (not b) (n ∷ all_but number ns) (all_but number ns))) [
       | true ↦ λ e. rest
       | false ↦ λ e. (
-        same_pending rows (map change rows) n (ap state_in (changed_elsewhere process service change is n e rows only))
-            pending.0,
+        same_pending rows (map change rows) n (ap state_in (changed_elsewhere number change is n e rows)) pending.0,
         rest,
       )
     ] refl
 
--- those that wait for the service that a process is said to be of are woken
-pub woken_said : (process service : ℕ) (rows : List Service) (ns : List ℕ) → process ≢ 0 → NoOtherHas process rows service
-    → AreWokenFor process rows ns (all_but service ns)
-woken_said process service rows ns some told =
-    woken_one process service rows ns (λ k d lt has. told k d lt (λ none. some (sym has ∙ none)) has)
+fallen_elsewhere : (number code : ℕ) (row : Service) → row.number ≢ number → fallen_at number code row ≡ row
+fallen_elsewhere number code row other = rw (ne_eqb row.number number other) refl
 
-fallen_elsewhere : (process code : ℕ) (row : Service) → row.process ≢ process → fallen_if process code row ≡ row
-fallen_elsewhere process code row other = rw (ne_eqb row.process process other) refl
+pub reported_elsewhere : (number : ℕ) (report : Status) (row : Service) → row.number ≢ number → reported_if number report row ≡ row
+reported_elsewhere number report row other = rw (ne_eqb row.number number other) refl
 
-reported_elsewhere : (process : ℕ) (report : Status) (row : Service) → row.process ≢ process → reported_if process report row ≡ row
-reported_elsewhere process report row other = rw (ne_eqb row.process process other) refl
+pub reported_changes : (number : ℕ) (report : Status) → IsChangeOf number (reported_if number report)
+reported_changes number report = record { same = reported_number number report; others = reported_elsewhere number report }
 
-pub reported_changes : (process : ℕ) (report : Status) → IsChangeOf process (reported_if process report)
-reported_changes process report = record { number = reported_number process report; others = reported_elsewhere process report }
+pub fallen_changes : (number code : ℕ) → IsChangeOf number (fallen_at number code)
+fallen_changes number code = record { same = fallen_number number code; others = fallen_elsewhere number code }
 
-pub fallen_changes : (process code : ℕ) → IsChangeOf process (fallen_if process code)
-fallen_changes process code = record { number = fallen_number process code; others = fallen_elsewhere process code }
+pub unasked_state : (number : ℕ) (row : Service) → (unasked_if number row).status.state ≡ row.status.state
+unasked_state number row = unasked_or (λ new. new.status.state ≡ row.status.state) number row refl refl

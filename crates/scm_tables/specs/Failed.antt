@@ -1,13 +1,14 @@
 -- Failures and reports, a part at a time.
-use Rattle.std.specs.Prelude.{ℕ, Option, map}
+use Rattle.std.specs.Prelude.{ℕ, ◌==◌, Option, map, if◌then◌else◌}
 use Rattle.failure_actions.specs.Failing.{on_failure}
 use Rattle.scm_model.specs.declared.flat.Flat.{Flat}
 use Rattle.scm_model.specs.declared.flat.Service.{Service}
 use Rattle.scm_model.specs.declared.flat.Status.{Status}
 use Rattle.scm_model.specs.Found.{if_found}
 use Rattle.scm_rules.specs.Failures.{counted_if, with_action}
-use Rattle.scm_rules.specs.Launches.{current_of}
-use Rattle.scm_rules.specs.Reports.{reported_if, reported_in, notified_of_report}
+use Rattle.scm_model.specs.Notices.{notified_of_move}
+use Rattle.scm_rules.specs.Launches.{fallen}
+use Rattle.scm_rules.specs.Reports.{notified_of_report, released_by, reported_in}
 use Rattle.scm_tables.specs.declared.failing.Failed.{Failed}
 
 -- what a failure of a service at a moment results in
@@ -19,16 +20,25 @@ abbrev pub with_failed : Failed → Flat → Flat
 with_failed failed f = if_found (with_action failed.number) failed.action
     (record f { services = map (counted_if failed.number f.moment) f.services })
 
--- the service takes a report whose current process this is, whether or not that is a failure
-abbrev pub taken_by : Flat → ℕ → Status → Flat
-taken_by f process report = record f {
-  services = map (reported_if process report) f.services;
-  registrations = notified_of_report f.processes report (current_of f process) f.registrations;
+-- ## Falls
+
+-- the service with this number falls
+abbrev pub fallen_at : ℕ → ℕ → Service → Service
+fallen_at number code row = if row.number == number then fallen code row else row
+
+-- a service falls, and registrations are notified of it
+abbrev pub with_one_fallen : Flat → ℕ → Service → Flat
+with_one_fallen f code row = record f {
+  services = map (fallen_at row.number code) f.services;
+  registrations = notified_of_move 0 row (fallen code row) f.registrations;
 }
 
--- a service takes a report as if its current process had made it
+-- ## Reports
+
+-- the service, if there is one, takes a report of its current process, whether or not that is a failure
 abbrev pub taken_by_service : Flat → Option Service → Status → Flat
 taken_by_service f service report = record f {
   services = reported_in report service f.services;
+  processes = if_found (released_by report) service f.processes;
   registrations = notified_of_report f.processes report service f.registrations;
 }

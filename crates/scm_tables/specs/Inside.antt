@@ -7,10 +7,10 @@ use Rattle.scm_model.specs.Needs.{needs_of}
 use Rattle.scm_model.specs.Walks.{IsAcyclic}
 use Rattle.scm_rules.specs.Needs.{need_rows}
 use Rattle.start_plan.specs.Asleep.{ArePending}
+use Rattle.start_plan.specs.Settle.{stays}
 use Rattle.scm_tables.specs.Marked.{marked_numbers}
 use Rattle.scm_tables.specs.Places.{HasPlaces, places}
 use Rattle.scm_tables.specs.Rooms.{AreRooms}
-use Rattle.scm_tables.specs.Owned.{AreOwners, HaveOwn}
 use Rattle.scm_tables.specs.Tabled.{AreByNumber, HasShort, Tabled}
 use Rattle.scm_tables.specs.declared.tables.Numbers.{Numbers}
 use Rattle.scm_tables.specs.declared.tables.Tables.TheInside.{Inside}
@@ -63,24 +63,23 @@ tabled t = record {
   };
 }
 
-abbrev pub IsBelow : ℕ → Plan → Type 0
-IsBelow next plan = plan.number < next
+-- a plan has a number below the next one, and is undecided or has a caller
+pub record IsKeptPlan (next : ℕ) (plan : Plan) : Type 0 where
+  pub below : plan.number < next
+  pub staying : IsTrue (stays plan)
 
--- services stand in order of number, and each that has a listed process is the one that it is of; their paths and names are short; their
--- needs are kept, and where it is said so, have no cycle; the numbers of those that are marked are kept, with room for each; as many
+-- services stand in order of number; their paths and names are short; their needs are kept, and where it is said so, have no cycle; the numbers of those that are marked are kept, with room for each; as many
 -- processes as may be listed find room; plans have numbers below
--- the next one, and sleep only for services whose state is about to change; what becomes due of a service finds a place
+-- the next one, are undecided or have a caller, and sleep only for services whose state is about to change; what becomes due of a service finds a place
 pub record IsKept (t : Inside) : Type 0 where
   pub rising : AreByNumber t.next.service t.services.services
-  pub owns : HaveOwn t.processes.next t.services.services
-  pub listed : AreOwners t.processes.processes t.services.services
   pub texts : All HasShort t.services.services
   pub index : t.index.rows ≡ need_rows t.services.services
   pub needs : IsTrue t.acyclic → IsAcyclic (needs_of (need_rows t.services.services))
   pub marked : t.leaving.items ≡ marked_numbers t.services.services
   pub marks : length t.services.services ≤ length t.leaving.items + t.leaving.room
   pub room : t.limits.processes ≤ t.processes.capacity
-  pub plans : AllByRecursion (IsBelow t.next.plan) t.plans.plans
+  pub plans : AllByRecursion (IsKeptPlan t.next.plan) t.plans.plans
   pub pending : ArePending t.services.services t.plans.awaited
   pub untried : t.tried.items ≡ []
   pub dues : HasPlaces t.services.services t.dues.rows t.dues.capacity

@@ -1,5 +1,5 @@
 pub mod Tabled
-pub mod Owned
+pub mod Asked
 pub mod Turned
 pub mod Listed
 pub mod Processed

@@ -1,5 +1,5 @@
 -- What contracts see of the processes, and what is always true of them.
-use Rattle.std.specs.Prelude.{ℕ, ◌≡◌, ◌+◌, ◌++◌, not, ◌==◌, List, [], ◌∷◌, filter, map, vec_capacity}
+use Rattle.std.specs.Prelude.{ℕ, Bool, ◌≡◌, ◌+◌, ◌++◌, not, ◌==◌, List, [], ◌∷◌, filter, map, vec_capacity}
 use Rattle.scm_model.specs.declared.flat.Process.{Process}
 use Rattle.scm_model.specs.declared.flat.Wanted.{Wanted}
 use Rattle.scm_rules.specs.Launches.{wanted_of_others}
@@ -37,9 +37,9 @@ pub record AreCounted (t : Inside) : Type 0 where
   pub owed : t.owed ≡ owed_in t.rows.items
 
 -- a process of a service, or of none, is to be launched with a line
-abbrev pub with_listed : ℕ → Lined → Processed → Processed
-with_listed service line t = record t {
-  processes = t.processes ++ wanted_process t.next service ∷ [];
+abbrev pub with_listed : ℕ → Bool → Lined → Processed → Processed
+with_listed service shared line t = record t {
+  processes = t.processes ++ wanted_process t.next service shared ∷ [];
   wanted = t.wanted ++ record { process = t.next; command = line.command; words = line.words } ∷ [];
   next = t.next + 1;
 }

@@ -1,16 +1,8 @@
--- What may befall the services with a process while the plans that sleep for them are woken.
-use Rattle.std.specs.Prelude.{ℕ, ◌≡◌, ◌≢◌, List, map}
+-- What may befall a service while the plans that sleep for it are woken.
+use Rattle.std.specs.Prelude.{ℕ, ◌≡◌, ◌≢◌}
 use Rattle.scm_model.specs.declared.flat.Service.{Service}
-use Rattle.start_plan.specs.Asleep.{ArePending}
 
--- a change of the services with a process, which keep their numbers
-pub record IsChangeOf (process : ℕ) (change : Service → Service) : Type 0 where
-  pub number : (row : Service) → (change row).number ≡ row.number
-  pub others : (row : Service) → row.process ≢ process → change row ≡ row
-
--- whatever becomes of the services with a process: if all that plans slept for was about to
--- change, so is all that they sleep for now
-abbrev pub AreWokenFor : ℕ → List Service → List ℕ → List ℕ → Type 0
-AreWokenFor process rows slept now =
-    ArePending rows slept → (change : Service → Service) → IsChangeOf process change
-    → ArePending (map change rows) now
+-- a change of the service with a number, which keeps it
+pub record IsChangeOf (number : ℕ) (change : Service → Service) : Type 0 where
+  pub same : (row : Service) → (change row).number ≡ row.number
+  pub others : (row : Service) → row.number ≢ number → change row ≡ row

@@ -1,18 +1,23 @@
-ghost use Rattle.std.specs.Prelude.{◌≡◌, ◌<◌, ◌^◌, ◌==◌, IfSome, IsTrue, map, option_copied};
-ghost use Rattle.std.specs.Prelude.{option_map};
+ghost use Rattle.std.specs.Prelude.{◌≡◌, ◌≤◌, ◌<◌, ◌+◌, ◌^◌, ◌==◌, AllPairs, IfSome, IsTrue, find};
+ghost use Rattle.std.specs.Prelude.{length, map, option_and_then, option_copied, option_map};
+ghost use Rattle.std.specs.Prelude.{slice_get};
 ghost use Rattle.std.specs.List.{list_any};
 ghost use Rattle.scm_model.specs.Found.{if_found};
+ghost use Rattle.scm_model.specs.Processes.{currents, is_by};
 ghost use Rattle.scm_model.specs.Rows.{service_of};
 ghost use Rattle.scm_rules.specs.Due.{is_due_of};
 ghost use Rattle.scm_rules.specs.Ends.{with_end};
-ghost use Rattle.scm_rules.specs.Failures.{counted_if, failed_by, is_failure, with_action};
-ghost use Rattle.scm_rules.specs.Failures.{with_due_after};
-ghost use Rattle.scm_rules.specs.Reports.{with_report, with_report_of};
+ghost use Rattle.scm_rules.specs.Failures.{all_failed, counted_if, failed_by, is_failure};
+ghost use Rattle.scm_rules.specs.Failures.{with_action, with_due_after, with_failure};
+ghost use Rattle.scm_rules.specs.Reports.{is_stopped_by, released_by, reporting};
+ghost use Rattle.scm_rules.specs.Reports.{with_report_of};
 ghost use Rattle.scm_rules.specs.Launches.{with_fallen};
-ghost use Rattle.scm_tables.specs.Failed.{failed_at, taken_by, taken_by_service, with_failed};
+ghost use Rattle.scm_tables.specs.Failed.{failed_at, taken_by_service, with_failed};
+ghost use Rattle.scm_tables.specs.Failed.{with_one_fallen};
 
 use super::noticing::{note_fall, note_report};
-use super::service_rows::{count_in, current_in, fall_in, report_in, wake_in};
+use super::processes::Processes;
+use super::service_rows::{count_in, current_in, current_with, fall_in, pairs_of, report_in};
 use super::tables::Tables;
 use failure_actions::{due_action, on_failure};
 use scm_model::codes::{ERROR_PROCESS_ABORTED, SERVICE_STOPPED};
@@ -49,6 +54,13 @@ fn is_failure(row: &Service, report: &Status) -> bool
         && report.win32 != 0
 }
 
+/// Whether a service takes a report that stops it.
+fn is_stopped_by(row: &Service, report: &Status) -> bool
+    ensures { result ≡ is_stopped_by report.now row.now }
+{
+    take_report(&row.status, report).is_ok() && report.state == SERVICE_STOPPED
+}
+
 /// The service, where the report is a failure of it.
 fn failed_by<'a>(service: Option<&'a Service>, report: &Status) -> Option<&'a Service>
     ensures { option_copied result ≡ failed_by report.now (option_copied service.entry) }
@@ -62,6 +74,18 @@ fn failed_by<'a>(service: Option<&'a Service>, report: &Status) -> Option<&'a Se
             }
         }
         None => None,
+    }
+}
+
+/// The orders of a service leave its process where a report stops it, if the process is shared.
+fn release_stopped(processes: &mut Processes, row: &Service, report: &Status)
+    ensures { processes.new ≡ record processes.old {
+      processes =
+          released_by report.now row.now processes.old.processes;
+    } }
+{
+    if is_stopped_by(row, report) {
+        processes.release(row.process, row.number);
     }
 }
 
@@ -122,65 +146,82 @@ impl Tables {
         }
     }
 
-    /// The service falls whose current process this is; its registrations are notified.
+    /// The failure of the service at a place among those whose current process this is is counted,
+    /// and what is to be done becomes due. It takes no memory.
+    fn fail_at(&mut self, process: u64, place: usize)
+        requires { self.old.flat.next.due < 2 ^ 63 }
+        ensures flat { self.new.flat ≡ if_found with_failure
+            (slice_get (currents process self.old.flat.services) place) self.old.flat }
+        ensures limits { self.new.limits ≡ self.old.limits }
+    {
+        let Some(pair) = pairs_of(&self.services, process).get(place) else {
+            return;
+        };
+        let failed = failure_of(self.services.get(pair.number), self.moment);
+        self.fail(failed);
+    }
+
+    /// Each service fails whose current process this is. It takes no memory.
+    fn fail_each(&mut self, process: u64)
+        requires { self.old.flat.next.due + length self.old.flat.services ≤ 2 ^ 63 }
+        ensures flat { self.new.flat
+            ≡ all_failed (currents process self.old.flat.services) self.old.flat }
+        ensures limits { self.new.limits ≡ self.old.limits }
+    {
+        for place in 0..pairs_of(&self.services, process).len() {
+            self.fail_at(process, place);
+        }
+    }
+
+    /// The service with a number falls, if it is there; its registrations are notified.
+    fn fall_one(&mut self, number: u64, code: u32)
+        ensures flat { self.new.flat ≡ if_found (λ row f. with_one_fallen f code row)
+            (service_of self.old.flat number) self.old.flat }
+        ensures limits { self.new.limits ≡ self.old.limits }
+    {
+        let Some(row) = self.services.get(number) else {
+            return;
+        };
+        note_fall(&mut self.registrations, row, code);
+        self.plans.wake(number);
+        fall_in(&mut self.services, number, code);
+    }
+
+    /// The number of the first service whose current process this is.
+    fn first_current(&self, process: u64) -> Option<u64>
+        ensures number { result ≡ option_map (λ row. row.number)
+            (find (is_by process) self.now.flat.services) }
+        ensures rising { AllPairs (λ a b. a.number < b.number) self.now.flat.services }
+    {
+        match current_in(&self.services, process) {
+            Some(row) => Some(row.number),
+            None => None,
+        }
+    }
+
+    /// Each service falls whose current process this is; its registrations are notified.
     pub fn fall(&mut self, process: u64, code: u32)
         ensures flat { self.new.flat ≡ with_fallen self.old.flat process code }
         ensures limits { self.new.limits ≡ self.old.limits }
     {
-        let of = self.processes.service_of(process);
-        note_fall(
-            &mut self.registrations,
-            current_in(&self.services, of, process),
-            process,
-            code,
-        );
-        wake_in(&mut self.plans, of, process);
-        fall_in(&mut self.services, of, process, code);
+        while let Some(number) = self.first_current(process) {
+            self.fall_one(number, code);
+        }
     }
 
-    /// The service falls whose current process this is, with `ERROR_PROCESS_ABORTED` (1067), which
+    /// Each service falls whose current process this is, with `ERROR_PROCESS_ABORTED` (1067), which
     /// is a failure of it. It takes no memory.
     pub fn process_exited(&mut self, process: u64)
-        requires { self.old.flat.next.due < 2 ^ 63 }
+        requires { self.old.flat.next.due + length self.old.flat.services ≤ 2 ^ 63 }
         ensures flat { self.new.flat ≡ with_end self.old.flat process }
         ensures limits { self.new.limits ≡ self.old.limits }
     {
-        let failed = failure_of(self.current(process), self.moment);
+        self.fail_each(process);
         self.fall(process, ERROR_PROCESS_ABORTED);
-        self.fail(failed);
     }
 
-    /// A service takes a report whose current process this is; its registrations are notified of
-    /// another state.
-    fn take_report(&mut self, process: u64, report: &Status)
-        ensures flat { self.new.flat ≡ taken_by self.old.flat process report.now }
-        ensures limits { self.new.limits ≡ self.old.limits }
-    {
-        let of = self.processes.service_of(process);
-        note_report(
-            &mut self.registrations,
-            current_in(&self.services, of, process),
-            report,
-            &self.processes,
-        );
-        wake_in(&mut self.plans, of, process);
-        report_in(&mut self.services, of, process, report);
-    }
-
-    /// The service takes a report whose current process this is, which may be a failure of it; its
-    /// registrations are notified of another state. It takes no memory.
-    pub fn report(&mut self, process: u64, report: &Status)
-        requires { self.old.flat.next.due < 2 ^ 63 }
-        ensures flat { self.new.flat ≡ with_report self.old.flat process report.now }
-        ensures limits { self.new.limits ≡ self.old.limits }
-    {
-        let failed = failure_of(failed_by(self.current(process), report), self.moment);
-        self.take_report(process, report);
-        self.fail(failed);
-    }
-
-    /// A service takes a report as if its current process had made it, if it is there; its
-    /// registrations are notified of another state.
+    /// A service takes a report of its current process, if it is there; its registrations are
+    /// notified of another state, and its orders leave a shared process where it stops.
     fn take_report_of(&mut self, service: u64, report: &Status)
         ensures flat { self.new.flat ≡ taken_by_service self.old.flat
             (service_of self.old.flat service) report.now }
@@ -189,15 +230,14 @@ impl Tables {
         let Some(row) = self.services.get(service) else {
             return;
         };
-        let process = row.process;
         note_report(&mut self.registrations, Some(row), report, &self.processes);
-        let of = self.processes.service_of(process);
-        wake_in(&mut self.plans, of, process);
-        report_in(&mut self.services, of, process, report);
+        release_stopped(&mut self.processes, row, report);
+        self.plans.wake(service);
+        report_in(&mut self.services, service, report);
     }
 
-    /// A service takes a report as if its current process had made it, if it is there, which may be
-    /// a failure of it; its registrations are notified of another state. It takes no memory.
+    /// A service takes a report of its current process, if it is there, which may be a failure of
+    /// it; its registrations are notified of another state. It takes no memory.
     pub fn report_of(&mut self, service: u64, report: &Status)
         requires { self.old.flat.next.due < 2 ^ 63 }
         ensures flat { self.new.flat ≡ with_report_of self.old.flat
@@ -207,5 +247,30 @@ impl Tables {
         let failed = failure_of(failed_by(self.service(service), report), self.moment);
         self.take_report_of(service, report);
         self.fail(failed);
+    }
+
+    /// The number of the service that a report of a process names, if this is its current process.
+    fn reporting_number(&self, process: u64, service: u64) -> Option<u64>
+        ensures { option_and_then (service_of self.now.flat) result
+            ≡ reporting self.now.flat process service }
+    {
+        match current_with(&self.services, self.reporter(process, service), process) {
+            Some(row) => Some(row.number),
+            None => None,
+        }
+    }
+
+    /// The service that a report of a process names takes it, if this is its current process, which
+    /// may be a failure of it; its registrations are notified of another state. It takes no memory.
+    pub fn report(&mut self, process: u64, service: u64, report: &Status)
+        requires { self.old.flat.next.due < 2 ^ 63 }
+        ensures flat { self.new.flat ≡ with_report_of self.old.flat
+            (reporting self.old.flat process service) report.now }
+        ensures limits { self.new.limits ≡ self.old.limits }
+    {
+        match self.reporting_number(process, service) {
+            Some(number) => self.report_of(number, report),
+            None => {}
+        }
     }
 }

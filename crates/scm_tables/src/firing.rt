@@ -277,7 +277,7 @@ impl Tables {
             return;
         };
         let line = Line::of_command(take_command_room(&mut self.commands), &row.config.command);
-        self.processes.list(0, line);
+        self.processes.list(0, false, line);
     }
 
     /// The row that is due first leaves, if one is due.

@@ -1,9 +1,9 @@
 ghost use Rattle.std.specs.Prelude.{ℕ, ◌≡◌, ◌==◌, ◌≤◌, find, if◌then◌else◌, IfSome, option_copied};
 ghost use Rattle.scm_model.specs.Found.{if_found};
 ghost use Rattle.scm_model.specs.Notices.{event_of_leaving, event_of_state, new_registration, noted};
-ghost use Rattle.scm_model.specs.Notices.{notified, pid_in, pid_of, put_in, state_mask, with_pid};
+ghost use Rattle.scm_model.specs.Notices.{notified, notified_of_move, pid_in, pid_of, put_in, state_mask, with_pid};
 ghost use Rattle.scm_rules.specs.Delete.{told_of_mark};
-ghost use Rattle.scm_rules.specs.Launches.{notified_of_fall};
+ghost use Rattle.scm_rules.specs.Launches.{fallen};
 ghost use Rattle.scm_rules.specs.Reports.{process_in_state, notified_of_report};
 ghost use Rattle.start_plan.specs.Entered.{notified_of_start};
 ghost use Rattle.scm_tables.specs.Tabled.{HasShort};
@@ -97,18 +97,13 @@ pub fn note_start(queue: &mut NotifyQueue, service: Option<&Service>, number: u6
     }
 }
 
-/// Tells that a service fell, if its current process is this one.
-pub fn note_fall(queue: &mut NotifyQueue, service: Option<&Service>, process: u64, code: u32)
-    requires { IfSome (option_copied service) HasShort }
-    ensures rows { queue.new.rows ≡ notified_of_fall process code
-        (option_copied service.entry) queue.old.rows }
+/// Tells that a service falls.
+pub fn note_fall(queue: &mut NotifyQueue, row: &Service, code: u32)
+    requires { HasShort row.now }
+    ensures rows { queue.new.rows ≡ notified_of_move 0 row.now (fallen code row.now) queue.old.rows }
     ensures spare { queue.new.spare ≡ queue.old.spare }
 {
-    if let Some(row) = service {
-        if row.process == process {
-            note_move(queue, row, take_end(&row.status, code), 0);
-        }
-    }
+    note_move(queue, row, take_end(&row.status, code), 0);
 }
 
 /// The process that a service has in a state, if it is there now.

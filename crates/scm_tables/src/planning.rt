@@ -1,8 +1,9 @@
-ghost use Rattle.std.specs.Prelude.{◌≡◌, ◌≤◌, ◌<◌, ◌+◌, ◌-◌, ◌^◌, None, [], length, min};
+ghost use Rattle.std.specs.Prelude.{◌≡◌, ◌≤◌, ◌<◌, ◌+◌, ◌-◌, ◌^◌, IsTrue, List, None, [], length};
+ghost use Rattle.std.specs.Prelude.{map, min};
 ghost use Rattle.std.specs.Prelude.{option_and_then, option_copied, vec_capacity, vec_len, OnOk};
-ghost use Rattle.std.specs.List.{list_any};
+ghost use Rattle.std.specs.List.{AllByRecursion, list_any};
 ghost use Rattle.scm_rules.specs.Launches.{first_wanted, is_taken, line_of, path_in, process_of};
-ghost use Rattle.scm_rules.specs.Launches.{service_of_process, with_decided, with_launched};
+ghost use Rattle.scm_rules.specs.Launches.{service_of_process, with_decided_for, with_launched};
 ghost use Rattle.scm_rules.specs.Launches.{with_taken, without_process};
 ghost use Rattle.scm_rules.specs.Owed.{owed};
 ghost use Rattle.scm_rules.specs.Room.{owed_by_due, owed_by_kind};
@@ -11,19 +12,41 @@ ghost use Rattle.scm_rules.specs.Due.{is_due};
 ghost use Rattle.scm_rules.specs.Start.{can_end, ended, with_plan};
 ghost use Rattle.scm_rules.specs.Steps.{wants_launch, without_plans};
 ghost use Rattle.scm_model.specs.Rows.{service_of};
-ghost use Rattle.start_plan.specs.Decided.{plan_caller, code_of, is_target};
+ghost use Rattle.number_pairs.specs.declared.pairs.Pair.{Pair};
+ghost use Rattle.start_plan.specs.Asleep.{ArePending};
+ghost use Rattle.start_plan.specs.Decided.{aims_among, code_of, decided_in, is_target};
+ghost use Rattle.start_plan.specs.Decided.{plan_caller};
+ghost use Rattle.start_plan.specs.Settle.{stays};
+ghost use Rattle.scm_model.specs.declared.flat.Service.{Service};
 ghost use Rattle.scm_tables.specs.Lines.{first_line};
 ghost use Rattle.scm_tables.specs.Listed.{wanted_of, without_words};
 ghost use Rattle.scm_tables.specs.Promised.{KeepsRooms};
 
 use super::process_rows::ProcessRow;
+use super::service_rows::pairs_of;
 use super::tables::Tables;
+use number_pairs::Pair;
 use scm_model::{DueKind, Plan, Service};
 use scm_text::{Items, OutOfMemory, TextRoom, WText};
+use start_plan::Plans;
 use std::mem::replace;
 
 /// After how many milliseconds a plan is given up.
 const PATIENCE: u64 = 120_000;
+
+/// Decides the undecided plans that aim at one of some services.
+fn decide_each(plans: &mut Plans, targets: &[Pair], code: u32)
+    requires { AllByRecursion (λ plan. IsTrue (stays plan)) plans.old.plans }
+    ensures plans { plans.new.plans ≡ decided_in
+        (aims_among (map (λ (pair : Pair). pair.number) targets.now)) code plans.old.plans }
+    ensures awaited { (rows : List Service) → ArePending rows plans.old.awaited
+        → ArePending rows plans.new.awaited }
+    ensures spare { plans.old.spare ≤ plans.new.spare }
+{
+    for target in targets {
+        plans.failed(target.number, code);
+    }
+}
 
 impl Tables {
     /// The process that is to be launched first.
@@ -146,14 +169,12 @@ impl Tables {
         self.processes.remove(process);
     }
 
-    /// Decides the undecided plans with a target, if any.
-    pub fn decide(&mut self, target: Option<u64>, code: u32)
-        ensures flat { self.new.flat ≡ with_decided self.old.flat target code }
+    /// Decides the undecided plans that aim at a service whose current process this is.
+    pub fn decide_for(&mut self, process: u64, code: u32)
+        ensures flat { self.new.flat ≡ with_decided_for self.old.flat process code }
         ensures limits { self.new.limits ≡ self.old.limits }
     {
-        if let Some(target) = target {
-            self.plans.failed(target, code);
-        }
+        decide_each(&mut self.plans, pairs_of(&self.services, process), code);
     }
 
     /// The code of a plan; none where it is undecided or absent.

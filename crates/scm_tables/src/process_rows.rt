@@ -6,6 +6,7 @@ ghost use Rattle.scm_model.specs.declared.flat.Phase.TheVariants as phases;
 ghost use Rattle.scm_rules.specs.Controls.{controlled_if, dequeued_if};
 ghost use Rattle.scm_rules.specs.Launches.{first_wanted, launched_if, taken_if};
 ghost use Rattle.scm_rules.specs.Owed.{owed_in_phase};
+ghost use Rattle.scm_rules.specs.Reports.{released_if};
 ghost use Rattle.scm_rules.specs.Steps.{wants_launch as is_any_wanted};
 ghost use Rattle.scm_tables.specs.Listed.{is_wanted_row, listed_as, processes_in, wanted_in};
 ghost use Rattle.scm_tables.specs.Listed.{without_words, next_words};
@@ -172,6 +173,30 @@ pub fn relieve_in(rows: &mut Vec<ProcessRow>, number: u64)
 {
     if let Some(place) = place_of(rows.as_slice(), number) {
         relieve_row(&mut rows[place]);
+    }
+}
+
+/// The orders of a service leave a process that is shared.
+fn release_row(row: &mut ProcessRow, service: u64)
+    ensures { row.new ≡ (if row.old.shared
+        then record row.old {
+          controls = filter
+              (λ order. not (order.service == service)) row.old.controls;
+        } else row.old) }
+{
+    if row.shared {
+        row.controls.release(service);
+    }
+}
+
+/// The orders of a service leave a process, if it is shared.
+pub fn release_in(rows: &mut Vec<ProcessRow>, number: u64, service: u64)
+    requires { AllPairs (λ a b. a.number < b.number) rows.old.items }
+    ensures rows { rows.new.items ≡ map (listed_as (released_if number service)) rows.old.items }
+    ensures capacity { vec_capacity rows.new ≡ vec_capacity rows.old }
+{
+    if let Some(place) = place_of(rows.as_slice(), number) {
+        release_row(&mut rows[place], service);
     }
 }
 

@@ -1,10 +1,12 @@
 ghost use Rattle.std.specs.Prelude.{◌≡◌, ◌≤◌, ◌<◌, ◌-◌, ◌==◌, ◌^◌, [], find, length, min, nat_le};
 ghost use Rattle.std.specs.Prelude.{option_copied, option_map, slice_get, All, IfOk};
+ghost use Rattle.scm_model.specs.Processes.{is_shared};
 ghost use Rattle.scm_model.specs.Notices.{pid_in};
 ghost use Rattle.scm_rules.specs.Controls.{controlled_if, controls_in, first_control, dequeued_if};
 ghost use Rattle.scm_rules.specs.Launches.{first_wanted, is_launched, is_taken, launched_if};
 ghost use Rattle.scm_rules.specs.Launches.{taken_if};
 ghost use Rattle.scm_rules.specs.Owed.{owed_by_process};
+ghost use Rattle.scm_rules.specs.Reports.{released_if};
 ghost use Rattle.scm_rules.specs.Steps.{wants_launch};
 ghost use Rattle.start_plan.specs.Owed.{total};
 ghost use Rattle.scm_tables.specs.Listed.{process_shown, wanted_of, without_words, next_words};
@@ -14,7 +16,7 @@ ghost use Rattle.scm_tables.specs.Processed.{without_one};
 use super::lines::Line;
 use super::process_rows::{
     ProcessRow, control_in, drop_process, first_wanted, is_any_wanted, launch_in, owed_in_phase,
-    process_with, relieve_in, take_in, take_words, wanted_first,
+    process_with, release_in, relieve_in, take_in, take_words, wanted_first,
 };
 use control_dispatch::Controls;
 use scm_model::{Order, Phase};
@@ -131,6 +133,16 @@ impl Processes {
         }
     }
 
+    /// Whether a process is listed and shared.
+    pub fn is_shared(&self, number: u64) -> bool
+        ensures { result ≡ is_shared (find (λ row. row.number == number) self.now.processes) }
+    {
+        match self.get(number) {
+            Some(row) => row.shared,
+            None => false,
+        }
+    }
+
     /// How many orders wait for a process; none where it isn't listed.
     pub fn waiting(&self, number: u64) -> Option<u32>
         ensures { result ≡ option_map (λ row. length row.controls)
@@ -175,15 +187,15 @@ impl Processes {
     }
 
     /// Lists a process that is to be launched, of a service or of none. It takes no memory.
-    pub fn list(&mut self, service: u64, line: Line)
+    pub fn list(&mut self, service: u64, shared: bool, line: Line)
         requires room { length self.old.processes < self.old.capacity }
         requires next { self.old.next < 2 ^ 63 }
-        ensures { self.new ≡ with_listed service line self.old }
+        ensures { self.new ≡ with_listed service shared line self.old }
     {
         self.rows.push_reserved(ProcessRow {
             number: self.next,
             service,
-            shared: false,
+            shared,
             phase: Phase::Wanted,
             pid: 0,
             controls: Controls::new(),
@@ -227,6 +239,13 @@ impl Processes {
         ensures { self.new ≡ with_changed (dequeued_if number) self.old }
     {
         relieve_in(&mut self.rows, number);
+    }
+
+    /// The orders of a service leave a process, if it is shared.
+    pub fn release(&mut self, number: u64, service: u64)
+        ensures { self.new ≡ with_changed (released_if number service) self.old }
+    {
+        release_in(&mut self.rows, number, service);
     }
 
     /// Takes the words of the launch that is wanted first. It takes no memory.

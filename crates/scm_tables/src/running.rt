@@ -1,10 +1,12 @@
-ghost use Rattle.std.specs.Prelude.{◌≡◌, ◌≤◌, option_copied};
-ghost use Rattle.scm_rules.specs.Controls.{active_among, controls_of, first_control, waiting};
-ghost use Rattle.scm_rules.specs.Controls.{with_control, with_control_taken};
+ghost use Rattle.std.specs.Prelude.{◌≡◌, ◌≤◌, find, length, option_copied, option_map};
+ghost use Rattle.scm_model.specs.Processes.{is_by, is_shared};
+ghost use Rattle.scm_rules.specs.Controls.{active_among, next_order, waiting, with_control};
+ghost use Rattle.scm_rules.specs.Controls.{with_control_taken};
 ghost use Rattle.scm_rules.specs.Query.{status_in};
-ghost use Rattle.scm_rules.specs.Launches.{current_of, is_launched, process_of};
+ghost use Rattle.scm_rules.specs.Launches.{is_launched, process_of};
+ghost use Rattle.scm_rules.specs.Reports.{reporter, reporting};
 
-use super::service_rows::current_in;
+use super::service_rows::{count_asked_in, current_in, current_with, first_asked_in, unask_in};
 use super::tables::Tables;
 use scm_model::{Order, Service, Status, zero_status};
 
@@ -26,11 +28,30 @@ impl Tables {
         self.processes.is_launched(process)
     }
 
-    /// The service whose current process this is.
+    /// The first service whose current process this is.
     pub fn current(&self, process: u64) -> Option<&Service>
-        ensures { option_copied result ≡ current_of self.now.flat process }
+        ensures { option_copied result ≡ find (is_by process) self.now.flat.services }
     {
-        current_in(&self.services, self.processes.service_of(process), process)
+        current_in(&self.services, process)
+    }
+
+    /// The number of the service that a report of a process names, which may be the one that the
+    /// process was launched for.
+    pub(crate) fn reporter(&self, process: u64, service: u64) -> u64
+        ensures { result ≡ reporter self.now.flat process service }
+    {
+        if service == 0 {
+            self.processes.service_of(process).unwrap_or(0)
+        } else {
+            service
+        }
+    }
+
+    /// The service that a report of a process names, if this is its current process.
+    pub fn reporting(&self, process: u64, service: u64) -> Option<&Service>
+        ensures { option_copied result ≡ reporting self.now.flat process service }
+    {
+        current_with(&self.services, self.reporter(process, service), process)
     }
 
     /// How many services name a service as a need and aren't STOPPED, in 32 bits.
@@ -46,18 +67,43 @@ impl Tables {
         }
     }
 
+    /// Whether other services may live in a process too.
+    pub fn shares(&self, process: u64) -> bool
+        ensures { result ≡ is_shared (process_of self.now.flat process) }
+    {
+        self.processes.is_shared(process)
+    }
+
     /// How many orders wait for a process; none where it isn't listed.
-    pub fn waiting(&self, process: u64) -> Option<u32>
-        ensures { result ≡ waiting self.now.flat process }
+    pub fn orders(&self, process: u64) -> Option<u32>
+        ensures { result ≡ option_map (λ row. length row.controls)
+            (process_of self.now.flat process) }
     {
         self.processes.waiting(process)
     }
 
-    /// The order that waits first for a process.
-    pub fn first_control(&self, process: u64) -> Option<Order>
-        ensures { result ≡ first_control (controls_of self.now.flat process) }
+    /// How many services and orders a process is still to be told of; none where it isn't listed.
+    pub fn waiting(&self, process: u64) -> Option<usize>
+        ensures { result ≡ waiting self.now.flat process }
     {
-        self.processes.first_control(process)
+        match self.processes.waiting(process) {
+            Some(orders) => Some(orders as usize + count_asked_in(&self.services, process)),
+            None => None,
+        }
+    }
+
+    /// What is sent to a process next: that a service is to start, with code 0, and else the order
+    /// that waits first.
+    pub fn next_order(&self, process: u64) -> Option<Order>
+        ensures { result ≡ next_order self.now.flat process }
+    {
+        match first_asked_in(&self.services, process) {
+            Some(row) => Some(Order {
+                service: row.number,
+                code: 0,
+            }),
+            None => self.processes.first_control(process),
+        }
     }
 
     /// An order more waits for a process, as long as fewer do than may. It takes no memory.
@@ -70,11 +116,17 @@ impl Tables {
         self.processes.control(self.limits.controls, process, order);
     }
 
-    /// The order that waits first for a process waits no longer.
+    /// What is sent to a process next is taken.
     pub fn take_control(&mut self, process: u64)
         ensures flat { self.new.flat ≡ with_control_taken self.old.flat process }
         ensures limits { self.new.limits ≡ self.old.limits }
     {
-        self.processes.dequeue_control(process);
+        match first_asked_in(&self.services, process) {
+            Some(row) => {
+                let number = row.number;
+                unask_in(&mut self.services, number);
+            }
+            None => self.processes.dequeue_control(process),
+        }
     }
 }

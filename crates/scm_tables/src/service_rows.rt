@@ -1,29 +1,28 @@
-ghost use Rattle.std.specs.Prelude.{List, ◌≡◌, ◌≢◌, ◌<◌, ◌==◌, ◌&&◌, ◌||◌, ⊤, not, find, filter};
-ghost use Rattle.std.specs.Prelude.{length, map, option_and_then, option_copied, AllPairs, IfSome};
-ghost use Rattle.std.specs.Prelude.{Some};
+ghost use Rattle.std.specs.Prelude.{◌≡◌, ◌<◌, ◌^◌, ◌==◌, ◌&&◌, ◌||◌, ⊤, not, find, filter, length};
+ghost use Rattle.std.specs.Prelude.{map, option_and_then, option_copied, AllPairs, Some};
 ghost use Rattle.std.specs.List.{list_any};
 ghost use Rattle.record_table.specs.Recorded.{is_displayed, is_named, spare_of};
 ghost use Rattle.scm_model.specs.Changes.{configured_if, marked_if};
 ghost use Rattle.scm_model.specs.Purge.{leaves};
+ghost use Rattle.number_pairs.specs.declared.pairs.Pair.{Pair};
+ghost use Rattle.scm_model.specs.Processes.{currents_in, is_by};
+ghost use Rattle.scm_rules.specs.Controls.{is_asked_by, unasked_if};
 ghost use Rattle.scm_rules.specs.Failures.{counted_if};
-ghost use Rattle.scm_rules.specs.Launches.{fallen_if};
 ghost use Rattle.scm_rules.specs.Reports.{reported_if};
 ghost use Rattle.start_plan.specs.Entered.{started_if};
 ghost use Rattle.scm_model.specs.Ready.{is_running};
-ghost use Rattle.scm_model.specs.declared.flat.Service.{Service};
+ghost use Rattle.scm_tables.specs.Failed.{fallen_at};
+ghost use Rattle.scm_tables.specs.Asked.{asked_in};
 ghost use Rattle.scm_tables.specs.Marked.{number_leaves};
-ghost use Rattle.scm_tables.specs.Owned.{NoOtherHas};
-ghost use Rattle.scm_tables.specs.Woken.{AreWokenFor};
 
-use super::turning::{Count, Fall, Mark, Report, Start, Typing};
+use super::turning::{Count, Fall, Mark, Report, Start, Typing, Unask};
 use handle_table::HandleTable;
 use marked_delete::Free;
+use number_pairs::Pair;
 use record_table::RecordTable;
-use row_slab::Change;
 use scm_model::codes::{SERVICE_RUNNING, SERVICE_STOPPED};
 use scm_model::{Config, Opened, Service, Status};
 use scm_text::WText;
-use start_plan::Plans;
 
 /// The service that a handle is of.
 pub fn row_in(rows: &RecordTable, opened: Option<Opened>) -> Option<&Service>
@@ -135,91 +134,112 @@ pub fn start_in(rows: &mut RecordTable, number: u64, process: u64)
     let _found = rows.alter(number, &Start { process });
 }
 
-/// Changes the services whose current process this is: the one that it is said to be of, if it is
-/// said to be of one.
-fn change_with<C: Change<Service>>(
-    rows: &mut RecordTable,
-    of: Option<u64>,
-    process: u64,
-    change: &C,
-)
-    requires configs { (row : Service) → (C.changed change.now row).config ≡ row.config }
-    requires others { (row : Service) → row.process ≢ process → C.changed change.now row ≡ row }
-    requires told { IfSome of (NoOtherHas process rows.old.services) }
-    ensures { rows.new.services ≡ map (C.changed change.now) rows.old.services }
+/// The service with a number takes a report.
+pub fn report_in(rows: &mut RecordTable, number: u64, report: &Status)
+    ensures { rows.new.services ≡ map (reported_if number report.now) rows.old.services }
 {
-    match of {
-        Some(service) if process != 0 => {
-            let _found = rows.alter(service, change);
-        }
-        _ => rows.alter_each(change),
-    }
+    let _found = rows.alter(number, &Report { report });
 }
 
-/// The service takes a report whose current process this is. It is looked for among all only where
-/// the process isn't said to be of one.
-pub fn report_in(rows: &mut RecordTable, of: Option<u64>, process: u64, report: &Status)
-    requires { IfSome of (NoOtherHas process rows.old.services) }
-    ensures { rows.new.services ≡ map (reported_if process report.now) rows.old.services }
+/// The service with a number falls.
+pub fn fall_in(rows: &mut RecordTable, number: u64, code: u32)
+    ensures { rows.new.services ≡ map (fallen_at number code) rows.old.services }
 {
-    change_with(rows, of, process, &Report { process, report });
+    let _found = rows.alter(number, &Fall { code });
 }
 
-/// The service falls whose current process this is. It is looked for among all only where the
-/// process isn't said to be of one.
-pub fn fall_in(rows: &mut RecordTable, of: Option<u64>, process: u64, code: u32)
-    requires { IfSome of (NoOtherHas process rows.old.services) }
-    ensures { rows.new.services ≡ map (fallen_if process code) rows.old.services }
+/// The service with a number isn't asked to start any more.
+pub fn unask_in(rows: &mut RecordTable, number: u64)
+    ensures { rows.new.services ≡ map (unasked_if number) rows.old.services }
 {
-    change_with(rows, of, process, &Fall { process, code });
+    let _found = rows.alter(number, &Unask);
+}
+
+/// Whether this is a service's current process; 0 is none.
+fn is_by(row: &Service, process: u64) -> bool
+    ensures { result ≡ is_by process row.now }
+{
+    process != 0 && row.process == process
 }
 
 /// The first service whose current process this is.
-fn first_with(rows: &RecordTable, process: u64) -> Option<&Service>
-    ensures { option_copied result ≡ find (λ row. row.process == process) rows.now.services }
+pub fn current_in(rows: &RecordTable, process: u64) -> Option<&Service>
+    ensures { option_copied result ≡ find (is_by process) rows.now.services }
 {
-    rows.iter().find(|row| row.process == process)
+    if process == 0 {
+        return None;
+    }
+    rows.get(rows.first_of_process(process)?)
 }
 
-/// The service with a number, if its current process is this one, which no other service has.
-fn row_having(rows: &RecordTable, service: u64, process: u64) -> Option<&Service>
-    requires ordered { AllPairs (λ a b. a.number < b.number) rows.now.services }
-    requires some { process ≢ 0 }
-    requires told { NoOtherHas process rows.now.services service }
-    ensures { option_copied result ≡ find (λ row. row.process == process) rows.now.services }
+/// The service with a number, if this is its current process.
+pub fn current_with(rows: &RecordTable, number: u64, process: u64) -> Option<&Service>
+    requires { AllPairs (λ a b. a.number < b.number) rows.now.services }
+    ensures { option_copied result ≡ find (λ row. row.number == number && is_by process row)
+        rows.now.services }
 {
-    let row = rows.get(service)?;
-    if row.process == process {
-        Some(row)
+    let row = rows.get(number)?;
+    if is_by(row, process) { Some(row) } else { None }
+}
+
+/// The services with a process, or none if there is no process.
+pub fn pairs_of(rows: &RecordTable, process: u64) -> &[Pair]
+    ensures { map (λ (pair : Pair). pair.number) result.now
+        ≡ currents_in process rows.now.services }
+{
+    if process == 0 {
+        &[]
     } else {
-        None
+        rows.of_process(process)
     }
 }
 
-/// The service whose current process this is. It is looked for among all only where the process
-/// isn't said to be of one.
-pub fn current_in(rows: &RecordTable, of: Option<u64>, process: u64) -> Option<&Service>
-    requires ordered { AllPairs (λ a b. a.number < b.number) rows.now.services }
-    requires told { IfSome of (NoOtherHas process rows.now.services) }
-    ensures { option_copied result ≡ find (λ row. row.process == process) rows.now.services }
+/// Whether the service with a number is asked to start.
+fn is_asked(rows: &RecordTable, number: u64) -> bool
+    ensures { result ≡ asked_in (find (λ row. row.number == number) rows.now.services) }
 {
-    match of {
-        Some(service) if process != 0 => row_having(rows, service, process),
-        _ => first_with(rows, process),
+    match rows.get(number) {
+        Some(row) => row.asked,
+        None => false,
     }
 }
 
-/// Wakes the plans that sleep for the service that a process is said to be of, and else all.
-pub fn wake_in(plans: &mut Plans, of: Option<u64>, process: u64)
-    ensures plans { plans.new.plans ≡ plans.old.plans }
-    ensures awaited { (rows : List Service) → IfSome of (NoOtherHas process rows)
-        → AreWokenFor process rows plans.old.awaited plans.new.awaited }
-    ensures spare { plans.new.spare ≡ plans.old.spare }
+/// The first of some pairs whose service is asked to start.
+fn first_asked_of<'a>(rows: &RecordTable, pairs: &'a [Pair]) -> Option<&'a Pair>
+    ensures { option_copied result ≡ find (λ pair. asked_in
+        (find (λ row. row.number == pair.number) rows.now.services)) pairs.now }
 {
-    match of {
-        Some(service) if process != 0 => plans.wake(service),
-        _ => plans.wake_all(),
-    }
+    pairs.iter().find(|pair| is_asked(rows, pair.number))
+}
+
+/// How many of some pairs have a service that is asked to start.
+fn count_asked_of(rows: &RecordTable, pairs: &[Pair]) -> usize
+    ensures count { result ≡ length (filter (λ pair. asked_in
+        (find (λ row. row.number == pair.number) rows.now.services)) pairs.now) }
+    ensures small { result < 2 ^ 63 }
+{
+    pairs
+        .iter()
+        .filter(|pair| is_asked(rows, pair.number))
+        .count()
+}
+
+/// The first service that a process is still to be sent to start.
+pub fn first_asked_in(rows: &RecordTable, process: u64) -> Option<&Service>
+    requires { AllPairs (λ a b. a.number < b.number) rows.now.services }
+    ensures { option_copied result ≡ find (is_asked_by process) rows.now.services }
+{
+    let pair = first_asked_of(rows, pairs_of(rows, process))?;
+    rows.get(pair.number)
+}
+
+/// How many services a process is still to be sent to start.
+pub fn count_asked_in(rows: &RecordTable, process: u64) -> usize
+    requires { AllPairs (λ a b. a.number < b.number) rows.now.services }
+    ensures count { result ≡ length (filter (is_asked_by process) rows.now.services) }
+    ensures small { result < 2 ^ 63 }
+{
+    count_asked_of(rows, pairs_of(rows, process))
 }
 
 /// A failure at a moment is counted with the service with a number.

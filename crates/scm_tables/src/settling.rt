@@ -1,7 +1,7 @@
 ghost use Rattle.std.specs.Prelude.{◌≡◌, Some, false, find, is_some, option_copied};
 ghost use Rattle.std.specs.List.{list_any};
 ghost use Rattle.scm_model.specs.Rows.{members, named};
-ghost use Rattle.start_plan.specs.Entered.{HasNumbers};
+ghost use Rattle.start_plan.specs.Entered.{HasNumbers, is_shared_by};
 ghost use Rattle.start_plan.specs.Moves.{cause_at, entering_at};
 ghost use Rattle.scm_model.specs.Ready.{is_fulfilled, is_ready, is_running, is_up, state_of};
 ghost use Rattle.start_plan.specs.Settle.{settled};
@@ -15,6 +15,7 @@ use dependency_index::StateOf;
 use scm_model::codes::{
     ERROR_SERVICE_DEPENDENCY_FAIL, ERROR_SERVICE_DISABLED, ERROR_SERVICE_MARKED_FOR_DELETE,
     ERROR_SERVICE_NO_THREAD, SERVICE_DISABLED, SERVICE_RUNNING, SERVICE_STOPPED,
+    SERVICE_WIN32_SHARE_PROCESS,
 };
 use scm_model::{Need, Service};
 use scm_text::{Items, WText};
@@ -27,6 +28,16 @@ fn is_up(service: Option<&Service>) -> bool
 {
     match service {
         Some(row) => !row.marked && row.status.state == SERVICE_RUNNING,
+        None => false,
+    }
+}
+
+/// Whether a service's process is shared.
+fn is_sharing(service: Option<&Service>) -> bool
+    ensures { result ≡ is_shared_by (option_copied service.entry) }
+{
+    match service {
+        Some(row) => row.config.kind == SERVICE_WIN32_SHARE_PROCESS,
         None => false,
     }
 }
@@ -130,8 +141,11 @@ impl Field for Tables {
     }
 
     fn enter(&mut self, service: u64, words: Items<WText>) {
-        note_start(&mut self.registrations, self.services.get(service), service);
+        let row = self.services.get(service);
+        let shared = is_sharing(row);
+        note_start(&mut self.registrations, row, service);
         start_in(&mut self.services, service, self.processes.next());
-        self.processes.list(service, Line::of_service(words));
+        self.processes
+            .list(service, shared, Line::of_service(words));
     }
 }

@@ -1,5 +1,6 @@
 ghost use Rattle.std.specs.Prelude.{◌≡◌, ◌+◌, ◌^◌, ◌<◌, ◌≤◌, ◌==◌, filter, IfOk, OnOk, length};
-ghost use Rattle.std.specs.Prelude.{option_copied, slice_get, All, IsFalse, IsTrue, OnErr, []};
+ghost use Rattle.std.specs.Prelude.{option_copied, option_map, slice_get, All, IfSome, IsFalse, IsTrue};
+ghost use Rattle.std.specs.Prelude.{OnErr, []};
 ghost use Rattle.scm_model.specs.Changes.{with_handle, without_handle, without_handles_of};
 ghost use Rattle.scm_model.specs.Changes.{with_caller, without_caller, reconfigured, with_moment};
 ghost use Rattle.scm_model.specs.Changes.{without_lock_of};
@@ -475,6 +476,18 @@ impl Tables {
         ensures { option_copied result ≡ service_of self.now.flat number }
     {
         self.services.get(number)
+    }
+
+    /// The name of the service with a number. It has at most 256 units.
+    pub fn name_of(&self, service: u64) -> Option<&WText>
+        ensures name { option_map (λ name. name.now) result
+            ≡ option_map (λ row. row.config.name) (service_of self.now.flat service) }
+        ensures short { IfSome result (λ name. length name.now ≤ 256) }
+    {
+        match self.services.get(service) {
+            Some(row) => Some(&row.config.name),
+            None => None,
+        }
     }
 
     /// The service at a place.

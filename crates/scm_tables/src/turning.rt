@@ -1,12 +1,14 @@
 ghost use Rattle.std.specs.Prelude.{◌≡◌};
 ghost use Rattle.std.proofs.Common.{refl};
-ghost use Rattle.scm_rules.specs.Launches.{fallen_if};
-ghost use Rattle.scm_rules.specs.Reports.{reported_if};
+ghost use Rattle.scm_rules.specs.Launches.{fallen};
+ghost use Rattle.scm_rules.specs.Reports.{moved_by};
+ghost use Rattle.status_machine.specs.Moves.{take_report};
 ghost use Rattle.scm_tables.specs.Turned.{failure_counted, marked, running_as, started, typed};
+ghost use Rattle.scm_tables.specs.Turned.{unasked};
 
 use failure_actions::on_failure;
 use row_slab::Change;
-use scm_model::codes::{SERVICE_START_PENDING, SERVICE_STOPPED};
+use scm_model::codes::{SERVICE_START_PENDING, SERVICE_STOPPED, SERVICE_WIN32_SHARE_PROCESS};
 use scm_model::{Service, Status};
 use status_machine::{take_end, take_report};
 
@@ -78,52 +80,63 @@ impl Change<Service> for Start {
         if row.status.state == SERVICE_STOPPED {
             row.status = bare_status(row.status.kind, SERVICE_START_PENDING, 0);
             row.process = self.process;
+            row.asked = row.config.kind == SERVICE_WIN32_SHARE_PROCESS;
         }
     }
 }
 
-/// A service whose current process this is takes a report of it, if it is one that it may make.
+/// A service takes a report of its current process, if it is one that it may make.
 #[derive(Clone, Copy)]
 pub struct Report<'a> {
-    pub process: u64,
     pub report: &'a Status,
 }
 
 impl<'a> Change<Service> for Report<'a> {
     ghost changed = { λ change row.
-        running_as (reported_if change.process change.report.now row) row };
+        running_as (moved_by row (take_report row.status change.report.now)) row };
 
     ghost keeps = { λ change row. refl };
 
     fn change(&self, row: &mut Service) {
-        if row.process == self.process && take_report(&row.status, self.report).is_ok() {
+        if take_report(&row.status, self.report).is_ok() {
             row.status = *self.report;
-            row.process = if self.report.state == SERVICE_STOPPED {
-                0
-            } else {
-                self.process
-            };
+            if self.report.state == SERVICE_STOPPED {
+                row.process = 0;
+                row.asked = false;
+            }
         }
     }
 }
 
-/// A service whose current process this is falls.
+/// A service falls.
 #[derive(Clone, Copy)]
 pub struct Fall {
-    pub process: u64,
     pub code: u32,
 }
 
 impl Change<Service> for Fall {
-    ghost changed = { λ change row. running_as (fallen_if change.process change.code row) row };
+    ghost changed = { λ change row. running_as (fallen change.code row) row };
 
     ghost keeps = { λ change row. refl };
 
     fn change(&self, row: &mut Service) {
-        if row.process == self.process {
-            row.status = take_end(&row.status, self.code);
-            row.process = 0;
-        }
+        row.status = take_end(&row.status, self.code);
+        row.process = 0;
+        row.asked = false;
+    }
+}
+
+/// A service isn't asked to start any more.
+#[derive(Clone, Copy)]
+pub struct Unask;
+
+impl Change<Service> for Unask {
+    ghost changed = { λ change. unasked };
+
+    ghost keeps = { λ change row. refl };
+
+    fn change(&self, row: &mut Service) {
+        row.asked = false;
     }
 }
 

@@ -14,12 +14,11 @@ judged b report = cond b (Ok report) (Err 13)
 
 -- a service that takes a report
 taken : (row : Service) (report : Status) → is_ok (take_report row.status report) ≡ true
-    → reported_if row.process report row ≡ record row { status = report; process = process_in_state report.state row.process }
+    → reported_if row.number report row ≡ moved_by row (Ok report)
 taken row report =
     elim (takes row.status report) as (λ b. is_ok (judged b report) ≡ true
-    → cond (row.process == row.process) (moved_by row (judged b report)) row ≡
-    record row { status = report; process = process_in_state report.state row.process })
-    [ true ↦ λ ok. ap (λ b. cond b (moved_by row (Ok report)) row) (eq-eqb row.process row.process refl) | false ↦ λ ok. absurd (cc) ]
+    → cond (row.number == row.number) (moved_by row (judged b report)) row ≡ moved_by row (Ok report))
+    [ true ↦ λ ok. ap (λ b. cond b (moved_by row (Ok report)) row) (eq-eqb row.number row.number refl) | false ↦ λ ok. absurd (cc) ]
 
 -- what registrations are told then
 told : (processes : List Process) (row : Service) (report : Status) (rows : List Registration)
@@ -30,7 +29,7 @@ told : (processes : List Process) (row : Service) (report : Status) (rows : List
       status = with_pid report (pid_of processes (record row { status = report; process = process_in_state report.state row.process }));
       name = row.config.name;
     }) rows)
-    ≡ notified_of_move (pid_of processes (reported_if row.process report row)) row (reported_if row.process report row) rows
+    ≡ notified_of_move (pid_of processes (reported_if row.number report row)) row (reported_if row.number report row) rows
 told processes row report rows ok = ap (λ (new : Service). notified_of_move (pid_of processes new) row new rows) (sym (taken row report ok))
 
 pub returns-then-is_ok-clause-rows : goal.returns-then-is_ok-clause-rows

@@ -5,5 +5,6 @@ pub invariant_of-self : goal.invariant_of-self
 invariant_of-self c = record {
   rising = c.self.invariant.rising;
   texts = still_of _ _ _ c.forget_room.ensures c.self.invariant.texts;
+  processes = c.self.invariant.processes;
   spare = rw c.take.ensures.after tt;
 }

@@ -2,6 +2,7 @@ use Rattle.std.proofs.Common.{◌≡◌, ◌∙◌}
 use Rattle.std.proofs.lemmas.Option.{same_Some}
 use Rattle.record_table.specs.Recorded.{spare_of}
 use Rattle.record_table.proofs.Moving.{entered}
+use Rattle.record_table.proofs.Processes as processes
 use Rattle.record_table.proofs.Rising.{rising_push}
 use Rattle.record_table.proofs.table.RecordTable.insert.Goals as goal
 
@@ -14,5 +15,7 @@ invariant_of-self-2 c =
       rising = rising_push c.self.inside.rows.items c.args.service c.self.invariant.rising above;
       texts = entered c.self.inside.texts c.enter_texts.new.texts c.self.inside.rows.items c.args.service c.in-Some.spare
           c.self.invariant.texts made above c.enter_texts.ensures;
+      processes = processes.entered c.self.inside.processes.items c.add.new.self.items c.self.inside.rows.items c.args.service
+          c.self.invariant.processes above c.add.ensures.under;
       spare = rw c.in-Some.ensures.after tt;
     })

@@ -3,6 +3,7 @@ use Rattle.std.proofs.lemmas.Option.{same_Some}
 use Rattle.record_table.specs.Recorded.{spare_of, has_number, number_of, with_config}
 use Rattle.record_table.proofs.Finding.{none_changes, none_configured, some_configured}
 use Rattle.record_table.proofs.Moving.{exchanged_each, still_room}
+use Rattle.record_table.proofs.Processes as processes
 use Rattle.record_table.proofs.Rising.{altered_number, rising_map}
 use Rattle.row_slab.specs.Rowed.{altered_at}
 use Rattle.scm_model.specs.declared.flat.Service.{Service}
@@ -16,6 +17,7 @@ invariant_of-self c =
     record {
       rising = rw same c.self.invariant.rising;
       texts = rw same c.self.invariant.texts;
+      processes = rw same c.self.invariant.processes;
       spare = still_room c.self.inside.spare c.self.inside c.exchange.new.rows c.exchange.ensures.room c.self.invariant.spare;
     }
 
@@ -31,5 +33,6 @@ invariant_of-self-2 c =
           (altered_number n (with_config config) (λ (row : Service). refl)) rows c.self.invariant.rising;
       texts = exchanged_each c.self.inside.texts c.move_texts.new.texts rows got.0 n config c.self.invariant.texts c.self.invariant.rising
           got.1 (rw (← got.2, made) at c.move_texts.ensures);
+      processes = processes.configured c.self.inside.processes.items rows n config c.self.invariant.processes;
       spare = rw c.in-Some.ensures.after tt;
     })

@@ -6,6 +6,7 @@ invariant_of-self-then-is_err c =
     record {
       rising = rw c.reserve.ensures.items c.self.invariant.rising;
       texts = rw c.reserve.ensures.items (still_of _ _ _ c.reserve_texts.ensures.numbers c.self.invariant.texts);
-      spare = more_room c.self.inside.spare c.self.inside c.reserve.new.self c.reserve_texts.new.texts c.reserve.ensures.room
-          c.reserve_texts.ensures.kept c.self.invariant.spare;
+      processes = rw (c.reserve.ensures.items, c.reserve-2.ensures.items) c.self.invariant.processes;
+      spare = more_room c.self.inside.spare c.self.inside c.reserve.new.self c.reserve_texts.new.texts c.reserve-2.new.self
+          c.reserve.ensures.room c.reserve-2.ensures.room c.reserve_texts.ensures.kept c.self.invariant.spare;
     }

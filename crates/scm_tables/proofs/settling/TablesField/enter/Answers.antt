@@ -10,21 +10,21 @@ use Rattle.scm_rules.proofs.Needed.{same_graph}
 use Rattle.scm_tables.proofs.Keeping.{texts_map, started_needs, started_number, started_config}
 use Rattle.scm_tables.proofs.Placed.{map_keeps}
 use Rattle.scm_tables.proofs.Rising.{rising_map}
-use Rattle.scm_tables.proofs.Owning.{listed_started, own_started}
 use Rattle.scm_tables.proofs.settling.TablesField.enter.Goals as goal
 
 pub note_start-requires : goal.note_start-requires
 note_start-requires c =
-    rw c.get.ensures (found_has HasShort (λ (row : Service). row.number == c.args.service) c.self.inside.services.services
+    rw c.get-row.ensures (found_has HasShort (λ (row : Service). row.number == c.args.service) c.self.inside.services.services
     c.self.invariant.texts)
 
 pub returns-clause-flat : goal.returns-clause-flat
 returns-clause-flat c =
     let process = c.self.inside.processes.next in
-    let found = c.get.ensures in
+    let found = c.get-row.ensures in
     let told = c.note_start.ensures.rows process ∙ ap (λ (o : Option Service). notified_of_start c.args.service process o
     c.self.inside.registrations.rows) found in
-    rw (← c.self.view_is, c.start_in.ensures, c.next.ensures.number, c.list.ensures, c.of_service.ensures, told) refl
+    rw (← c.self.view_is, c.start_in.ensures, c.next.ensures.number, c.list.ensures, c.of_service.ensures, told, c.is_sharing-shared.ensures, found)
+    refl
 
 pub invariant_of-self : goal.invariant_of-self
 invariant_of-self c =
@@ -32,9 +32,6 @@ invariant_of-self c =
     record {
       rising = rw c.start_in.ensures (rising_map _ (started_if c.args.service c.next.result)
           (started_number c.args.service c.next.result) _ kept.rising);
-      owns = rw (c.start_in.ensures, c.next.ensures.number, c.list.ensures) (own_started c.args.service _ _ kept.owns);
-      listed = rw (c.start_in.ensures, c.next.ensures.number, c.list.ensures)
-          (listed_started c.args.service _ _ _ kept.listed kept.owns c.next.ensures.above);
       texts = rw c.start_in.ensures (texts_map (started_if c.args.service c.next.result)
           (started_config c.args.service c.next.result) _ kept.texts);
       index = rw c.start_in.ensures (kept.index ∙ same_rows (started_if c.args.service c.next.result)

@@ -1,4 +1,4 @@
-use Rattle.std.proofs.Common.{◌∙◌, sym, inl}
+use Rattle.std.proofs.Common.{◌∙◌, sym}
 use Rattle.scm_tables.proofs.NeedRows.{rows_changed}
 use Rattle.scm_tables.proofs.Marks.{configured_mark, marks_map, room_map}
 use Rattle.scm_model.specs.Changes.{configured_if}
@@ -7,7 +7,6 @@ use Rattle.scm_tables.proofs.Keeping.{texts_configured}
 use Rattle.scm_tables.proofs.Placed.{map_keeps}
 use Rattle.scm_tables.proofs.Sleeping.{configured_state, pending_map}
 use Rattle.scm_tables.proofs.Rising.{rising_map, configured_number}
-use Rattle.scm_tables.proofs.Owning.{configured_process, listed_map, own_map}
 use Rattle.scm_tables.proofs.tables.Tables.configure.Goals as goal
 
 pub invariant_of-self : goal.invariant_of-self
@@ -16,10 +15,6 @@ invariant_of-self c =
     record {
       rising = rw c.configure_in.ensures
           (rising_map _ (configured_if c.args.number c.args.config) (configured_number c.args.number c.args.config) _ kept.rising);
-      owns = rw c.configure_in.ensures (own_map _ (configured_if c.args.number c.args.config)
-          (λ row. inl (configured_process c.args.number c.args.config row)) _ kept.owns);
-      listed = rw c.configure_in.ensures (listed_map _ (configured_if c.args.number c.args.config)
-          (configured_number c.args.number c.args.config) (λ row. inl (configured_process c.args.number c.args.config row)) _ kept.listed);
       texts = rw c.configure_in.ensures (texts_configured c.args.number c.args.config _ c.requires.texts kept.texts);
       index = rw (c.change_needs.ensures, c.configure_in.ensures, kept.index) (rows_changed c.args.number c.args.config _);
       needs = λ t. rw c.configure_in.ensures (still_free c.args.number c.args.config _

@@ -1,6 +1,5 @@
 use Rattle.std.proofs.Common.{refl}
 use Rattle.scm_tables.proofs.Keeping.{other_processes}
-use Rattle.scm_tables.proofs.Owning.{controlled_same, listed_changed}
 use Rattle.scm_tables.proofs.tables.Tables.control.Goals as goal
 
 pub returns-clause-flat : goal.returns-clause-flat
@@ -8,4 +7,3 @@ returns-clause-flat c = rw (← c.self.view_is, c.control.ensures) refl
 
 pub invariant_of-self : goal.invariant_of-self
 invariant_of-self c = other_processes c.self.invariant c.control.new.self c.control.ensures refl refl
-    (listed_changed _ (controlled_same _ c.args.process c.args.order) _ _ c.self.invariant.listed)

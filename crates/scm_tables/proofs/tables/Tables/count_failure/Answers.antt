@@ -1,4 +1,4 @@
-use Rattle.std.proofs.Common.{◌∙◌, sym, inl}
+use Rattle.std.proofs.Common.{◌∙◌, sym}
 use Rattle.scm_rules.specs.Failures.{counted_if}
 use Rattle.scm_rules.proofs.Needed.{same_graph}
 use Rattle.scm_tables.proofs.NeedRows.{same_rows}
@@ -8,7 +8,6 @@ use Rattle.scm_tables.proofs.Placed.{map_keeps}
 use Rattle.scm_tables.proofs.Sleeping.{counted_state, pending_map}
 use Rattle.scm_tables.proofs.Rising.{rising_map}
 use Rattle.scm_tables.proofs.Marks.{marks_map, room_map}
-use Rattle.scm_tables.proofs.Owning.{counted_process, listed_map, own_map}
 use Rattle.scm_tables.proofs.tables.Tables.count_failure.Goals as goal
 
 pub invariant_of-self : goal.invariant_of-self
@@ -18,9 +17,6 @@ invariant_of-self c =
     let moment = c.self.inside.moment in
     record {
       rising = rw c.count_in.ensures (rising_map _ (counted_if number moment) (counted_number number moment) _ kept.rising);
-      owns = rw c.count_in.ensures (own_map _ (counted_if number moment) (λ row. inl (counted_process number moment row)) _ kept.owns);
-      listed = rw c.count_in.ensures (listed_map _ (counted_if number moment) (counted_number number moment)
-          (λ row. inl (counted_process number moment row)) _ kept.listed);
       texts = rw c.count_in.ensures (texts_map (counted_if number moment) (counted_config number moment) _ kept.texts);
       index = rw c.count_in.ensures (kept.index ∙ same_rows (counted_if number moment) (counted_needs number moment) _);
       needs = λ t. rw c.count_in.ensures (same_graph (counted_if number moment) (counted_needs number moment) _ (kept.needs t));

@@ -14,7 +14,6 @@ use Rattle.scm_tables.proofs.Placed.{left_keeps}
 use Rattle.scm_tables.proofs.Sleeping.{pending_left}
 use Rattle.scm_tables.proofs.Rising.{rising_filter}
 use Rattle.scm_tables.proofs.Wording.{found_has}
-use Rattle.scm_tables.proofs.Owning.{listed_filter, own_filter}
 use Rattle.scm_tables.proofs.tables.Tables.let_one_go.Goals as goal
 
 pub note_leaving-requires : goal.note_leaving-requires
@@ -29,8 +28,6 @@ invariant_of-self-2 c =
     let number = c.in-Some.number in
     record {
       rising = rw gone (rising_filter _ _ _ kept.rising);
-      owns = rw gone (own_filter _ _ _ kept.owns);
-      listed = rw gone (listed_filter _ _ _ kept.listed);
       texts = rw gone (All-filter _ HasShort _ kept.texts);
       index = rw (c.drop_service.ensures, gone) (ap (filter (λ (row : NeedRow). not (row.number == number))) kept.index
           ∙ rows_without number _);

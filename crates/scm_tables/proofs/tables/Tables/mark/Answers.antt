@@ -1,4 +1,4 @@
-use Rattle.std.proofs.Common.{◌==◌, ◌≡◌, ◌∙◌, ap, arith, false, length, refl, subst, sym, inl}
+use Rattle.std.proofs.Common.{◌==◌, ◌≡◌, ◌∙◌, ap, arith, false, length, refl, subst, sym}
 use Rattle.std.specs.Prelude.{Option, IfSome}
 use Rattle.scm_model.specs.declared.flat.Service.{Service}
 use Rattle.scm_model.specs.Changes.{marked_if}
@@ -12,7 +12,6 @@ use Rattle.scm_tables.proofs.Marks.{fewer_marks, found_any, marks_with, rising_b
 use Rattle.scm_tables.proofs.Sleeping.{pending_map}
 use Rattle.scm_tables.proofs.Rising.{rising_map}
 use Rattle.scm_tables.proofs.Wording.{found_has}
-use Rattle.scm_tables.proofs.Owning.{listed_map, own_map}
 use Rattle.scm_text.specs.Numbers.{has}
 use Rattle.scm_tables.proofs.tables.Tables.mark.Goals as goal
 
@@ -39,8 +38,6 @@ invariant_of-self c =
     let is = found_any (λ (row : Service). row.number == c.args.service) c.self.inside.services.services c.in-Some.row.now (sym found) in
     record {
       rising = rw c.mark_in.ensures (rising_map _ (marked_if number) (λ row. refl) _ kept.rising);
-      owns = rw c.mark_in.ensures (own_map _ (marked_if number) (λ row. inl refl) _ kept.owns);
-      listed = rw c.mark_in.ensures (listed_map _ (marked_if number) (λ row. refl) (λ row. inl refl) _ kept.listed);
       texts = rw c.mark_in.ensures (texts_map (marked_if number) (λ row. refl) _ kept.texts);
       index = rw c.mark_in.ensures (kept.index ∙ same_rows (marked_if number) (λ row. refl) _);
       needs = λ t. rw c.mark_in.ensures (same_graph (marked_if number) (λ row. refl) _ (kept.needs t));

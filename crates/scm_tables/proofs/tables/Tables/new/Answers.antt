@@ -8,16 +8,12 @@ use Rattle.scm_model.specs.declared.flat.Next.{Next}
 use Rattle.scm_model.specs.declared.flat.Service.{Service}
 use Rattle.scm_rules.specs.Opening.{automatic_starts, empty_at, opening, services_from, starts_from}
 use Rattle.scm_tables.specs.Tabled.{HasShort}
-use Rattle.scm_model.specs.declared.flat.Process.{Process}
-use Rattle.std.proofs.lemmas.List.Elements.{All-nil}
-use Rattle.scm_tables.specs.Owned.{HaveOwn, NoOtherHas}
 use Rattle.scm_tables.specs.Tabled.{AreByNumber}
 use Rattle.scm_model.specs.declared.flat.NeedRow.{NeedRow}
 use Rattle.scm_model.specs.Needs.{needs_of}
 use Rattle.scm_model.specs.Walks.{IsAcyclic}
 use Rattle.scm_rules.specs.Needs.{need_rows}
 use Rattle.scm_tables.proofs.Opened.{same_flat, opened_length, opened_places, opened_texts, opened_rising}
-use Rattle.scm_tables.proofs.Owning.{opened_own}
 use Rattle.scm_tables.proofs.tables.Tables.new.Goals as goal
 
 pub invariant_of-result : goal.invariant_of-result
@@ -36,16 +32,13 @@ invariant_of-result c =
     record {
       rising = subst (λ (n : ℕ). AreByNumber n rows) (sym (ap (λ (n : Next). n.service) c.first_numbers-next.ensures))
           (subst (λ (n : ℕ). AreByNumber (n + 1) rows) (sym count) rising);
-      owns = rw (ap (λ (t : Processed). t.next) c.in_ok-processes.ensures.none) (subst (HaveOwn 1) (sym is) (opened_own 1 c.args.configs));
-      listed = rw (ap (λ (t : Processed). t.processes) c.in_ok-processes.ensures.none)
-          (All-nil (λ (p : Process). NoOtherHas p.number rows p.service));
       texts = subst (All HasShort) (sym is) (opened_texts 1 c.args.configs c.requires);
       index = graph;
       needs = λ t. subst (λ (g : List NeedRow). IsAcyclic (needs_of g)) graph (c.is_acyclic-acyclic.ensures t);
       marked = rw (c.reserve.ensures.items, c.new-leaving.ensures, is) (sym (opened_marks 1 c.args.configs));
       marks = omega (arith, c.in_ok-reserve.ensures.ok, ap (λ (all : List Service). length all) same);
       room = c.in_ok-processes.ensures.room;
-      plans = search rules;
+      plans = rw c.none.ensures.plans tt;
       pending = search rules;
       untried = search rules;
       dues = opened_places c.args.moment c.args.groups.now {rows = c.in_ok-dues.dues.rows} {capacity = c.in_ok-dues.dues.capacity} {next =

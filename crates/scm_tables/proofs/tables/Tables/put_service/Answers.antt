@@ -11,7 +11,6 @@ use Rattle.scm_tables.proofs.NeedRows.{next_above}
 use Rattle.scm_tables.proofs.Placed.{push_keeps}
 use Rattle.scm_tables.proofs.Sleeping.{pending_push}
 use Rattle.scm_tables.proofs.Rising.{rising_push}
-use Rattle.scm_tables.proofs.Owning.{listed_push, own_push}
 use Rattle.scm_tables.proofs.tables.Tables.put_service.Goals as goal
 
 pub invariant_of-self : goal.invariant_of-self
@@ -20,8 +19,6 @@ invariant_of-self c =
     let kept = c.self.invariant in
     record {
       rising = rw more (rising_push _ _ _ kept.rising refl);
-      owns = rw more (own_push _ _ _ kept.owns refl);
-      listed = rw more (listed_push _ _ _ kept.listed refl);
       texts = rw more (All-push HasShort _ _ kept.texts c.requires.texts);
       index = rw (c.set_needs.ensures, more, kept.index) (sym (rows_added _ _ kept.rising.below));
       needs = λ t. rw more (subst (λ g. IsAcyclic (needs_of g)) (sym (rows_added _ _ kept.rising.below))

@@ -1,13 +1,12 @@
-use Rattle.std.proofs.Common.{◌==◌, refl}
+use Rattle.std.proofs.Common.{◌∙◌, Option, ap}
 use Rattle.scm_model.specs.declared.flat.Service.{Service}
-use Rattle.scm_rules.specs.Reports.{reported_if}
-use Rattle.scm_tables.proofs.Failures.{report_listed}
-use Rattle.scm_tables.proofs.Keeping.{reported_number}
+use Rattle.scm_rules.specs.Reports.{with_report_of}
 use Rattle.scm_tables.proofs.tables.Tables.report.Goals as goal
 
-pub fail-requires-clause-service : goal.fail-requires-clause-service
-fail-requires-clause-service c =
-    let report = c.args.report.now in
-    rw (c.failure_of-failed.ensures, c.failed_by.ensures, c.current.ensures, c.take_report.ensures.flat)
-    (report_listed c.self.inside.moment report (λ (row : Service). row.process == c.args.process) (reported_if c.args.process report)
-    (reported_number c.args.process report) c.args.self.now.flat.services _ refl)
+pub returns-in-Some-clause-flat : goal.returns-in-Some-clause-flat
+returns-in-Some-clause-flat c =
+    c.report_of.ensures.flat
+    ∙ ap (λ (o : Option Service). with_report_of c.args.self.now.flat o c.args.report.now) c.in-Some.ensures
+
+pub returns-in-None-clause-flat : goal.returns-in-None-clause-flat
+returns-in-None-clause-flat c = ap (λ (o : Option Service). with_report_of c.args.self.now.flat o c.args.report.now) c.in-None.ensures

@@ -6,8 +6,6 @@ invariant_of-self c =
     let kept = c.self.invariant in
     record {
       rising = kept.rising;
-      owns = kept.owns;
-      listed = kept.listed;
       texts = kept.texts;
       index = kept.index;
       needs = kept.needs;
@@ -26,8 +24,6 @@ invariant_of-self-2 c =
     let kept = c.self.invariant in
     record {
       rising = kept.rising;
-      owns = kept.owns;
-      listed = kept.listed;
       texts = kept.texts;
       index = kept.index;
       needs = kept.needs;

@@ -7,7 +7,6 @@ use Rattle.scm_tables.specs.Firing.{runs}
 use Rattle.scm_tables.specs.Tabled.{HasShort, Tabled}
 use Rattle.scm_tables.proofs.Fired.{runs_one}
 use Rattle.scm_tables.proofs.Wording.{found_has}
-use Rattle.scm_tables.proofs.Owning.{listed_more, nobody_yet, own_more}
 use Rattle.scm_tables.proofs.tables.Tables.run_command.Goals as goal
 
 pub of_command-line-requires-clause-command : goal.of_command-line-requires-clause-command
@@ -33,8 +32,6 @@ invariant_of-self c =
     let kept = c.self.invariant in
     record {
       rising = kept.rising;
-      owns = rw c.list.ensures (own_more _ _ kept.owns);
-      listed = rw c.list.ensures (listed_more _ _ _ kept.listed (nobody_yet _ _ _ kept.owns));
       texts = kept.texts;
       index = kept.index;
       needs = kept.needs;

@@ -6,9 +6,9 @@ use Rattle.scm_model.specs.declared.flat.Plan.{Plan}
 use Rattle.start_plan.specs.Asleep.{ArePending}
 use Rattle.start_plan.specs.Planned.{Planned}
 use Rattle.start_plan.specs.Settle.{is_due_still, settled, with_plans}
-use Rattle.scm_tables.specs.Inside.{IsBelow, tabled}
+use Rattle.scm_tables.specs.Inside.{IsKeptPlan, tabled}
 use Rattle.scm_tables.specs.Tabled.{Tabled}
-use Rattle.scm_tables.proofs.Keeping.{other_plans, below_settled, next_settled, settles}
+use Rattle.scm_tables.proofs.Keeping.{kept_settled, other_plans, next_settled, settles}
 use Rattle.scm_tables.proofs.Placed.{filter_keeps}
 use Rattle.scm_tables.proofs.tables.Tables.settle.Goals as goal
 
@@ -34,10 +34,10 @@ invariant_of-self-2 c =
     let was = ap (λ (p : Planned). p.plans) c.replace-plans.ensures.value in
     let next = ap (λ (t : Tabled). t.flat.next.plan) c.self-2.view_is ∙ ap (λ (g : Flat). g.next.plan) c.settle.ensures.flat
     ∙ next_settled l f c.replace-plans.result.plans in
-    let below = below_settled l f c.self.inside.next.plan c.replace-plans.result.plans
-    (subst (λ (ps : List Plan). AllByRecursion (IsBelow c.self.inside.next.plan) ps) (sym was) c.self.invariant.plans) in
+    let below = kept_settled l f c.self.inside.next.plan c.replace-plans.result.plans
+    (subst (λ (ps : List Plan). AllByRecursion (IsKeptPlan c.self.inside.next.plan) ps) (sym was) c.self.invariant.plans) in
     other_plans kept refl refl refl refl refl refl refl refl refl refl refl
-    (subst (λ n. AllByRecursion (IsBelow n) c.settle.new.self.plans) (sym next)
-    (subst (λ (ps : List Plan). AllByRecursion (IsBelow c.self.inside.next.plan) ps) (sym c.settle.ensures.plans) below))
+    (subst (λ n. AllByRecursion (IsKeptPlan n) c.settle.new.self.plans) (sym next)
+    (subst (λ (ps : List Plan). AllByRecursion (IsKeptPlan c.self.inside.next.plan) ps) (sym c.settle.ensures.plans) below))
     (subst (λ (t : Tabled). ArePending t.flat.services c.settle.new.self.awaited) (sym c.self-2.view_is) c.settle.ensures.pending)
     (rw c.keep_due.ensures (filter_keeps _ kept.dues))

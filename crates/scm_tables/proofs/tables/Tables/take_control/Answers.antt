@@ -1,11 +1,47 @@
-use Rattle.std.proofs.Common.{refl}
-use Rattle.scm_tables.proofs.Keeping.{other_processes}
-use Rattle.scm_tables.proofs.Owning.{listed_changed, relieved_same}
+use Rattle.std.proofs.Common.{◌∙◌, refl, sym}
+use Rattle.scm_rules.specs.Controls.{unasked_if}
+use Rattle.scm_rules.proofs.Needed.{same_graph}
+use Rattle.scm_tables.proofs.Keeping.{other_processes, texts_map, unasked_config, unasked_needs, unasked_number}
+use Rattle.scm_tables.proofs.Marks.{marks_map, room_map, unasked_mark}
+use Rattle.scm_tables.proofs.NeedRows.{same_rows}
+use Rattle.scm_tables.proofs.Placed.{map_keeps}
+use Rattle.scm_tables.proofs.Rising.{rising_map}
+use Rattle.scm_tables.proofs.Sleeping.{pending_map, unasked_state}
 use Rattle.scm_tables.proofs.tables.Tables.take_control.Goals as goal
 
-pub returns-clause-flat : goal.returns-clause-flat
-returns-clause-flat c = rw (← c.self.view_is, c.dequeue_control.ensures) refl
+pub first_asked_in-requires : goal.first_asked_in-requires
+first_asked_in-requires c = c.self.invariant.rising.rising
+
+pub returns-in-Some-clause-flat : goal.returns-in-Some-clause-flat
+returns-in-Some-clause-flat c =
+    let found = c.in-Some.ensures in
+    rw (← c.self.view_is, ← found, c.unask_in.ensures) refl
+
+pub returns-in-None-clause-flat : goal.returns-in-None-clause-flat
+returns-in-None-clause-flat c =
+    let found = c.in-None.ensures in
+    rw (← c.self.view_is, ← found, c.dequeue_control.ensures) refl
 
 pub invariant_of-self : goal.invariant_of-self
-invariant_of-self c = other_processes c.self.invariant c.dequeue_control.new.self c.dequeue_control.ensures refl refl
-    (listed_changed _ (relieved_same c.args.process) _ _ c.self.invariant.listed)
+invariant_of-self c =
+    let kept = c.self.invariant in
+    let number = c.in-Some.row.now.number in
+    let change = unasked_if number in
+    record {
+      rising = rw c.unask_in.ensures (rising_map _ change (unasked_number number) _ kept.rising);
+      texts = rw c.unask_in.ensures (texts_map change (unasked_config number) _ kept.texts);
+      index = rw c.unask_in.ensures (kept.index ∙ same_rows change (unasked_needs number) _);
+      needs = λ t. rw c.unask_in.ensures (same_graph change (unasked_needs number) _ (kept.needs t));
+      marked = rw c.unask_in.ensures (kept.marked ∙ sym (marks_map change (unasked_number number) (unasked_mark number) _));
+      marks = rw c.unask_in.ensures (room_map change _ _ kept.marks);
+      room = kept.room;
+      plans = kept.plans;
+      pending = rw c.unask_in.ensures (pending_map change (unasked_number number) (unasked_state number)
+          c.self.inside.services.services _ kept.pending);
+      untried = kept.untried;
+      dues = rw c.unask_in.ensures (map_keeps change (unasked_number number) kept.dues);
+      rooms = kept.rooms;
+    }
+
+pub invariant_of-self-in-None : goal.invariant_of-self-in-None
+invariant_of-self-in-None c = other_processes c.self.invariant c.dequeue_control.new.self c.dequeue_control.ensures refl refl

@@ -12,4 +12,4 @@ returns-clause-words c =
     ∙ ap (λ (t : Tabled). (first_line t.flat t.flat.wanted).1) c.self.view_is
 
 pub invariant_of-self : goal.invariant_of-self
-invariant_of-self c = other_processes c.self.invariant c.take_words.new.self c.take_words.ensures.left refl refl c.self.invariant.listed
+invariant_of-self c = other_processes c.self.invariant c.take_words.new.self c.take_words.ensures.left refl refl
