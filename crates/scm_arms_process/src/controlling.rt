@@ -26,7 +26,7 @@ pub fn waiting_for(tables: &Tables, service: Option<&Service>) -> u32
     ensures { result ≡ waiting_for tables.now.flat (option_copied service.entry) }
 {
     match service {
-        Some(row) => tables.waiting(row.process).unwrap_or(0),
+        Some(row) => tables.orders(row.process).unwrap_or(0),
         None => 0,
     }
 }
@@ -103,13 +103,14 @@ pub fn control(tables: &mut Tables, caller: u64, handle: u64, control: u32) -> R
     Reply::State { status, code: 0 }
 }
 
-/// The first order that waits for a process is taken. It takes no memory.
+/// What is sent to a process next is taken: that a service is to start, with code 0, and else the
+/// order that waits first. It takes no memory.
 pub fn take_control(tables: &mut Tables, process: u64) -> Answer
     ensures answer { result ≡ (control_taken tables.old.flat process).answer }
     ensures flat { tables.new.flat ≡ (control_taken tables.old.flat process).flat }
     ensures limits { tables.new.limits ≡ tables.old.limits }
 {
-    let order = tables.first_control(process);
+    let order = tables.next_order(process);
     tables.take_control(process);
     match order {
         Some(order) => Answer::Control(order),

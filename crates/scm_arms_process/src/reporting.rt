@@ -1,4 +1,5 @@
-ghost use Rattle.std.specs.Prelude.{◌≡◌, ◌<◌, ◌^◌, ◌&&◌, option_copied};
+ghost use Rattle.std.specs.Prelude.{◌≡◌, ◌≤◌, ◌<◌, ◌+◌, ◌^◌, ◌&&◌, length, option_copied};
+ghost use Rattle.scm_model.specs.Processes.{currents};
 ghost use Rattle.scm_model.specs.declared.calls.Request.TheVariants as request;
 ghost use Rattle.scm_model.specs.Refused.{outcome};
 ghost use Rattle.scm_rules.specs.Reports.{may_report, report_answer, report_told, reported};
@@ -23,7 +24,7 @@ fn report_answer(taken: Result<Status, u32>) -> Answer
     }
 }
 
-/// How a report of the current process of a service is answered, if there is such a service.
+/// How a report of a service's current process is answered, if it names such a service.
 fn report_told(service: Option<&Service>, report: &Status) -> Answer
     ensures { result ≡ report_told (option_copied service.entry) report.now }
 {
@@ -33,38 +34,39 @@ fn report_told(service: Option<&Service>, report: &Status) -> Answer
     }
 }
 
-/// The service whose current process this is takes its report, if it is one that it may make. It is
-/// a failure where the service stops with an error. It takes no memory.
-pub fn report(tables: &mut Tables, process: u64, report: &Status) -> Answer
+/// The service that a report names, which is the one that the process was launched for where the
+/// number is 0, takes the report of its current process, if it is one that it may make. It is a
+/// failure where the service stops with an error. It takes no memory.
+pub fn report(tables: &mut Tables, process: u64, service: u64, report: &Status) -> Answer
     requires { tables.old.flat.next.due < 2 ^ 63 }
-    ensures answer { result ≡ (reported tables.old.flat process report.now).answer }
-    ensures flat { tables.new.flat ≡ (reported tables.old.flat process report.now).flat }
+    ensures answer { result ≡ (reported tables.old.flat process service report.now).answer }
+    ensures flat { tables.new.flat ≡ (reported tables.old.flat process service report.now).flat }
     ensures limits { tables.new.limits ≡ tables.old.limits }
 {
-    let answer = report_told(tables.current(process), report);
-    tables.report(process, report);
+    let answer = report_told(tables.reporting(process, service), report);
+    tables.report(process, service, report);
     answer
 }
 
-/// How the end of the current process of a service is answered, if there is such a service.
-fn end_told(service: Option<&Service>) -> Answer
-    ensures { result ≡ end_told (option_copied service.entry) }
+/// How the end of a process is answered.
+fn end_told(tables: &Tables, process: u64) -> Answer
+    ensures { result ≡ end_told (currents process tables.now.flat.services) }
 {
-    match service {
+    match tables.current(process) {
         Some(_) => Answer::Done,
         None => Answer::Stale,
     }
 }
 
-/// A process leaves, and the service falls whose current one it is, which is a failure. It takes no
-/// memory.
+/// A process leaves, and each service falls whose current one it is, which is a failure of each. It
+/// takes no memory.
 pub fn end(tables: &mut Tables, process: u64) -> Answer
-    requires { tables.old.flat.next.due < 2 ^ 63 }
+    requires { tables.old.flat.next.due + length tables.old.flat.services ≤ 2 ^ 63 }
     ensures answer { result ≡ (process_ended tables.old.flat process).answer }
     ensures flat { tables.new.flat ≡ (process_ended tables.old.flat process).flat }
     ensures limits { tables.new.limits ≡ tables.old.limits }
 {
-    let answer = end_told(tables.current(process));
+    let answer = end_told(tables, process);
     tables.process_exited(process);
     tables.remove_process(process);
     answer

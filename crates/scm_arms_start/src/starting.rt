@@ -1,5 +1,5 @@
-ghost use Rattle.std.specs.Prelude.{◌≡◌, ◌≤◌, ◌<◌, ◌==◌, ◌^◌, Some, IfOk, [], length, option_copied};
-ghost use Rattle.std.specs.Prelude.{option_map, unwrap_or};
+ghost use Rattle.std.specs.Prelude.{◌≡◌, ◌≤◌, ◌<◌, ◌==◌, ◌^◌, Some, IfOk, [], length};
+ghost use Rattle.std.specs.Prelude.{option_copied, option_map, unwrap_or};
 ghost use Rattle.std.specs.List.{list_any};
 ghost use Rattle.std.specs.Char.Utf16.{has_unpaired_surrogate};
 ghost use Rattle.scm_model.specs.Refused.{first_refusal, outcome};
@@ -7,11 +7,17 @@ ghost use Rattle.scm_model.specs.declared.calls.Request.TheVariants as request;
 ghost use Rattle.scm_model.specs.Rows.{held_service};
 ghost use Rattle.scm_rules.specs.Delete.{is_marked};
 ghost use Rattle.scm_rules.specs.Start.{service_refusals, are_bad_words, is_aimed_at, is_disabled};
-ghost use Rattle.scm_rules.specs.Start.{is_missing, lacks_need, new_plan, start_done, start_verdict};
-ghost use Rattle.scm_rules.specs.Start.{start_outcome};
-ghost use Rattle.scm_rules.specs.Steps.{call_answer};
+ghost use Rattle.scm_rules.specs.Start.{is_missing, lacks_need, new_plan, start_done};
+ghost use Rattle.scm_rules.specs.Start.{start_verdict, start_outcome, ended};
+ghost use Rattle.scm_rules.specs.Steps.{call_answer, finished};
 ghost use Rattle.scm_model.specs.Ready.{state_in};
 ghost use Rattle.scm_arms_start.specs.Entries.{start_entries};
+ghost use Rattle.scm_model.specs.declared.steps.Answer.TheVariants as answer;
+ghost use Rattle.scm_rules.specs.Launches.{launch_failed, launch_taken, launched};
+ghost use Rattle.scm_model.specs.declared.calls.Reply.TheVariants as reply;
+ghost use Rattle.scm_rules.specs.Ticks.{ticked};
+ghost use Rattle.scm_tables.specs.Firing.{CanFire};
+ghost use Rattle.start_plan.specs.Decided.{code_of};
 
 use scm_model::codes::{
     ERROR_ACCESS_DENIED, ERROR_INVALID_HANDLE, ERROR_INVALID_PARAMETER,
@@ -243,4 +249,90 @@ pub fn start(
     };
     tables.begin_plan(plan);
     Answer::Begun(number)
+}
+
+/// The first launch that is wanted is taken.
+pub fn take_launch(tables: &mut Tables) -> Answer
+    ensures answer { result ≡ (launch_taken tables.old.flat).answer }
+    ensures flat { tables.new.flat ≡ (launch_taken tables.old.flat).flat }
+    ensures limits { tables.new.limits ≡ tables.old.limits }
+{
+    match tables.first_wanted() {
+        Some(process) => {
+            tables.take_launch(process);
+            Answer::Launch(process)
+        }
+        None => Answer::Done,
+    }
+}
+
+/// A process is launched, and the starts of its services succeed.
+pub fn launched(tables: &mut Tables, process: u64, pid: u32) -> Answer
+    ensures answer { result ≡ answer.Done }
+    ensures flat { tables.new.flat ≡ launched tables.old.flat process pid }
+    ensures limits { tables.new.limits ≡ tables.old.limits }
+{
+    tables.launch(process, pid);
+    tables.decide_for(process, 0);
+    Answer::Done
+}
+
+/// A launch failed: the starts of its services fail with the code, the services fall, and the
+/// process leaves.
+pub fn fail_launch(tables: &mut Tables, process: u64, code: u32) -> Answer
+    ensures answer { result ≡ answer.Done }
+    ensures flat { tables.new.flat ≡ launch_failed tables.old.flat process code }
+    ensures limits { tables.new.limits ≡ tables.old.limits }
+{
+    tables.decide_for(process, code);
+    tables.fall(process, code);
+    tables.remove_process(process);
+    Answer::Done
+}
+
+/// Answers a start that is decided. Its plan leaves.
+pub fn end_start(tables: &mut Tables, plan: u64) -> Answer
+    ensures answer { result ≡ answer.Reply (reply.Code
+        (unwrap_or (code_of tables.old.flat.plans plan) 0)) }
+    ensures flat { tables.new.flat ≡ ended tables.old.flat plan }
+    ensures limits { tables.new.limits ≡ tables.old.limits }
+{
+    let code = tables.decided(plan).unwrap_or(0);
+    tables.remove_plan(plan);
+    Answer::Reply(Reply::Code(code))
+}
+
+/// A start that settling decided is answered at once, and its plan leaves.
+pub fn finish(tables: &mut Tables, answer: Answer) -> Answer
+    ensures answer { result ≡ (finished tables.old.flat answer).answer }
+    ensures flat { tables.new.flat ≡ (finished tables.old.flat answer).flat }
+    ensures limits { tables.new.limits ≡ tables.old.limits }
+{
+    match answer {
+        Answer::Begun(plan) => match tables.decided(plan) {
+            Some(code) => {
+                tables.remove_plan(plan);
+                Answer::Reply(Reply::Code(code))
+            }
+            None => Answer::Begun(plan),
+        },
+        Answer::Caller(_)
+        | Answer::Reply(_)
+        | Answer::Launch(_)
+        | Answer::Control(_)
+        | Answer::Refused(_)
+        | Answer::Stale
+        | Answer::Done => answer,
+    }
+}
+
+/// What is due takes place. It takes no memory.
+pub fn tick(tables: &mut Tables) -> Answer
+    requires { CanFire tables.old }
+    ensures answer { result ≡ answer.Done }
+    ensures flat { tables.new.flat ≡ ticked tables.old.limits tables.old.flat }
+    ensures limits { tables.new.limits ≡ tables.old.limits }
+{
+    tables.tick();
+    Answer::Done
 }

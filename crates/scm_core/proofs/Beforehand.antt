@@ -1,5 +1,5 @@
 -- What is made for a step, and its room, don't hang on the moment.
-use Rattle.std.proofs.Common.{ℕ, ◌≡◌, ◌≤◌, ◌<◌, ◌^◌, ◌==◌, ◌∙◌, true, false, cond, length, List, Option, Some, ap, arith, refl, subst, sym}
+use Rattle.std.proofs.Common.{ℕ, ◌≡◌, ◌≤◌, ◌<◌, ◌+◌, ◌^◌, ◌==◌, ◌∙◌, true, false, cond, length, List, Option, Some, ap, arith, refl, subst, sym}
 use Rattle.std.specs.Prelude.{is_some}
 use Rattle.scm_model.specs.Changes.{with_moment}
 use Rattle.scm_model.specs.declared.calls.Request.{Request}
@@ -32,7 +32,7 @@ use Rattle.scm_rules.specs.Room.{is_started_at}
 use Rattle.scm_tables.specs.Firing.{CanFire, HasFires, HasPlanNumbers, HasStarts, starts_in}
 use Rattle.scm_tables.proofs.Placed.{fewer}
 use Rattle.scm_tables.specs.Tabled.{Spare, Tabled}
-use Rattle.scm_core.specs.declared.made.Prepared.{Prepared}
+use Rattle.scm_core.specs.declared.room.Prepared.{Prepared}
 use Rattle.scm_core.specs.Room.{HasNumbers, HasRoomForStep, IsMadeFor, prepared_for, nothing_made}
 use Rattle.scm_model.specs.declared.steps.Change.{Change}
 
@@ -250,3 +250,9 @@ pub raise_numbers : (f : Flat) (caller : ℕ) (subtype : List ℕ) → HasNumber
 raise_numbers f caller subtype numbers =
     let few = raises_few f caller subtype in
     record { plans = omega (arith, few, numbers.starts.plans); dues = omega (arith, few, numbers.starts.dues) }
+
+-- ## What an end begins
+
+-- each service may fail
+pub end_numbers : (f : Flat) → HasNumbers f → f.next.due + length f.services ≤ 2 ^ 63
+end_numbers f numbers = let dues = numbers.starts.dues in omega (arith, dues)

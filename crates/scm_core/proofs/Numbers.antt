@@ -22,7 +22,7 @@ use Rattle.scm_model.specs.declared.steps.Kept.{Kept}
 use Rattle.scm_model.specs.declared.steps.Step.{Step}
 use Rattle.scm_model.specs.declared.steps.Step.TheVariants.{Joined, Call, EndStart, LaunchTaken, Launched, LaunchFailed, Report, Ended}
 use Rattle.scm_model.specs.declared.steps.Step.TheVariants.{ControlTaken, Tick, Raised, Gone, NoMemory}
-use Rattle.scm_model.specs.declared.codes.TheConstants.{SERVICE_CONTROL_STOP, SERVICE_TRIGGER_ACTION_SERVICE_START}
+use Rattle.scm_model.specs.declared.codes.TheConstants.{ERROR_PROCESS_ABORTED, SERVICE_CONTROL_STOP, SERVICE_TRIGGER_ACTION_SERVICE_START}
 use Rattle.scm_model.specs.Changes.{configured_if, marked_if, new_service, with_handle, with_moment}
 use Rattle.scm_model.specs.Found.{if_found}
 use Rattle.scm_model.specs.Outcomes.{CallResult}
@@ -32,29 +32,29 @@ use Rattle.scm_model.specs.Rows.{held_service, named, service_of}
 use Rattle.scm_model.proofs.Found.{found_keeps}
 use Rattle.failure_actions.specs.Failing.{due_action, on_failure}
 use Rattle.start_plan.specs.Decided.{code_of}
-use Rattle.start_plan.specs.Entered.{HasNumbers as HasProcessNumbers, started_if, wanted_process}
+use Rattle.start_plan.specs.Entered.{HasNumbers as HasProcessNumbers, is_shared_by, started_if, wanted_process}
 use Rattle.start_plan.specs.Moves.{is_full}
 use Rattle.start_plan.specs.Settle.{is_due_still, settle_all, settled, stays}
 use Rattle.start_plan.proofs.Enterings.{all_units}
 use Rattle.start_plan.proofs.Keeps.{Keeps, keeps_all}
 use Rattle.start_triggers.specs.Triggers.{matching}
 use Rattle.scm_rules.specs.Change.{new_config}
-use Rattle.scm_rules.specs.Controls.{controlled_if, order_to}
+use Rattle.scm_rules.specs.Controls.{controlled_if, first_asked, order_to, unasked_if}
 use Rattle.scm_rules.specs.Create.{create_verdict, created_config, new_status}
 use Rattle.scm_rules.specs.Due.{beside, next_due, with_due}
-use Rattle.scm_rules.specs.Failures.{counted_if, failed_by, moment_after, with_action, with_failure}
+use Rattle.scm_rules.specs.Failures.{all_failed, counted_if, failed_by, moment_after, with_action, with_failure}
 use Rattle.scm_rules.specs.Change2.{level_config}
-use Rattle.scm_rules.specs.Launches.{current_of, fallen_if, with_fallen}
+use Rattle.scm_rules.specs.Launches.{currents, fallen_if, is_by, with_fallen}
 use Rattle.scm_rules.specs.Notify.{registered, watched}
 use Rattle.scm_rules.specs.OpenService.{service_granted, with_opened}
 use Rattle.scm_rules.specs.Raise.{all_triggered, gets_stop, raised, raise_verdict, triggered, with_stop}
-use Rattle.scm_rules.specs.Reports.{reported_if}
+use Rattle.scm_rules.specs.Reports.{reported_if, reporting}
 use Rattle.scm_rules.specs.Start.{deadline_at, ended, with_start}
 use Rattle.scm_rules.specs.Steps.{at_moment, effect_of, finished, left_by, step_of}
 use Rattle.scm_rules.specs.Ticks.{can_run, can_start, fire, fired, ticked, with_command, with_restart, with_wanted_command, without_due}
 use Rattle.scm_rules.specs.Verdicts.{call_of, done_of, told_refused, verdict}
 use Rattle.scm_rules.proofs.Dues.{ticked_keeps}
-use Rattle.scm_tables.specs.Failed.{taken_by, taken_by_service}
+use Rattle.scm_tables.specs.Failed.{taken_by_service}
 use Rattle.scm_tables.specs.Firing.{begins_plan, one_if, starts_in}
 use Rattle.scm_tables.proofs.Fired.{first_leaves, found_restarts, not_counted, restarts}
 use Rattle.scm_tables.proofs.Placed.{fewer, fewer_pass}
@@ -70,14 +70,14 @@ record Counted : Type 0 where
 abbrev counted : Flat → Counted
 counted f = record { next = f.next; starts = starts_in f.dues; services = length f.services }
 
--- of plans and of what becomes due, with the starts that stand, as many numbers as there are services and two; of processes as many as may
--- be listed; of all else one
+-- with the starts that stand, of plans as many numbers as there are services and two, and of what becomes due twice as many; of processes as
+-- many as may be listed; of all else one
 record NumbersRise (l : Limits) (old new : Counted) : Type 0 where
   handle : new.next.handle ≤ old.next.handle + 1
   caller : new.next.caller ≤ old.next.caller + 1
   service : new.next.service ≤ old.next.service + 1
   plan : new.next.plan + new.starts ≤ old.next.plan + old.starts + (old.services + 2)
-  due : new.next.due + new.starts ≤ old.next.due + old.starts + (old.services + 2)
+  due : new.next.due + new.starts ≤ old.next.due + old.starts + (2 * old.services + 2)
   registration : new.next.registration ≤ old.next.registration + 1
   process : new.next.process ≤ old.next.process + l.processes
   few : old.services ≤ l.services → new.services ≤ l.services
@@ -130,20 +130,20 @@ same l old new e d s =
 
 -- ## Failures
 
--- a failure gives one number, of a row that may be a start
-record Failed (f g : Counted) : Type 0 where
+-- so many failures give at most as many numbers, of rows that may be starts
+record Failed (count : ℕ) (f g : Counted) : Type 0 where
   others : NoMore f.next g.next
   plan : g.next.plan ≡ f.next.plan
-  due : g.next.due ≤ f.next.due + 1
+  due : g.next.due ≤ f.next.due + count
   process : g.next.process ≡ f.next.process
-  starts : g.starts ≤ f.starts + 1
+  starts : g.starts ≤ f.starts + count
   services : g.services ≡ f.services
 
-abbrev Fails : Flat → Flat → Type 0
-Fails f g = Failed (counted f) (counted g)
+abbrev Fails : ℕ → Flat → Flat → Type 0
+Fails count f g = Failed count (counted f) (counted g)
 
-fails_nothing : (f : Flat) → Fails f f
-fails_nothing f = record {
+fails_nothing : (count : ℕ) (f : Flat) → Fails count f f
+fails_nothing count f = record {
   others = no_more f.next;
   plan = refl;
   due = omega arith;
@@ -166,7 +166,7 @@ fewer_starts (dues.Start service) rows = fewer_pass (λ (d : Due). begins_plan d
 fewer_starts (dues.Command service) rows = fewer_pass (λ (d : Due). begins_plan d.kind) _ rows
 fewer_starts (dues.Reboot service) rows = fewer_pass (λ (d : Due). begins_plan d.kind) _ rows
 
-of_due : (f : Flat) (moment : ℕ) (kind : DueKind) → Fails f (with_due f moment kind)
+of_due : (f : Flat) (moment : ℕ) (kind : DueKind) → Fails 1 f (with_due f moment kind)
 of_due f moment kind = record {
   others = no_more f.next;
   plan = refl;
@@ -180,33 +180,50 @@ of_due f moment kind = record {
   services = refl;
 }
 
-of_action : (number : ℕ) (f : Flat) (action : Option Action) → Fails f (if_found (with_action number) action f)
+of_action : (number : ℕ) (f : Flat) (action : Option Action) → Fails 1 f (if_found (with_action number) action f)
 of_action number f action =
-    found_keeps (Fails f) (with_action number) action f (fails_nothing f)
-    (λ found is. found_keeps (Fails f) (λ kind g. with_due g (moment_after g.moment found.delay) kind) (due_action number found) f
-    (fails_nothing f) (λ kind at. of_due f (moment_after f.moment found.delay) kind))
+    found_keeps (Fails 1 f) (with_action number) action f (fails_nothing 1 f)
+    (λ found is. found_keeps (Fails 1 f) (λ kind g. with_due g (moment_after g.moment found.delay) kind) (due_action number found) f
+    (fails_nothing 1 f) (λ kind at. of_due f (moment_after f.moment found.delay) kind))
 
-of_failure : (row : Service) (f : Flat) → Fails f (with_failure row f)
+of_failure : (row : Service) (f : Flat) → Fails 1 f (with_failure row f)
 of_failure row f =
     let counting = counted_if row.number f.moment in
-    subst (λ n. Failed (record (counted f) { services = n }) (counted (with_failure row f))) (length-map f.services counting)
+    subst (λ n. Failed 1 (record (counted f) { services = n }) (counted (with_failure row f))) (length-map f.services counting)
     (of_action row.number (record f { services = map counting f.services })
     (on_failure row.config row.failures row.last_failure f.moment).action)
 
-of_found : (found : Option Service) (f : Flat) → Fails f (if_found with_failure found f)
-of_found found f = found_keeps (Fails f) with_failure found f (fails_nothing f) (λ row is. of_failure row f)
+of_found : (found : Option Service) (f : Flat) → Fails 1 f (if_found with_failure found f)
+of_found found f = found_keeps (Fails 1 f) with_failure found f (fails_nothing 1 f) (λ row is. of_failure row f)
+
+-- one failure after another
+of_all_failed : (rows : List Service) (f : Flat) → Fails (length rows) f (all_failed rows f)
+of_all_failed [] f = fails_nothing (length {A = Service} []) f
+of_all_failed (row ∷ rows) f =
+    let g = with_failure row f in
+    let first = of_failure row f in
+    let rest = of_all_failed rows g in
+    record {
+      others = no_more_after f.next g.next (all_failed rows g).next rest.others first.others;
+      plan = rest.plan ∙ first.plan;
+      due = omega (arith, rest.due, first.due);
+      process = rest.process ∙ first.process;
+      starts = omega (arith, rest.starts, first.starts);
+      services = rest.services ∙ first.services;
+    }
 
 -- after a change that gives no number
-failing : (l : Limits) (old f g : Flat) → f.next ≡ old.next → f.dues ≡ old.dues → length f.services ≡ length old.services → Fails f g
+failing : (l : Limits) (count : ℕ) (old f g : Flat) → count ≤ length old.services + 1 → f.next ≡ old.next → f.dues ≡ old.dues
+    → length f.services ≡ length old.services → Fails count f g
     → Rise l old g
-failing l old f g next rows services r =
+failing l count old f g most next rows services r =
     let starts = ap starts_in rows in
     record {
       handle = omega (arith, r.others.0, ap (λ n. n.handle) next);
       caller = omega (arith, r.others.1, ap (λ n. n.caller) next);
       service = omega (arith, r.others.2, ap (λ n. n.service) next);
-      plan = omega (arith, r.plan, ap (λ n. n.plan) next, r.starts, starts);
-      due = omega (arith, r.due, ap (λ n. n.due) next, r.starts, starts);
+      plan = omega (arith, most, r.plan, ap (λ n. n.plan) next, r.starts, starts);
+      due = omega (arith, most, r.due, ap (λ n. n.due) next, r.starts, starts);
       registration = omega (arith, r.others.3, ap (λ n. n.registration) next);
       process = omega (arith, r.process, ap (λ n. n.process) next);
       few = λ few. omega (arith, few, r.services, services);
@@ -237,8 +254,8 @@ of_done l f caller (request.Lock handle) append ok = one l f (done_of l f caller
 of_done l f caller (request.SetStatus handle status) append ok =
     let service = held_service f caller handle in
     let before = taken_by_service f service status in
-    failing l f before (done_of l f caller (request.SetStatus handle status)).flat refl refl
-    (found_length (λ row. reported_if row.process status) service f.services) (of_found (failed_by status service) before)
+    failing l 1 f before (done_of l f caller (request.SetStatus handle status)).flat (omega arith) refl refl
+    (found_length (λ row. reported_if row.number status) service f.services) (of_found (failed_by status service) before)
 of_done l f caller (request.Unlock handle) append ok = same l f (done_of l f caller (request.Unlock handle)).flat refl refl refl
 of_done l f caller (request.QueryStatus handle) append ok = same l f f refl refl refl
 of_done l f caller (request.Change change) append ok =
@@ -334,7 +351,7 @@ of_command l f g found r =
         others = r.others;
         plan = r.plan;
         due = r.due;
-        alike = omega (arith, r.alike, length-append g.processes (wanted_process g.next.process 0 ∷ []));
+        alike = omega (arith, r.alike, length-append g.processes (wanted_process g.next.process 0 false ∷ []));
         process = omega (arith, r.alike, few_run l g row e);
         services = r.services;
       }
@@ -473,14 +490,17 @@ of_effect l f (Launched process pid) = same l f (effect_of l f (Launched process
 of_effect l f (LaunchFailed process code) = same l f (effect_of l f (LaunchFailed process code)).flat refl refl
     (length-map f.services (fallen_if process code))
 of_effect l f (Report process service status) =
-    let before = taken_by f process status in
-    failing l f before (effect_of l f (Report process service status)).flat refl refl (length-map f.services (reported_if process status))
-    (of_found (failed_by status (current_of f process)) before)
+    let found = reporting f process service in
+    let before = taken_by_service f found status in
+    failing l 1 f before (effect_of l f (Report process service status)).flat (omega arith) refl refl
+    (found_length (λ row. reported_if row.number status) found f.services) (of_found (failed_by status found) before)
 of_effect l f (Ended process) =
-    let before = with_fallen f process 1067 in
-    failing l f before (effect_of l f (Ended process)).flat refl refl (length-map f.services (fallen_if process 1067))
-    (of_found (current_of f process) before)
-of_effect l f (ControlTaken process) = same l f (effect_of l f (ControlTaken process)).flat refl refl refl
+    let rows = currents process f.services in
+    let before = with_fallen f process ERROR_PROCESS_ABORTED in
+    failing l (length rows) f before (effect_of l f (Ended process)).flat (omega (arith, fewer (is_by process) f.services)) refl refl
+    (length-map f.services (fallen_if process ERROR_PROCESS_ABORTED)) (of_all_failed rows before)
+of_effect l f (ControlTaken process) = same l f (effect_of l f (ControlTaken process)).flat refl refl
+    (found_length (λ row. unasked_if row.number) (first_asked f process) f.services)
 of_effect l f Tick =
     let r = of_tick l f in
     record {
@@ -551,7 +571,7 @@ few_listed l f e = grind (arith, nat_tests)
 settles : (l : Limits) (f : Flat) → Keeps l (λ g. Settles l f g) (λ plan. Unit {0})
 settles l f = record {
   enters = λ g plan n words entry r. record {
-    alike = omega (arith, r.alike, length-append g.processes (wanted_process g.next.process n ∷ []));
+    alike = omega (arith, r.alike, length-append g.processes (wanted_process g.next.process n (is_shared_by (service_of g n)) ∷ []));
     bounded = omega (arith, r.alike, few_listed l g entry.few);
     others = r.others;
     plan = r.plan;
@@ -615,7 +635,7 @@ pub record StepRises (l : Limits) (old new : Flat) : Type 0 where
   pub caller : new.next.caller ≤ old.next.caller + 1
   pub service : new.next.service ≤ old.next.service + 1
   pub plan : new.next.plan + starts_in new.dues ≤ old.next.plan + starts_in old.dues + (length old.services + 2)
-  pub due : new.next.due + starts_in new.dues ≤ old.next.due + starts_in old.dues + (length old.services + 2)
+  pub due : new.next.due + starts_in new.dues ≤ old.next.due + starts_in old.dues + (2 * length old.services + 2)
   pub registration : new.next.registration ≤ old.next.registration + 1
   pub process : new.next.process ≤ old.next.process + 2 * l.processes
   pub few : length old.services ≤ l.services → length new.services ≤ l.services

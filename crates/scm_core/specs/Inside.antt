@@ -6,9 +6,9 @@ use Rattle.scm_model.specs.declared.steps.Step.{Step}
 use Rattle.scm_model.specs.Entries.{unkept}
 use Rattle.scm_tables.specs.Firing.{starts_in}
 use Rattle.scm_tables.specs.Tabled.{Tabled}
-use Rattle.scm_core.specs.declared.made.Prepared.{Prepared}
+use Rattle.scm_core.specs.declared.room.Prepared.{Prepared}
 use Rattle.scm_core.specs.declared.manager.Manager.TheInside.{Inside}
-use Rattle.scm_core.specs.declared.promised.Reservation.{Reservation}
+use Rattle.scm_core.specs.declared.room.Reservation.{Reservation}
 use Rattle.scm_core.specs.Managed.{Managed}
 use Rattle.scm_core.specs.Room.{HasRoomForStep, IsMadeFor}
 
@@ -29,14 +29,14 @@ abbrev pub KeepsMade : Limits → Flat → Prepared → Option Step → Type 0
 KeepsMade l f made None = Unit {0}
 KeepsMade l f made (Some step) = IsMadeFor l f made step
 
--- a step gives few numbers: of processes twice as many as may be listed, of plans and what becomes due, with the starts that stand, as many
--- as services may be, of all else one; few services stand from the beginning
+-- a step gives few numbers: of processes twice as many as may be listed, and with the starts that stand, of plans as many as services may be
+-- and of what becomes due twice as many, of all else one; few services stand from the beginning
 pub record IsSound (a : Inside) : Type 0 where
   pub handles : a.tables.flat.next.handle ≤ a.steps + 1
   pub callers : a.tables.flat.next.caller ≤ a.steps + 1
   pub services : a.tables.flat.next.service ≤ a.steps + 2 ^ 10
   pub plans : a.tables.flat.next.plan + starts_in a.tables.flat.dues ≤ (a.steps + 1) * 2 ^ 11
-  pub dues : a.tables.flat.next.due + starts_in a.tables.flat.dues ≤ (a.steps + 1) * 2 ^ 11
+  pub dues : a.tables.flat.next.due + starts_in a.tables.flat.dues ≤ (a.steps + 1) * 2 ^ 12
   pub registrations : a.tables.flat.next.registration ≤ a.steps + 1
   pub processes : a.tables.flat.next.process ≤ a.steps * 2 ^ 11 + 1
   pub few : length a.tables.flat.services ≤ a.tables.limits.services

@@ -3,7 +3,7 @@ use Rattle.std.specs.Prelude.{Bool, true, Option, None, is_some}
 use Rattle.scm_model.specs.declared.steps.Step.{Step}
 use Rattle.scm_model.specs.declared.steps.Step.TheVariants.{Call}
 use Rattle.scm_rules.specs.Verdicts.{tells_right}
-use Rattle.scm_core.specs.declared.made.Prepared.{Prepared}
+use Rattle.scm_core.specs.declared.room.Prepared.{Prepared}
 use Rattle.scm_model.specs.declared.steps.Change.{Change}
 
 -- the change that a step makes if it is kept

@@ -22,7 +22,7 @@ use Rattle.scm_arms_start.specs.Entries.{start_entries}
 use Rattle.scm_arms_process.specs.Raised.{raise_starts}
 use Rattle.scm_tables.specs.Firing.{HasFires, HasPlanNumbers, HasStarts, commands_in, starts_in}
 use Rattle.scm_tables.specs.Tabled.{HasNeedRoom, Tabled}
-use Rattle.scm_core.specs.declared.made.Prepared.{Prepared}
+use Rattle.scm_core.specs.declared.room.Prepared.{Prepared}
 
 -- the rows that a call may add find room, and so do the texts and needs of a service that comes or changes; a plan also has room for what
 -- it will have tried

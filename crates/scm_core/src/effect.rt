@@ -1,20 +1,125 @@
-ghost use Rattle.std.specs.Prelude.{◌≡◌, ◌≤◌, ◌<◌, ◌^◌};
+ghost use Rattle.std.specs.Prelude.{◌≡◌, IfOk, option_copied, ◌≤◌, ◌<◌, ◌^◌};
+ghost use Rattle.scm_rules.specs.Steps.{may_come, at_moment, effect_of, finished, step_of};
+ghost use Rattle.scm_core.specs.Judged.{change_if_kept, told_in};
+ghost use Rattle.scm_rules.specs.Verdicts.{change_of, change_of_call, tells_right};
 ghost use Rattle.scm_model.specs.declared.steps.Step.TheVariants.{Call};
-ghost use Rattle.scm_rules.specs.Steps.{at_moment, effect_of, finished, step_of};
 ghost use Rattle.scm_core.specs.Room.{HasNumbers, HasRoomForStep, HasRoomForCall, IsMadeFor};
 ghost use Rattle.scm_core.specs.Room.{prepared_for};
 
-use super::made::Prepared;
+use super::room::Prepared;
 use scm_arms_handle::{close, join, leave, lock, open_manager, open_service, query_lock, unlock};
 use scm_arms_notify::{close_notify, get_notify, notify};
 use scm_arms_process::{control, end, raise, report, set_status, take_control};
-use scm_arms_service::{change, change2, create, delete, query};
+use scm_arms_service::{
+    change, change2, changed, changed2, create, created, delete, query, removed,
+};
 use scm_arms_start::{end_start, fail_launch, finish, launched, start, take_launch, tick};
 use scm_model::codes::ERROR_CALL_NOT_IMPLEMENTED;
-use scm_model::{Answer, Kept, Request, Step, refused};
+use scm_model::{Answer, Change, Kept, Request, Step, refused};
 use scm_tables::Tables;
+use scm_text::OutOfMemory;
 use std::alloc::Global;
 use std::mem::replace;
+
+/// Whether a step may be done, whatever it tells of what was kept.
+pub fn may_come(tables: &Tables, moment: u64, step: &Step) -> bool
+    ensures { result ≡ may_come tables.now.limits tables.now.flat moment step.now }
+{
+    match step {
+        Step::Joined { .. } => tables.callers() < tables.limits().callers as usize,
+        Step::Call {
+            caller,
+            request,
+            kept: _,
+        } => tables.is_caller(*caller) && request.in_range(),
+        Step::EndStart { caller, plan } => {
+            tables.is_caller(*caller) && tables.can_end(*caller, *plan)
+        }
+        Step::LaunchTaken => tables.is_wanted(),
+        Step::Launched { process, pid: _ } => tables.is_taken(*process),
+        Step::LaunchFailed { process, code } => tables.is_taken(*process) && *code != 0,
+        Step::Report {
+            process,
+            service: _,
+            status: _,
+        } => tables.is_running(*process),
+        Step::Ended { process } => tables.is_running(*process),
+        Step::ControlTaken { process } => tables.next_order(*process).is_some(),
+        Step::Tick => tables.is_due(tables.moment().max(moment)),
+        Step::Raised { caller, subtype: _ } => tables.is_caller(*caller),
+        Step::Gone { caller } => tables.is_caller(*caller),
+        Step::NoMemory { caller } => tables.is_caller(*caller),
+    }
+}
+
+/// The change of the configurations that a step for which this was made makes, if it is kept.
+pub fn change_in<'a>(step: &Step, made: &'a Prepared) -> Option<&'a Change>
+    ensures { option_copied result ≡ change_if_kept made.now step.now }
+{
+    match step {
+        Step::Call { .. } => made.change.as_ref(),
+        _ => None,
+    }
+}
+
+/// Whether the outcome of a change is given if, and only if, there is a change.
+fn tells_right(changes: bool, kept: Kept) -> bool
+    ensures { result ≡ tells_right changes kept }
+{
+    match kept {
+        Kept::NotAsked => !changes,
+        Kept::Kept | Kept::Failed => changes,
+    }
+}
+
+/// Whether a step for which this was made tells that a change was kept or not exactly where it
+/// makes one.
+pub fn is_told(step: &Step, made: &Prepared) -> bool
+    ensures { result ≡ told_in made.now step.now }
+{
+    match step {
+        Step::Call {
+            caller: _,
+            request: _,
+            kept,
+        } => tells_right(made.change.is_some(), *kept),
+        _ => true,
+    }
+}
+
+/// The change of the configurations that a call makes if it is kept.
+fn change_of_call(
+    tables: &Tables,
+    caller: u64,
+    request: &Request,
+    alloc: Global,
+) -> Result<Option<Change>, OutOfMemory>
+    ensures { IfOk result (λ change. change ≡ change_of_call tables.now.limits tables.now.flat
+        caller request.now) }
+{
+    match request {
+        Request::Create(new) => created(tables, &tables.limits(), caller, new, alloc),
+        Request::Delete { handle } => removed(tables, caller, *handle, alloc),
+        Request::Change(change) => changed(tables, caller, change, alloc),
+        Request::Change2 { handle, info } => changed2(tables, caller, *handle, info, alloc),
+        _ => Ok(None),
+    }
+}
+
+/// The change of the configurations that a step makes if it is kept.
+pub fn change_of(tables: &Tables, step: &Step, alloc: Global) -> Result<Option<Change>, OutOfMemory>
+    ensures { IfOk result (λ change. change
+        ≡ change_of tables.now.limits tables.now.flat step.now) }
+{
+    match step {
+        Step::Call {
+            caller,
+            request,
+            kept: _,
+        } => change_of_call(tables, *caller, request, alloc),
+        _ => Ok(None),
+    }
+}
 
 /// What the arm of a creation takes out of its request.
 fn taken(request: &mut Request) -> Request
@@ -129,7 +234,7 @@ fn begin(tables: &mut Tables, moment: u64, step: &Step)
     }
 }
 
-#[tactic(auto, using(crate::proofs::Beforehand::can_fire, crate::proofs::Beforehand::raise_numbers))]
+#[tactic(auto, using(crate::proofs::Beforehand::can_fire, crate::proofs::Beforehand::end_numbers, crate::proofs::Beforehand::raise_numbers))]
 /// Does what a step does before the plans are settled and marked services leave.
 fn effect(tables: &mut Tables, alloc: Global, step: &mut Step, made: &mut Prepared) -> Answer
     requires made { IsMadeFor tables.old.limits tables.old.flat made.old step.old }
@@ -155,9 +260,9 @@ fn effect(tables: &mut Tables, alloc: Global, step: &mut Step, made: &mut Prepar
         Step::LaunchFailed { process, code } => fail_launch(tables, *process, *code),
         Step::Report {
             process,
-            service: _,
+            service,
             status,
-        } => report(tables, *process, status),
+        } => report(tables, *process, *service, status),
         Step::Ended { process } => end(tables, *process),
         Step::ControlTaken { process } => take_control(tables, *process),
         Step::Tick => tick(tables),

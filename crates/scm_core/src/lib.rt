@@ -2,12 +2,7 @@
 #![tactic(auto)]
 
 mod effect;
-mod judging;
-mod made;
 mod manager;
-mod owing;
-mod promised;
 mod room;
 
-pub use manager::Manager;
-pub use owing::is_owed;
+pub use manager::{Manager, is_owed};

@@ -1,8 +1,10 @@
-ghost use Rattle.std.specs.Prelude.{◌≡◌, ◌+◌, ◌<◌, ◌≤◌, ◌==◌, ◌^◌, max, nat_le, IsTrue, OnOk, OnErr};
-ghost use Rattle.std.specs.Prelude.{IfOk, IsFalse, IsOk, None, Some, length, filter, is_some, []};
-ghost use Rattle.std.specs.Prelude.{option_copied};
+ghost use Rattle.std.specs.Prelude.{◌≡◌, ◌+◌, ◌<◌, ◌≤◌, ◌==◌, ◌^◌, max, nat_le, IsTrue, OnOk};
+ghost use Rattle.std.specs.Prelude.{OnErr, IfOk, IfSome, IsFalse, IsOk, None, Some, length, filter};
+ghost use Rattle.std.specs.Prelude.{is_some, option_copied, [], option_map, ◌*◌, ◌-◌, min};
 ghost use Rattle.std.specs.List.{list_any};
-ghost use Rattle.scm_rules.specs.Controls.{waiting};
+ghost use Rattle.scm_model.specs.Processes.{is_shared, process_of};
+ghost use Rattle.scm_model.specs.Rows.{service_of};
+ghost use Rattle.scm_rules.specs.Controls.{next_order, waiting};
 ghost use Rattle.scm_rules.specs.Needs.{need_rows};
 ghost use Rattle.scm_rules.specs.Opening.{CanOpen, opening};
 ghost use Rattle.scm_rules.specs.Due.{is_due};
@@ -15,14 +17,15 @@ ghost use Rattle.scm_core.specs.Inside.{promised};
 ghost use Rattle.scm_core.specs.Room.{needs_memory};
 ghost use Rattle.scm_core.specs.Managed.{AreSmall, TakesLaunch, WasMadeFor, process_held};
 ghost use Rattle.scm_model.specs.declared.codes.TheConstants.{SERVICE_RUNNING};
+ghost use Rattle.scm_rules.specs.Owed.{owed};
+ghost use Rattle.scm_rules.specs.Room.{cost, debt, has_room, is_owed, need, need_of_call};
+ghost use Rattle.scm_rules.specs.Room.{need_of_start, need_of_starts, need_with, owed_by_raise};
 
-use super::effect::act;
-use super::judging::{change_in, change_of, is_told, may_come};
-use super::made::{Prepared, nothing_made};
-use super::promised::Reservation;
-use super::room::prepare;
+use super::effect::{act, change_in, change_of, is_told, may_come};
+use super::room::{Prepared, Reservation, nothing_made, prepare};
 use dependency_index::DependencyIndex;
-use scm_model::{Answer, Change, Config, Limits, Step};
+use scm_arms_process::started_in;
+use scm_model::{Answer, Change, Config, Limits, Order, Request, Step};
 use scm_tables::Tables;
 use scm_text::{Items, OutOfMemory, TextRoom, WText};
 use std::alloc::Global;
@@ -192,11 +195,37 @@ impl Manager {
         self.tables.is_wanted()
     }
 
-    /// How many orders wait for a process; none where it isn't listed. It takes no memory.
-    pub fn waiting(&self, process: u64) -> Option<u32>
+    /// How many services and orders a process is still to be told of; none where it isn't listed. It
+    /// takes no memory.
+    pub fn waiting(&self, process: u64) -> Option<usize>
         ensures { result ≡ waiting self.now.flat process }
     {
         self.tables.waiting(process)
+    }
+
+    /// What is sent to a process next: that a service is to start, with code 0, and else the order
+    /// that waits first. It takes no memory.
+    pub fn next_order(&self, process: u64) -> Option<Order>
+        ensures { result ≡ next_order self.now.flat process }
+    {
+        self.tables.next_order(process)
+    }
+
+    /// Whether other services may live in a process too. It takes no memory.
+    pub fn shares(&self, process: u64) -> bool
+        ensures { result ≡ is_shared (process_of self.now.flat process) }
+    {
+        self.tables.shares(process)
+    }
+
+    /// The name of the service with a number; none where there is no such service. It takes no
+    /// memory.
+    pub fn name_of(&self, service: u64) -> Option<&WText>
+        ensures name { option_map (λ name. name.now) result
+            ≡ option_map (λ row. row.config.name) (service_of self.now.flat service) }
+        ensures short { IfSome result (λ name. length name.now ≤ 256) }
+    {
+        self.tables.name_of(service)
     }
 
     /// The process of the service that a caller's handle is of, or 0 if the service has none;
@@ -309,5 +338,158 @@ impl Manager {
         let taken = self.step(moment, Step::LaunchTaken);
         drop(taken);
         Some((process, words))
+    }
+}
+
+/// What a start needs where there are so many services, up to 2^128 - 1.
+fn need_of_start(services: u128) -> u128
+    ensures { result ≡ min (need_of_start services) (2 ^ 128 - 1) }
+{
+    services.saturating_mul(3).saturating_add(2)
+}
+
+/// What starts of each service need where there are so many services, up to 2^128 - 1.
+fn need_of_starts(services: u128) -> u128
+    ensures { result ≡ min (need_of_starts services) (2 ^ 128 - 1) }
+{
+    let each = services.saturating_mul(3).saturating_add(1);
+    each.saturating_mul(services).saturating_add(1)
+}
+
+/// What a call needs where there are so many services, up to 2^128 - 1.
+fn need_of_call(services: u128, request: &Request) -> u128
+    ensures { result ≡ min (need_of_call services request.now) (2 ^ 128 - 1) }
+{
+    match request {
+        Request::Start { .. } => need_of_start(services),
+        _ => 1,
+    }
+}
+
+/// What a step needs where there are so many services, up to 2^128 - 1.
+fn need_with(services: u128, step: &Step) -> u128
+    ensures { result ≡ min (need_with services step.now) (2 ^ 128 - 1) }
+{
+    match step {
+        Step::Joined { .. } => 2,
+        Step::Call { request, .. } => need_of_call(services, request),
+        Step::Tick | Step::Raised { .. } => need_of_starts(services),
+        _ => 1,
+    }
+}
+
+/// Whether a step was counted when it came to be owed.
+pub fn is_owed(step: &Step) -> bool
+    ensures { result ≡ is_owed step.now }
+{
+    match step {
+        Step::EndStart { .. }
+        | Step::LaunchTaken
+        | Step::Launched { .. }
+        | Step::LaunchFailed { .. }
+        | Step::Ended { .. }
+        | Step::Gone { .. } => true,
+        Step::Joined { .. }
+        | Step::Call { .. }
+        | Step::Report { .. }
+        | Step::ControlTaken { .. }
+        | Step::Tick
+        | Step::Raised { .. }
+        | Step::NoMemory { .. } => false,
+    }
+}
+
+impl Manager {
+    /// How many steps are owed: they will take place without being asked for. 2^64 - 1 where they
+    /// are more. It takes no memory.
+    pub fn owed(&self) -> u64
+        ensures { result ≡ min (owed self.now.flat) (2 ^ 64 - 1) }
+    {
+        self.tables.owed()
+    }
+
+    /// How many steps a step needs: itself, and those that it may make owed. 2^64 - 1 where they
+    /// are more. It takes no memory.
+    pub fn need(&self, step: &Step) -> u64
+        ensures { result ≡ min (need self.now.flat step.now) (2 ^ 64 - 1) }
+    {
+        self.need_of(step).min(u64::MAX as u128) as u64
+    }
+
+    /// The same up to 2^128 - 1.
+    fn need_of(&self, step: &Step) -> u128
+        ensures { result ≡ min (need self.now.flat step.now) (2 ^ 128 - 1) }
+    {
+        need_with(self.services() as u128, step)
+    }
+
+    /// How many entries a step may add and leave owed: of a tick and a raise no more than what they
+    /// begin. 2^64 - 1 where they are more. It takes no memory.
+    pub fn debt(&self, step: &Step) -> u64
+        ensures { result ≡ min (debt self.now.flat step.now) (2 ^ 64 - 1) }
+    {
+        match step {
+            Step::Tick => self.tables.owed_by_dues().saturating_add(1),
+            Step::Raised { caller: _, subtype } => self.owed_by_raise(subtype).saturating_add(1),
+            _ => self.cost(step),
+        }
+    }
+
+    /// What a raise may make owed, up to 2^64 - 1.
+    fn owed_by_raise(&self, subtype: &[u8; 16]) -> u64
+        ensures { result ≡ min (owed_by_raise self.now.flat subtype.now) (2 ^ 64 - 1) }
+    {
+        let started = started_in(&self.tables, subtype) as u64;
+        self.services().saturating_mul(3).saturating_mul(started)
+    }
+
+    /// What a step costs beyond what was owed, up to 2^64 - 1.
+    fn cost(&self, step: &Step) -> u64
+        ensures { result ≡ min (cost self.now.flat step.now) (2 ^ 64 - 1) }
+    {
+        if is_owed(step) { 0 } else { self.need(step) }
+    }
+
+    /// Whether the limits have room for a step, with all that is owed and that it may make owed,
+    /// and for its text. It takes no memory.
+    pub fn room(&self, step: &Step) -> bool
+        ensures { result ≡ has_room self.now.limits self.now.flat self.now.steps self.now.text
+            step.now }
+    {
+        self.room_beside(self.owed(), step)
+    }
+
+    /// The same where it was asked before how many steps are owed.
+    pub fn room_beside(&self, owing: u64, step: &Step) -> bool
+        requires { owing ≡ min (owed self.now.flat) (2 ^ 64 - 1) }
+        ensures { result ≡ has_room self.now.limits self.now.flat self.now.steps self.now.text
+            step.now }
+    {
+        self.has_steps_for(owing, step) && self.has_text_for(step)
+    }
+
+    /// Whether the limit of steps has room.
+    fn has_steps_for(&self, owing: u64, step: &Step) -> bool
+        requires { owing ≡ min (owed self.now.flat) (2 ^ 64 - 1) }
+        ensures { result ≡ nat_le (self.now.steps + owed self.now.flat
+            + need self.now.flat step.now) self.now.limits.steps }
+    {
+        let before = self.steps as u128 + owing as u128;
+        before.saturating_add(self.need_of(step)) <= self.most_steps() as u128
+    }
+
+    /// The limit of steps.
+    fn most_steps(&self) -> u64
+        ensures { result ≡ self.now.limits.steps }
+    {
+        self.tables.limits().steps
+    }
+
+    /// Whether the limit of text has room.
+    fn has_text_for(&self, step: &Step) -> bool
+        ensures { result ≡ nat_le (self.now.text + text_of step.now) self.now.limits.text }
+    {
+        let all = (self.text as u128).saturating_add(step.text());
+        all <= self.tables.limits().text as u128
     }
 }

@@ -2,7 +2,7 @@ use Rattle.std.proofs.Common.{Some, subst, sym}
 use Rattle.scm_model.specs.Entries.{unkept}
 use Rattle.scm_core.specs.Inside.{KeepsMade, KeepsRoom, promised}
 use Rattle.scm_core.specs.Room.{IsMadeFor}
-use Rattle.scm_core.specs.declared.made.Prepared.{Prepared}
+use Rattle.scm_core.specs.declared.room.Prepared.{Prepared}
 use Rattle.scm_core.proofs.Beforehand.{has_room_unkept, is_made_unkept}
 use Rattle.scm_core.proofs.Promising.{room_stays}
 use Rattle.scm_core.proofs.manager.Manager.reserve_for.Goals as goal

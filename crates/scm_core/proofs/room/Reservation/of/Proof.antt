@@ -21,10 +21,10 @@ use denote.Triple.Entry.{alive}
 use denote.Triple.Walked.{Stays, stay_dropped, walk_of, Goes-dropped}
 use Rattle.std.proofs.raw_atomic.Walks.{proved, leaves}
 use Rattle.scm_model.specs.contracts.steps.Step.{the_row as R}
-use Rattle.scm_core.specs.contracts.promised.Reservation as Reservation
-use Rattle.scm_core.specs.contracts.promised.Reservation.of as f
-use Rattle.scm_core.proofs.promised.Reservation.of.Statement.{statement}
-use Rattle.scm_core.proofs.promised.Reservation.of.Code as code
+use Rattle.scm_core.specs.contracts.room.Reservation as Reservation
+use Rattle.scm_core.specs.contracts.room.Reservation.of as f
+use Rattle.scm_core.proofs.room.Reservation.of.Statement.{statement}
+use Rattle.scm_core.proofs.room.Reservation.of.Code as code
 
 abbrev no_bytes : Val
 no_bytes = vstruct vnil
