@@ -2,7 +2,7 @@
 use Rattle.std.proofs.Common.{arith, ℕ, ◌≡◌, ◌^◌, ◌<◌, ◌≤◌, List, [], ◌∷◌, ◌++◌, ◌==◌, false, length, drop, None, Some, refl, sym, ap, ◌∙◌}
 use Rattle.std.proofs.Common.{subst}
 use Rattle.std.specs.Prelude.{is_none, bytes_eq, codes, decimal, option_and_then}
-use Rattle.std.specs.List.{join_with_byte}
+use Rattle.std.specs.List.{All, join_with_byte}
 use Rattle.std.proofs.lemmas.List.{length-append}
 use Rattle.std.proofs.lemmas.List.Elements.{All-cons, All-nil, All-from_recursion}
 use Rattle.std.proofs.lemmas.List.Splits.{join_with_byte-slice_split}
@@ -39,6 +39,9 @@ control_only line n e =
     let text = sym (join_with_byte-slice_split 32 at.0) ∙ ap (join_with_byte 32) h.0 in
     (front_is 10 line at.0 (omega arith) at.1 ∙ ap (λ t. t ++ 10 ∷ []) text, h.1)
 
+one_wide : (n : ℕ) → n < 2 ^ 32 → All (λ n. n < 2 ^ 64) (n ∷ [])
+one_wide n small = All-cons (λ n. n < 2 ^ 64) n [] (omega (arith, small)) (All-nil (λ n. n < 2 ^ 64))
+
 -- and a control's line is read as it
 pub control_back : (n : ℕ) → n < 2 ^ 32 → handed_on (control_text n) ≡ Some n
 unfolding handed_on control_in code_in
@@ -46,12 +49,12 @@ control_back n small =
     let text = join_with_byte 32 (codes "CONTROL" ∷ decimal n ∷ []) in
     let words = split_joined (codes "CONTROL") (decimal n ∷ [])
     (All-from_recursion (λ b. (b == 32) ≡ false) (codes "CONTROL") (refl, (refl, (refl, (refl, (refl, (refl, (refl, tt))))))))
-    (words_clean (n ∷ []) (All-cons (λ n. n < 2 ^ 32) n [] small (All-nil (λ n. n < 2 ^ 32)))) in
+    (words_clean (n ∷ []) (one_wide n small)) in
     ap (option_and_then (λ text. control_in (words_in (Some text)))) (front_on 10 text) ∙ ap control_in words
     ∙ rw (number_again n small) refl
 
 -- a control's line is short
 pub control_short : (n : ℕ) → n < 2 ^ 32 → length (control_text n) ≤ 4096
 control_short n small =
-    let joined = joined_short (codes "CONTROL") (n ∷ []) (All-cons (λ n. n < 2 ^ 32) n [] small (All-nil (λ n. n < 2 ^ 32))) in
+    let joined = joined_short (codes "CONTROL") (n ∷ []) (one_wide n small) in
     omega (arith, joined, length-append (join_with_byte 32 (codes "CONTROL" ∷ decimal n ∷ [])) (10 ∷ []))

@@ -1,5 +1,5 @@
 -- What is kept of a line is read as the whole line is.
-use Rattle.std.proofs.Common.{arith, cond, inl, inr, ℕ, ◌≡◌, ◌<◌, ◌≤◌, ◌⊎◌, List, [], ◌∷◌, ◌++◌, length, Option, None, Some, refl, sym, ap}
+use Rattle.std.proofs.Common.{arith, cond, inl, inr, ℕ, ◌≡◌, ◌<◌, ◌≤◌, ◌⊎◌, List, [], ◌∷◌, ◌++◌, length, Option, None, Some, sym, ap}
 use Rattle.std.proofs.Common.{◌∙◌}
 use Rattle.std.proofs.lemmas.Bool.{cases_lt, eq-eqb, ne_eqb}
 use Rattle.std.proofs.lemmas.List.{length-append, length-take, take-append-le, take_all}
@@ -7,10 +7,7 @@ use Rattle.child_link.specs.Cutting.{kept, kept_line, kept_with}
 use Rattle.child_link.specs.Lines.{handed_on, stated}
 use Rattle.child_link.proofs.Controls.{control_only, control_short}
 use Rattle.child_link.proofs.Reports.{read_only}
-
-none_of : {A : Type 0} (o : Option A) → ((x : A) → o ≡ Some x → ⊥) → o ≡ None
-none_of None other = refl
-none_of (Some x) other = absurd (other x refl)
+use Rattle.child_link.proofs.Splits.{none_of}
 
 module _ {A : Type 0} (read : List ℕ → Option A) (short : (line : List ℕ) (x : A) → read line ≡ Some x → length line ≤ 4096) where
   long_is_none : (line : List ℕ) → 4096 < length line → read line ≡ None
@@ -26,7 +23,7 @@ module _ {A : Type 0} (read : List ℕ → Option A) (short : (line : List ℕ) 
   kept_is_read front = kept_as front (cases_lt 4096 (length front))
 
 pub kept_report : (front : List ℕ) → stated (kept_line front) ≡ stated (front ++ 10 ∷ [])
-kept_report = kept_is_read stated (λ line status e. (read_only line status e).short)
+kept_report = kept_is_read stated (λ line report e. (read_only line report e).short)
 
 pub kept_control : (front : List ℕ) → handed_on (kept_line front) ≡ handed_on (front ++ 10 ∷ [])
 kept_control = kept_is_read handed_on (λ line n e. let h = control_only line n e in omega (arith, ap length h.0, control_short n h.1))

@@ -17,6 +17,10 @@ same_some x y e = cc
 pub none_some : {A : Type 0} (o : Option A) (x : A) → o ≡ None → o ≡ Some x → ⊥
 none_some o x e f = cc
 
+pub none_of : {A : Type 0} (o : Option A) → ((x : A) → o ≡ Some x → ⊥) → o ≡ None
+none_of None other = refl
+none_of (Some x) other = absurd (other x refl)
+
 is_space : (b : ℕ) → b ≡ 32 → (b == 32) ≡ true
 is_space b e = ap (λ c. c == 32) e
 

@@ -11,7 +11,7 @@ mod words;
 pub use cutting::{LineCutter, kept_lines_are_read};
 pub use feed::{Feed, PipeFeed};
 pub use lines::{
-    control_line, controls_are_read, read_control_line, read_line_step, report_line,
-    reports_are_read,
+    Reported, control_line, controls_are_read, orders_are_read, read_control_line, read_line_step,
+    read_order_line, read_report, report_line, reports_are_read,
 };
 pub use link::{Link, MemoryLink, PipeLink, SliceLink};

@@ -1,8 +1,8 @@
 ghost use Rattle.std.specs.Prelude.{◌≡◌, ◌==◌, ◌<◌, ◌^◌, ◌∷◌, All, IfNone, IfSome, Some, bytes_eq};
 ghost use Rattle.std.specs.Prelude.{drop, length, option_map, slice_get, take, false};
-ghost use Rattle.child_link.specs.Words.{word_code, words_in};
+ghost use Rattle.child_link.specs.Words.{word_code, word_number, words_in};
 
-use decimal_words::number_below;
+use decimal_words::{number_at, number_below};
 use std::marker::Model;
 
 /// The words of a text that are left, between which one space stands.
@@ -60,6 +60,13 @@ impl<'a> Words<'a> {
         Words { left: Some(text) }
     }
 
+    /// The same words.
+    pub fn again(&self) -> Self
+        ensures { result ≡ self.now }
+    {
+        Words { left: self.left }
+    }
+
     /// Takes the next word, if there is one.
     pub fn next(&mut self) -> Option<&'a [u8]>
         ensures word { option_map (λ word. word.now) result ≡ slice_get self.old 0 }
@@ -78,5 +85,13 @@ impl<'a> Words<'a> {
         let word = self.next()?;
         let number = number_below(1 << 32, word)?;
         Some(number as u32)
+    }
+
+    /// Takes the next word, and answers the number of 64 bits of which it is the decimal form.
+    pub fn next_number(&mut self) -> Option<u64>
+        ensures number { result ≡ word_number (slice_get self.old 0) }
+        ensures rest { self.new ≡ drop 1 self.old }
+    {
+        number_at(self.next()?)
     }
 }
