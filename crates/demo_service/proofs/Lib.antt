@@ -1,3 +1,5 @@
 pub mod Folds
 pub mod Lines
+pub mod Naming
+pub mod Obeying
 pub mod Wearing

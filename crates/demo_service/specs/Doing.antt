@@ -1,23 +1,24 @@
 -- What the program does of its words.
-use Rattle.std.specs.Prelude.{ℕ, ◌≡◌, ◌<◌, ◌^◌, ◌==◌, ◌||◌, ◌⊎◌, not, Bool, true, false, codes, is_none, List, [], ◌∷◌, ◌++◌, length, All}
+use Rattle.std.specs.Prelude.{ℕ, ◌≡◌, ◌<◌, ◌^◌, ◌==◌, ◌||◌, ◌⊎◌, not, Bool, true, false, codes, is_none, List, [], ◌∷◌, ◌++◌, length, All, filter}
 use Rattle.std.specs.Prelude.{Option, None, Some, Result, Ok, Err, nat_eq, bit_or, if◌then◌else◌}
 use Rattle.std.specs.Cmp.Lexicographic.{pointwise}
 use Rattle.std.specs.Io.KnownBytes.{Appends, Consumes, IsAtEnd}
 use Rattle.std.specs.List.{FoldsTo, list_any}
 use Rattle.outside.specs.Causes.{Rose}
 use Rattle.scm_model.specs.declared.codes.TheConstants.{SERVICE_ACCEPT_PAUSE_CONTINUE, SERVICE_ACCEPT_STOP, SERVICE_CONTROL_CONTINUE}
-use Rattle.scm_model.specs.declared.codes.TheConstants.{SERVICE_CONTROL_PAUSE, SERVICE_CONTROL_STOP, SERVICE_PAUSED, SERVICE_RUNNING}
-use Rattle.scm_model.specs.declared.codes.TheConstants.{SERVICE_START_PENDING, SERVICE_STOPPED, SERVICE_STOP_PENDING}
-use Rattle.scm_model.specs.declared.codes.TheConstants.{SERVICE_WIN32_OWN_PROCESS}
+use Rattle.scm_model.specs.declared.codes.TheConstants.{SERVICE_CONTROL_INTERROGATE, SERVICE_CONTROL_PAUSE, SERVICE_CONTROL_STOP}
+use Rattle.scm_model.specs.declared.codes.TheConstants.{SERVICE_PAUSED, SERVICE_RUNNING, SERVICE_START_PENDING, SERVICE_STOPPED}
+use Rattle.scm_model.specs.declared.codes.TheConstants.{SERVICE_STOP_PENDING, SERVICE_WIN32_OWN_PROCESS, SERVICE_WIN32_SHARE_PROCESS}
+use Rattle.scm_model.specs.declared.flat.Order.{Order}
 use Rattle.scm_model.specs.declared.flat.Status.{Status}
 use Rattle.child_link.specs.Cutting.{kept, kept_line}
-use Rattle.child_link.specs.Lines.{handed_on, report_text}
+use Rattle.child_link.specs.Lines.{handed_on, naming_fields, numbers_text, ordered, report_text, reported_of}
 use Rattle.demo_service.specs.declared.fault.DemoFault.{DemoFault}
 use Rattle.demo_service.specs.declared.fault.DemoFault.TheVariants as faults
 use Rattle.demo_service.specs.declared.waiting.Came.{Came}
 use Rattle.demo_service.specs.declared.waiting.Came.TheVariants.{Byte, Feed, End}
 use Rattle.demo_service.specs.declared.word.Word.{Word}
-use Rattle.demo_service.specs.declared.word.Word.TheVariants.{Report, Wait}
+use Rattle.demo_service.specs.declared.word.Word.TheVariants.{Report, Share, Wait}
 
 -- ## Words
 
@@ -33,6 +34,7 @@ word_of text =
     else if is_text text (codes "stopping") then Some (Report SERVICE_STOP_PENDING)
     else if is_text text (codes "stopped") then Some (Report SERVICE_STOPPED)
     else if is_text text (codes "wait") then Some Wait
+    else if is_text text (codes "shared") then Some Share
     else None
 
 abbrev pub is_unknown : List ℕ → Bool
@@ -45,12 +47,12 @@ abbrev pub accepted_in : ℕ → ℕ
 accepted_in state = if state == SERVICE_RUNNING || state == SERVICE_PAUSED then bit_or SERVICE_ACCEPT_STOP SERVICE_ACCEPT_PAUSE_CONTINUE
     else 0
 
-abbrev pub status_as : ℕ → Status
-status_as state =
+abbrev pub status_as : (kind state accepted : ℕ) → Status
+status_as kind state accepted =
     record {
-      kind = SERVICE_WIN32_OWN_PROCESS;
+      kind = kind;
       state = state;
-      accepted = accepted_in state;
+      accepted = accepted;
       win32 = 0;
       specific = 0;
       checkpoint = 0;
@@ -59,7 +61,19 @@ status_as state =
 
 -- the line that reports a state
 abbrev pub report_of : ℕ → List ℕ
-report_of state = report_text (status_as state) ++ 10 ∷ []
+report_of state = report_text (status_as SERVICE_WIN32_OWN_PROCESS state (accepted_in state)) ++ 10 ∷ []
+
+-- a service of a shared process takes STOP in RUNNING
+abbrev pub shared_accepted_in : ℕ → ℕ
+shared_accepted_in state = if state == SERVICE_RUNNING then SERVICE_ACCEPT_STOP else 0
+
+-- the line that reports a status of the service with this number
+abbrev pub naming_line : ℕ → Status → List ℕ
+naming_line service status = numbers_text (naming_fields (reported_of service status)) ++ 10 ∷ []
+
+-- the line that reports a state of a service of a shared process
+abbrev pub shared_report_of : (service state : ℕ) → List ℕ
+shared_report_of service state = naming_line service (status_as SERVICE_WIN32_SHARE_PROCESS state (shared_accepted_in state))
 
 -- ## Doing
 
@@ -144,18 +158,107 @@ pub record WearsOut (a b : Point) : Type 0 where
   pub hears : FoldsTo (Hears true) a fronts last
   pub worn : IsWorn fronts last b
 
+-- ## The orders of a shared process
+
+-- the services that run after an order: each that was started and not stopped since
+abbrev pub running_after : List ℕ → Order → List ℕ
+running_after running order = if order.code == 0 then running ++ order.service ∷ [] else if order.code == SERVICE_CONTROL_STOP
+    then filter (λ number. not (number == order.service)) running else running
+
+abbrev pub is_running : (running : List ℕ) → (service : ℕ) → Bool
+is_running running service = list_any (λ number. number == service) running
+
+abbrev pub state_of : (running : List ℕ) → (service : ℕ) → ℕ
+state_of running service = if is_running running service then SERVICE_RUNNING else SERVICE_STOPPED
+
+-- a start, STOP and INTERROGATE are answered
+abbrev pub is_answered : ℕ → Bool
+is_answered code = code == 0 || code == SERVICE_CONTROL_STOP || code == SERVICE_CONTROL_INTERROGATE
+
+-- with the state that the service has after the order
+abbrev pub answer_to : (running : List ℕ) → Order → List ℕ
+answer_to running order = if is_answered order.code then shared_report_of order.service (state_of running order.service) else []
+
+-- the process ends after a STOP after which no service runs
+abbrev pub goes_on : (running : List ℕ) → Order → Bool
+goes_on running order = not (order.code == SERVICE_CONTROL_STOP) || not (length running == 0)
+
+-- what a shared process makes of a line, which may be no order
+pub record Obeyed : Type 0 where
+  pub running : List ℕ
+  pub told : List ℕ
+  pub on : Bool
+
+abbrev pub obeyed : List ℕ → Option Order → Obeyed
+obeyed running None = record { running = running; told = []; on = true }
+obeyed running (Some order) =
+    let now = running_after running order in
+    record { running = now; told = answer_to now order; on = goes_on now order }
+
+-- the services that run, and what the input and the output tell
+pub record SharedPoint : Type 0 where
+  pub running : List ℕ
+  pub at : Point
+
+abbrev pub shared_at : List ℕ → Point → SharedPoint
+shared_at running at = record { running = running; at = at }
+
+-- The line of these bytes and a line feed was read and obeyed, and lets the process read on or not. Of a longer line the
+-- first 4,096 bytes are read.
+pub record Obeys (on : Bool) (a : SharedPoint) (front : List ℕ) (b : SharedPoint) : Type 0 where
+  pub line : IsWholeLine front
+  pub few : IsBelowMost front
+  pub read : Consumes a.at.left b.at.left (front ++ 10 ∷ [])
+  pub runs : b.running ≡ (obeyed a.running (ordered (kept_line front))).running
+  pub goes : (obeyed a.running (ordered (kept_line front))).on ≡ on
+  pub told : Appends a.at.held b.at.held (obeyed a.running (ordered (kept_line front))).told
+
+-- no service runs after the last line, or the input ended
+abbrev pub SharedEnds : SharedPoint → SharedPoint → Type 0
+SharedEnds a b = ((front : List ℕ) × Obeys false a front b) ⊎ Ends a.at b.at
+
+-- a line was obeyed and lets the process read on; or it doesn't
+abbrev pub ObeysOne : SharedPoint → Bool → SharedPoint → Type 0
+ObeysOne a true b = (front : List ℕ) × Obeys true a front b
+ObeysOne a false b = SharedEnds a b
+
+-- lines were obeyed, from none running on, up to a STOP after which no service runs, or to the end of the input
+pub record Shares (a b : Point) : Type 0 where
+  pub fronts : List (List ℕ)
+  pub last : SharedPoint
+  pub running : List ℕ
+  pub obeys : FoldsTo (Obeys true) (shared_at [] a) fronts last
+  pub few : IsBelowMost fronts
+  pub ends : SharedEnds last (shared_at running b)
+
+-- lines were obeyed, up to the greatest number of them or to a line that is too long
+pub record WearsShared (a b : Point) : Type 0 where
+  pub fronts : List (List ℕ)
+  pub last : SharedPoint
+  pub obeys : FoldsTo (Obeys true) (shared_at [] a) fronts last
+  pub worn : IsWorn fronts last.at b
+
+-- ## Words done
+
 abbrev pub DoesWord : Point → Option Word → Point → Type 0
 DoesWord a None b = ⊥
 DoesWord a (Some (Report state)) b = (b.left ≡ a.left) × Appends a.held b.held (report_of state)
 DoesWord a (Some Wait) b = Waits a b
+DoesWord a (Some Share) b = Shares a b
 
 -- the word of a text was done
 abbrev pub Does : Point → List ℕ → Point → Type 0
 Does a text b = DoesWord a (word_of text) b
 
--- the text is the word that waits, and the program wore out at it
+-- the program wore out at a word, which is one that reads lines
+abbrev pub WearsWord : Point → Option Word → Point → Type 0
+WearsWord a (Some Wait) b = WearsOut a b
+WearsWord a (Some Share) b = WearsShared a b
+WearsWord a _ b = ⊥
+
+-- the same at the word of a text
 abbrev pub WearsAt : Point → List ℕ → Point → Type 0
-WearsAt a text b = (word_of text ≡ Some Wait) × WearsOut a b
+WearsAt a text b = WearsWord a (word_of text) b
 
 -- the texts before one were done, and the program wore out at that one
 pub record WearsIn (a : Point) (texts : List (List ℕ)) (b : Point) : Type 0 where

@@ -1,12 +1,12 @@
 ghost use Rattle.std.specs.Prelude.{◌≡◌, ◌≤◌, true, Err, IfErr, OnOk, Some};
 ghost use Rattle.std.specs.List.{FoldsTo, list_any};
 ghost use Rattle.demo_service.specs.Doing.{Does, DoesWord, IsFaultCaused, IsCausedAt, IsCausedIn};
-ghost use Rattle.demo_service.specs.Doing.{WearsAt, WearsIn, WearsOut, is_unknown, point_at};
+ghost use Rattle.demo_service.specs.Doing.{WearsAt, WearsIn, WearsWord, is_unknown, point_at};
 ghost use Rattle.demo_service.specs.declared.fault.DemoFault.TheVariants as faults;
-ghost use Rattle.demo_service.specs.declared.word.Word.TheVariants as words;
 
 use super::fault::DemoFault;
 use super::reporting::report;
+use super::sharing::share;
 use super::waiting::wait;
 use super::word::{Word, any_is_unknown, word_at};
 use outside::{Sink, Source};
@@ -22,8 +22,8 @@ fn do_word<I: Source, O: Sink>(
 ) -> Result<(), DemoFault>
     ensures does { OnOk result (DoesWord (point_at (I.left input.old) (O.held output.old))
         (Some word) (point_at (I.left input.new) (O.held output.new))) }
-    ensures worn { result ≡ Err faults.Worn → (word ≡ words.Wait)
-        × WearsOut (point_at (I.left input.old) (O.held output.old))
+    ensures worn { result ≡ Err faults.Worn → WearsWord
+        (point_at (I.left input.old) (O.held output.old)) (Some word)
         (point_at (I.left input.new) (O.held output.new)) }
     ensures cause { IfErr result (IsFaultCaused (I.faults input.old) (I.faults input.new)
         (O.faults output.old) (O.faults output.new)) }
@@ -33,6 +33,7 @@ fn do_word<I: Source, O: Sink>(
     match word {
         Word::Report(state) => report(alloc, state, output),
         Word::Wait => wait(alloc, input, output),
+        Word::Share => share(alloc, input, output),
     }
 }
 

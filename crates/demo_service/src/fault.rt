@@ -11,7 +11,7 @@ pub enum DemoFault {
     /// One of the words is none that the program knows.
     Words,
     OutOfMemory,
-    /// As much was read as may be while the program waits once.
+    /// As much was read as may be for one word.
     Worn,
 }
 

@@ -5,6 +5,7 @@
 mod demo;
 mod fault;
 mod reporting;
+mod sharing;
 mod waiting;
 mod word;
 

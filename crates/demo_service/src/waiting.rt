@@ -16,8 +16,8 @@ use scm_model::codes::{
 };
 use std::alloc::Global;
 
-/// How many bytes a line may have, and how many lines may come while the program waits once.
-const WORN: u64 = 1 << 40;
+/// How many bytes a line may have, and how many lines may be read for one word.
+pub const WORN: u64 = 1 << 40;
 
 /// What came of the input.
 #[derive(Clone, Copy, Debug, PartialEq, Eq)]
@@ -52,7 +52,7 @@ fn read_byte<I: Source>(line: &mut LineCutter, input: &mut I) -> Result<Came, De
 }
 
 /// Reads a line. Whether there was one before the input ended.
-fn read_line<I: Source>(line: &mut LineCutter, input: &mut I) -> Result<bool, DemoFault>
+pub fn read_line<I: Source>(line: &mut LineCutter, input: &mut I) -> Result<bool, DemoFault>
     requires { line.old ≡ [] }
     ensures read { IfOk result (ReadsLine (I.left input.old) (I.left input.new) line.new) }
     ensures worn { result ≡ Err faults.Worn → WearsLine (I.left input.old) (I.left input.new) }

@@ -14,6 +14,8 @@ pub enum Word {
     Report(u32),
     /// To wait for the control that stops.
     Wait,
+    /// To obey the orders of a shared process.
+    Share,
 }
 
 /// The word that a text is.
@@ -27,6 +29,7 @@ pub fn word_at(text: &str) -> Option<Word>
         "stopping" => Some(Word::Report(SERVICE_STOP_PENDING)),
         "stopped" => Some(Word::Report(SERVICE_STOPPED)),
         "wait" => Some(Word::Wait),
+        "shared" => Some(Word::Share),
         _ => None,
     }
 }
