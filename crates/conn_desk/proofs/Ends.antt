@@ -12,8 +12,8 @@ use Rattle.rpc_session.specs.Items.{is_at_rest, unbound, to_come, told_of_pdus}
 use Rattle.rpc_session.specs.Pdus.{pdus_behind}
 use Rattle.conn_desk.specs.declared.served.Served.{Served}
 use Rattle.conn_desk.specs.declared.served.Served.TheVariants as served
-use Rattle.conn_desk.specs.declared.stop.Stop.{Stop}
-use Rattle.conn_desk.specs.declared.stop.Stop.TheVariants as stop
+use Rattle.conn_desk.specs.declared.serving.Stop.{Stop}
+use Rattle.conn_desk.specs.declared.serving.Stop.TheVariants as stop
 use Rattle.conn_desk.specs.Talks.{AreAnswered}
 use Rattle.conn_desk.specs.Along.{Point, FedOn, GoesOn, GoesBad, IsFront}
 use Rattle.conn_desk.specs.Connection.{Reached, AllServed, AllBefore, FirstServed, IsAhead, IsOpenEnd, piece_size}

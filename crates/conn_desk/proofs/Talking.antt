@@ -11,7 +11,7 @@ use Rattle.outside.specs.declared.Failed.{Failed}
 use Rattle.outside.specs.Written.{Begins, Writes}
 use Rattle.conn_desk.specs.declared.asked.DecodedRequest.{DecodedRequest}
 use Rattle.conn_desk.specs.declared.asked.DecodedRequest.TheVariants as asks
-use Rattle.scm_bodies.specs.declared.call.Call.{Call as Served}
+use Rattle.scm_bodies.specs.declared.bodies.Call.{Call as Served}
 use Rattle.scm_bodies.specs.Calls.{call_at}
 use Rattle.scm_bodies.specs.Requests.{request_at}
 use Rattle.scm_model.specs.declared.calls.Reply.{Reply}

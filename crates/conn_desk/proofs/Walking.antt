@@ -9,8 +9,8 @@ use Rattle.rpc_session.specs.declared.state.Incoming.{Incoming}
 use Rattle.rpc_session.specs.Items.{Seen, StreamEnd, Told, given_by, BadPdu, TooLong, Gave, Says, IsOpen, items, to_come}
 use Rattle.rpc_session.specs.declared.session.SessionFault.{SessionFault}
 use Rattle.rpc_session.specs.declared.session.SessionFault.TheVariants as faults
-use Rattle.conn_desk.specs.declared.stop.Stop.{Stop}
-use Rattle.conn_desk.specs.declared.stop.Stop.TheVariants as stop
+use Rattle.conn_desk.specs.declared.serving.Stop.{Stop}
+use Rattle.conn_desk.specs.declared.serving.Stop.TheVariants as stop
 use Rattle.conn_desk.specs.Bodies.{asked_by}
 use Rattle.conn_desk.specs.Desks.{IsLeft}
 use Rattle.conn_desk.specs.Talks.{AreAnswered, CutsShort}

@@ -7,9 +7,9 @@ use Rattle.feed_loop.specs.Feeding.{AllEaten, At, FeedChain as EatenChain, Feeds
 use Rattle.conn_desk.specs.declared.asked.DecodedRequest.{DecodedRequest}
 use Rattle.scm_model.specs.declared.calls.Reply.{Reply}
 use Rattle.rpc_session.specs.Items.{is_at_rest}
-use Rattle.conn_desk.specs.declared.stop.Stop.{Stop}
-use Rattle.conn_desk.specs.declared.stop.Stop.TheVariants as stop
-use Rattle.conn_desk.specs.declared.talker.ConnectionReader.{ConnectionReader}
+use Rattle.conn_desk.specs.declared.serving.Stop.{Stop}
+use Rattle.conn_desk.specs.declared.serving.Stop.TheVariants as stop
+use Rattle.conn_desk.specs.declared.serving.ConnectionReader.{ConnectionReader}
 use Rattle.conn_desk.specs.Along.{HasStopCause, point_of}
 use Rattle.conn_desk.specs.Connection.{IsServedFor}
 use Rattle.conn_desk.specs.Serves.{Eaten, Serves, Stopped, served_as}

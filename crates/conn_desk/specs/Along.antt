@@ -11,9 +11,9 @@ use Rattle.rpc_session.specs.declared.session.SessionFault.{SessionFault}
 use Rattle.rpc_session.specs.declared.session.SessionFault.TheVariants as faults
 use Rattle.conn_desk.specs.declared.desk.HandlerError.{HandlerError}
 use Rattle.conn_desk.specs.declared.desk.HandlerError.TheVariants as lacks
-use Rattle.conn_desk.specs.declared.stop.Stop.{Stop}
-use Rattle.conn_desk.specs.declared.stop.Stop.TheVariants as stop
-use Rattle.conn_desk.specs.declared.talker.ConnectionReader.{ConnectionReader}
+use Rattle.conn_desk.specs.declared.serving.Stop.{Stop}
+use Rattle.conn_desk.specs.declared.serving.Stop.TheVariants as stop
+use Rattle.conn_desk.specs.declared.serving.ConnectionReader.{ConnectionReader}
 use Rattle.conn_desk.specs.Bodies.{asked_by}
 use Rattle.conn_desk.specs.Desks.{CallAnswered, IsLeft}
 use Rattle.conn_desk.specs.Talks.{AreAnswered, CutsShort}

@@ -8,7 +8,7 @@ use Rattle.scm_model.specs.Refused.{refused}
 use Rattle.ndr_body.specs.declared.fault.BodyFault.{BodyFault}
 use Rattle.scm_calls.specs.declared.raises.TheConstants.{RAISE}
 use Rattle.scm_calls.specs.Raises.{raise_at}
-use Rattle.scm_bodies.specs.declared.call.Call.{Call as Served}
+use Rattle.scm_bodies.specs.declared.bodies.Call.{Call as Served}
 use Rattle.scm_bodies.specs.Calls.{call_at}
 use Rattle.scm_bodies.specs.Requests.{request_at}
 use Rattle.scm_bodies.specs.Replies.{reply_bytes as body_of}

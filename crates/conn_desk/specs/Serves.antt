@@ -8,8 +8,8 @@ use Rattle.scm_model.specs.declared.calls.Reply.{Reply}
 use Rattle.rpc_session.specs.declared.state.Incoming.{Incoming}
 use Rattle.conn_desk.specs.declared.served.Served.{Served}
 use Rattle.conn_desk.specs.declared.served.Served.TheVariants as served
-use Rattle.conn_desk.specs.declared.stop.Stop.{Stop}
-use Rattle.conn_desk.specs.declared.stop.Stop.TheVariants as stop
+use Rattle.conn_desk.specs.declared.serving.Stop.{Stop}
+use Rattle.conn_desk.specs.declared.serving.Stop.TheVariants as stop
 use Rattle.conn_desk.specs.Bodies.{asked}
 use Rattle.conn_desk.specs.Desks.{Chain, IsLeft}
 use Rattle.conn_desk.specs.Connection.{Reached}

@@ -6,7 +6,7 @@ use Rattle.std.proofs.lemmas.Bool.{eqb-true, ne_eqb}
 use Rattle.std.proofs.lemmas.List.{map-append, length-append}
 use Rattle.std.proofs.lemmas.List.Elements.{filter-append}
 use Rattle.std.proofs.Math.ListN.{drop_of_length-le}
-use Rattle.process_runner.specs.declared.splitting.Splitting.{Splitting}
+use Rattle.process_runner.specs.declared.commands.Splitting.{Splitting}
 use Rattle.process_runner.specs.Commands.{Placed, placed_from, is_run, unquoted, command_words, utf8_of}
 use Rattle.process_runner.specs.Splitting.{begun_word, words_after, all_words}
 

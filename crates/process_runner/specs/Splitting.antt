@@ -1,6 +1,6 @@
 -- A command line that is read unit by unit.
 use Rattle.std.specs.Prelude.{ℕ, ◌==◌, ◌&&◌, not, Bool, true, false, List, [], ◌∷◌, ◌++◌, map, if◌then◌else◌}
-use Rattle.process_runner.specs.declared.splitting.Splitting.{Splitting}
+use Rattle.process_runner.specs.declared.commands.Splitting.{Splitting}
 use Rattle.process_runner.specs.Commands.{utf8_of}
 
 -- a word that has begun

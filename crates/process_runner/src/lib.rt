@@ -6,7 +6,6 @@ mod commands;
 mod memory;
 mod quitting;
 mod spawning;
-mod splitting;
 mod system;
 
 pub use commands::{paths_name_programs, split_command};

@@ -6,7 +6,7 @@ use Rattle.std.specs.Int.{w32, from_le_bytes, to_le_bytes}
 use Rattle.std.proofs.lemmas.Bool.{le-ltb}
 use Rattle.std.proofs.lemmas.List.{take_at, drop_at, get_or-append-add, take_all, length-take-le}
 use Rattle.std.proofs.lemmas.Nat.{from_le_bytes-to_le_bytes_2, from_le_bytes-to_le_bytes_4}
-use Rattle.rpc_pdu.specs.declared.header.Header.{Header}
+use Rattle.rpc_pdu.specs.declared.reading.Header.{Header}
 use Rattle.rpc_pdu.specs.declared.pdu.End.{End}
 use Rattle.rpc_pdu.specs.declared.pdu.End.TheVariants.{Server, Client}
 use Rattle.rpc_pdu.specs.declared.pdu.PduType.{PduType}

@@ -3,7 +3,7 @@ use Rattle.std.proofs.Common.{◌≡◌, ℕ, ◌≤◌, Bool, true, false, cond
 use Rattle.std.proofs.Common.{length-append, nat_lt}
 use Rattle.std.proofs.lemmas.Bool.{ltb-false, le-ltb}
 use Rattle.std.proofs.lemmas.List.{take-append-le}
-use Rattle.rpc_pdu.specs.declared.header.Header.{Header}
+use Rattle.rpc_pdu.specs.declared.reading.Header.{Header}
 use Rattle.rpc_pdu.specs.declared.pdu.End.{End}
 use Rattle.rpc_pdu.specs.declared.pdu.PduType.{PduType}
 use Rattle.rpc_pdu.specs.declared.pdu.PduKind.{PduKind}

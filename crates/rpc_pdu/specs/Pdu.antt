@@ -2,7 +2,7 @@
 use Rattle.std.specs.Prelude.{ℕ, ◌+◌, ◌*◌, ◌%◌, Bool, true, false, not, ◌==◌, nat_lt, List, [], length, take, drop, slice_index, Option}
 use Rattle.std.specs.Prelude.{Some, None, option_map, Result, Ok, Err, if◌then◌else◌}
 use Rattle.std.specs.Borrow.{Bor}
-use Rattle.rpc_pdu.specs.declared.header.Header.{Header}
+use Rattle.rpc_pdu.specs.declared.reading.Header.{Header}
 use Rattle.rpc_pdu.specs.declared.pdu.End.{End}
 use Rattle.rpc_pdu.specs.declared.pdu.PduType.{PduType}
 use Rattle.rpc_pdu.specs.declared.pdu.PduType.TheVariants as types

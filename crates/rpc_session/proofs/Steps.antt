@@ -14,7 +14,7 @@ use Rattle.std.proofs.lemmas.List.{length-replicate, take_all}
 use Rattle.std.proofs.lemmas.List.Elements.{All-cons, All-head, All-tail, All-nil}
 use Rattle.std.specs.Prelude.{option_map, ◌||◌}
 use Rattle.std.specs.Borrow.{Bor}
-use Rattle.rpc_pdu.specs.declared.context.Context.{Context}
+use Rattle.rpc_pdu.specs.declared.reading.Context.{Context}
 use Rattle.rpc_pdu.specs.Contexts.{contexts_of, context_at, seen_context, first_and}
 use Rattle.rpc_session.specs.declared.contexts.TheConstants.{NDR}
 use Rattle.rpc_session.specs.declared.contexts.Interface.{Interface}

@@ -7,7 +7,7 @@ use Rattle.std.specs.FinMap as map
 use Rattle.std.specs.FinMap.{FinMap}
 use Rattle.std.specs.Ordering.{nat_cmp}
 use Rattle.std.specs.Borrow.{Bor}
-use Rattle.rpc_pdu.specs.declared.context.Context.{Context}
+use Rattle.rpc_pdu.specs.declared.reading.Context.{Context}
 use Rattle.rpc_session.specs.declared.contexts.TheConstants.{SVCCTL, TRIGGER, NDR}
 use Rattle.rpc_session.specs.declared.contexts.Interface.{Interface}
 use Rattle.rpc_session.specs.declared.contexts.Interface.TheVariants.{Svcctl, Trigger}

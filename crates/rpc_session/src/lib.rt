@@ -6,7 +6,6 @@ mod known;
 mod replies;
 mod session;
 mod state;
-mod stream;
 
 pub use contexts::Interface;
 pub use session::{Session, SessionFault};

@@ -1,5 +1,6 @@
-ghost use Rattle.std.specs.Prelude.{◌≡◌, ◌<◌, ◌++◌, List, ℕ, [], length, OnOk, OnErr, IfOk, IfErr};
-ghost use Rattle.std.specs.Prelude.{IfSome, IsSome, Some, ◌≤◌, ◌+◌, ◌^◌};
+ghost use Rattle.std.specs.Prelude.{◌≡◌, ◌+◌, ◌^◌, ◌<◌, ◌≤◌, [], length, drop, OnOk, OnErr, ◌++◌};
+ghost use Rattle.std.specs.Prelude.{List, ℕ, IfOk, IfErr, IfSome, IsSome, Some};
+ghost use Rattle.rpc_session.specs.Held.{Held, further, with_more};
 ghost use Rattle.rpc_session.specs.declared.state.Incoming.{Incoming};
 ghost use Rattle.rpc_session.specs.declared.session.SessionFault.{SessionFault};
 ghost use Rattle.rpc_pdu.specs.Written.{fault_bytes};
@@ -7,7 +8,6 @@ ghost use Rattle.rpc_session.specs.Replies.{FitsSize, reply_fragments};
 ghost use Rattle.rpc_session.specs.Moves.{IsFor, HasJoined};
 ghost use Rattle.outside.specs.Causes.{HasCause};
 ghost use Rattle.outside.specs.Written.{Writes};
-ghost use Rattle.rpc_session.specs.Held.{with_more};
 ghost use Rattle.rpc_session.specs.Items.{Seen, unbound, OnWant, ahead_by, StepJoins, Comes, Gave};
 ghost use Rattle.rpc_session.specs.Items.{Says, given_by, StepComes, fault_by, is_at_rest, IsStuck};
 ghost use Rattle.rpc_session.specs.Items.{TellsAgain};
@@ -15,13 +15,109 @@ ghost use Rattle.rpc_session.specs.Items.{TellsAgain};
 use crate::known::Known;
 use crate::replies::{write_fault, write_reply};
 use crate::state::{Incoming, Refusal, State};
-use crate::stream::Stream;
 use outside::{Failed, Sink};
 use rpc_pdu::{PduKind, PduRead, read_pdu};
 use scm_text::{Items, OutOfMemory};
 use std::alloc::Global;
 use std::marker::Model;
 use thiserror::Error;
+
+/// The part of a stream that isn't consumed yet.
+#[derive(Drop)]
+pub struct Stream {
+    bytes: Vec<u8>,
+    /// How many of the bytes are consumed.
+    behind: usize,
+    /// Where in the stream the next byte stands.
+    place: u64,
+}
+
+impl Model for Stream {
+    ghost use Rattle.std.specs.Prelude.{◌≤◌, ◌<◌, ◌+◌, ◌^◌, length, drop};
+    ghost use Rattle.rpc_session.specs.Held.{Held};
+
+    ghost Value = { Held };
+
+    ghost view = { λ s. record { place = s.place; rest = drop s.behind s.bytes.items } };
+
+    ghost invariant = { λ s. (s.behind ≤ length s.bytes.items)
+        × (s.place + length s.bytes.items < 2 ^ 64 + s.behind) };
+}
+
+/// Drops the front of this length.
+fn remove_front(bytes: &mut Vec<u8>, front: usize)
+    requires { front ≤ length bytes.old.items }
+    ensures { bytes.new.items ≡ drop front bytes.old.items }
+{
+    let left = bytes.len() - front;
+    bytes.copy_within(front.., 0);
+    bytes.truncate(left);
+}
+
+impl Stream {
+    pub fn new(alloc: Global) -> Self
+        ensures { result ≡ record { place = 0; rest = [] } }
+    {
+        Stream {
+            bytes: Vec::new(alloc),
+            behind: 0,
+            place: 0,
+        }
+    }
+
+    /// The bytes that aren't consumed yet.
+    pub fn rest(&self) -> &[u8]
+        ensures { result.now ≡ self.now.rest }
+    {
+        &self.bytes[self.behind..]
+    }
+
+    /// The bytes that aren't consumed yet, without the first few.
+    pub fn ahead(&self, count: usize) -> &[u8]
+        requires { count ≤ length self.now.rest }
+        ensures rest { result.now ≡ drop count self.now.rest }
+        ensures bound { length self.now.rest < 2 ^ 64 }
+    {
+        &self.bytes[self.behind + count..]
+    }
+
+    /// Where the byte stands that comes after the next few.
+    pub fn place(&self, count: usize) -> u64
+        requires { count ≤ length self.now.rest }
+        ensures { result ≡ self.now.place + count }
+    {
+        self.place + count as u64
+    }
+
+    /// Appends a piece. The consumed bytes are removed once they are half of those kept, so each
+    /// byte is moved at most once on the average.
+    pub fn feed(&mut self, piece: &[u8]) -> Result<(), OutOfMemory>
+        ensures ok { OnOk result (self.new ≡ with_more self.old piece.now) }
+        ensures err { OnErr result (self.new ≡ self.old) }
+    {
+        let left = self.bytes.len() - self.behind;
+        if u64::MAX - self.place - (left as u64) < piece.len() as u64 {
+            return Err(OutOfMemory);
+        }
+        if left <= self.behind {
+            remove_front(&mut self.bytes, self.behind);
+            self.behind = 0;
+        }
+        if self.bytes.extend_from_slice(piece).is_err() {
+            return Err(OutOfMemory);
+        }
+        Ok(())
+    }
+
+    /// Consumes this many bytes.
+    pub fn pass(&mut self, count: usize)
+        requires { count ≤ length self.old.rest }
+        ensures { self.new ≡ further self.old count }
+    {
+        self.behind += count;
+        self.place += count as u64;
+    }
+}
 
 /// Why a session gives no further item.
 #[derive(Clone, Copy, Debug, PartialEq, Eq, Error)]

@@ -11,7 +11,7 @@ use Rattle.rpc_pdu.specs.declared.pdu.PduKind.{PduKind}
 use Rattle.rpc_pdu.specs.declared.pdu.ResponsePdu.{ResponsePdu}
 use Rattle.sc_client.specs.declared.requests.TheConstants.{NDR}
 use Rattle.rpc_session.specs.Pdus.{Cut, CutEnd, Nothing, Part, BadAt, pdus_from}
-use Rattle.scm_bodies.specs.declared.call.Call.{Call}
+use Rattle.scm_bodies.specs.declared.bodies.Call.{Call}
 use Rattle.scm_bodies.specs.Calls.{to_call}
 use Rattle.scm_bodies.specs.Replies.{reply_at}
 use Rattle.scm_model.specs.declared.calls.Request.{Request}

@@ -15,7 +15,7 @@ use Rattle.scm_shapes.proofs.Widths.{length_body}
 use Rattle.scm_calls.specs.declared.kinds.ReplyKind.{ReplyKind}
 use Rattle.scm_calls.specs.declared.kinds.ReplyKind.TheVariants as kind
 use Rattle.scm_calls.specs.Replies.{reply_values, kind_of, bytes_needed, Fits, odd_below, longest_shown, longest}
-use Rattle.scm_bodies.specs.declared.call.Call.{Call}
+use Rattle.scm_bodies.specs.declared.bodies.Call.{Call}
 use Rattle.scm_bodies.specs.Calls.{reply_kind}
 use Rattle.scm_bodies.specs.Replies.{reply_bytes, bound_in}
 

@@ -27,8 +27,8 @@ use Rattle.scm_calls_cfg.specs.Requests.{config_shape, config_from}
 use Rattle.scm_calls_enum.specs.declared.calls.Call.{Call as EnumCall}
 use Rattle.scm_calls_enum.specs.declared.calls.Call.TheVariants as enum
 use Rattle.scm_calls_enum.specs.Requests.{enum_shape, enum_from}
-use Rattle.scm_bodies.specs.declared.call.Call.{Call}
-use Rattle.scm_bodies.specs.declared.call.Call.TheVariants as call
+use Rattle.scm_bodies.specs.declared.bodies.Call.{Call}
+use Rattle.scm_bodies.specs.declared.bodies.Call.TheVariants as call
 use Rattle.scm_bodies.specs.Calls.{to_call}
 use Rattle.scm_bodies.specs.Replies.{read_back}
 use Rattle.scm_bodies.specs.Requests.{shape_of, request_from, values_of, AreCarried}

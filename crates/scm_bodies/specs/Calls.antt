@@ -8,8 +8,8 @@ use Rattle.scm_calls_cfg.specs.declared.calls.Call.{Call as ConfigCall}
 use Rattle.scm_calls_cfg.specs.Calls.{config_call_at, config_call_of, config_reply_kind}
 use Rattle.scm_calls_enum.specs.declared.calls.Call.{Call as EnumCall}
 use Rattle.scm_calls_enum.specs.Calls.{enum_call_at, enum_call_of, enum_reply_kind}
-use Rattle.scm_bodies.specs.declared.call.Call.{Call}
-use Rattle.scm_bodies.specs.declared.call.Call.TheVariants as call
+use Rattle.scm_bodies.specs.declared.bodies.Call.{Call}
+use Rattle.scm_bodies.specs.declared.bodies.Call.TheVariants as call
 
 -- the first crate's call, or the second's, or the third's
 abbrev pub one_of : Option PlainCall → Option ConfigCall → Option EnumCall → Option Call

@@ -9,7 +9,7 @@ use Rattle.scm_shapes.specs.Shapes.{body_bytes}
 use Rattle.scm_shapes.specs.Calls.{read_as, Spells}
 use Rattle.scm_calls.specs.declared.kinds.ReplyKind.{ReplyKind}
 use Rattle.scm_calls.specs.Replies.{kind_of, reply_shape, reply_from, reply_values, asked_size, Fits, longest}
-use Rattle.scm_bodies.specs.declared.call.Call.{Call}
+use Rattle.scm_bodies.specs.declared.bodies.Call.{Call}
 use Rattle.scm_bodies.specs.Calls.{to_call, reply_kind}
 
 -- what a body of a kind tells, or the first fault

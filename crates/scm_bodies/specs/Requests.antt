@@ -11,8 +11,8 @@ use Rattle.scm_shapes.specs.Laws.{IsEncodable}
 use Rattle.scm_calls.specs.Requests.{plain_shape, plain_from, plain_values}
 use Rattle.scm_calls_cfg.specs.Requests.{config_shape, config_from, config_values}
 use Rattle.scm_calls_enum.specs.Requests.{enum_shape, enum_from, enum_values}
-use Rattle.scm_bodies.specs.declared.call.Call.{Call}
-use Rattle.scm_bodies.specs.declared.call.Call.TheVariants as call
+use Rattle.scm_bodies.specs.declared.bodies.Call.{Call}
+use Rattle.scm_bodies.specs.declared.bodies.Call.TheVariants as call
 use Rattle.scm_bodies.specs.Calls.{to_call}
 
 -- the kinds of items in a body of a call, and what their values ask

@@ -2,10 +2,9 @@
 //! crate has the bodies of a call.
 #![tactic(auto)]
 
-mod call;
-mod replies;
-mod requests;
+mod bodies;
 
-pub use call::{Call, call_at, call_of};
-pub use replies::{read_reply, reply_bound, write_reply};
-pub use requests::{read_request, read_request_by, write_request};
+pub use bodies::{
+    Call, call_at, call_of, read_reply, read_request, read_request_by, reply_bound, write_reply,
+    write_request,
+};

@@ -11,13 +11,14 @@ mod calls;
 mod kinds;
 mod raises;
 mod replies;
-mod requests;
 
-pub use calls::{Call, call_at, call_of, reply_kind};
+pub use calls::{
+    Call, call_at, call_of, put_request, reply_kind, request_of, request_of_handle_body,
+    request_shape,
+};
 pub use kinds::ReplyKind;
 pub use raises::{
     RAISE, RAISE_REPLY_BYTES, SUBTYPE_BYTES, read_raise, read_raise_reply, write_raise,
     write_raise_reply,
 };
 pub use replies::{asked_size, longest, put_reply, reply_of, reply_shape};
-pub use requests::{put_request, request_of, request_of_handle_body, request_shape};

@@ -8,8 +8,8 @@ ghost use Rattle.scm_calls.specs.Replies.{reply_shape, reply_from, reply_values,
 ghost use Rattle.scm_calls.specs.Replies.{filled_values, process_values, asked_size, longest_shown};
 ghost use Rattle.scm_calls.specs.Replies.{filled_width, longest};
 
+use crate::calls::status_of;
 use crate::kinds::ReplyKind;
-use crate::requests::status_of;
 use scm_model::{ProcessStatus, Reply, Request, Status};
 use scm_shapes::{Item, Piece, Values, write_handle, write_numbers, write_pieces};
 use scm_text::{Buffer, OutOfMemory, WText};

@@ -8,7 +8,7 @@ ghost use Rattle.scm_shapes.specs.Levels.{info_at, is_listed, level_at, listed_t
 ghost use Rattle.scm_shapes.specs.Levels.{referent_at, served_at, trigger_at, trigger_head_at};
 ghost use Rattle.scm_shapes.specs.Levels.{trigger_heads_at, triggers_at};
 
-use crate::places::{next_place, read_within};
+use crate::handle_body::{next_place, read_within};
 use ndr_body::{BodyFault, NdrReader};
 use scm_model::codes::{
     SC_MAX_ACTIONS, SC_MAX_TRIGGERS, SERVICE_CONFIG_DELAYED_AUTO_START_INFO,

@@ -8,9 +8,9 @@ ghost use Rattle.scm_shapes.specs.Bodies.{IsBody};
 ghost use Rattle.scm_shapes.specs.Laws.{CanHoldAll};
 
 use crate::apart::Apart;
+use crate::handle_body::{next_place, read_within};
 use crate::item::{Item, Value};
 use crate::levels::read_info;
-use crate::places::{next_place, read_within};
 use crate::records::{read_lock, read_shown};
 use crate::values::Values;
 use crate::words::read_words;

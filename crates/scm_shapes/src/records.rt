@@ -9,8 +9,8 @@ ghost use Rattle.scm_shapes.specs.Records.{numbers_in};
 ghost use Rattle.scm_shapes.specs.Records.{shown_texts_at, shown_at, shown_marks, shown_texts};
 ghost use Rattle.scm_shapes.specs.Records.{put_mark, put_marks, put_record};
 
+use crate::handle_body::next_place;
 use crate::item::Value;
-use crate::places::next_place;
 use ndr_body::{BodyFault, NdrReader, NdrWriter};
 use scm_model::Shown;
 use scm_text::{OutOfMemory, WText};

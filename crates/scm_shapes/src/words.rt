@@ -5,7 +5,7 @@ ghost use Rattle.scm_shapes.specs.Each.{each_at, put_each};
 ghost use Rattle.scm_shapes.specs.Words.{pointing, words_of, pointed_at, listed_at, unlisted};
 ghost use Rattle.scm_shapes.specs.Words.{argv_at, words_at, put_referents, put_list, put_words};
 
-use crate::places::{next_place, read_within};
+use crate::handle_body::{next_place, read_within};
 use ndr_body::{BodyFault, NdrReader, NdrWriter};
 use scm_model::codes::SC_MAX_ARGUMENTS;
 use scm_text::{Items, OutOfMemory, WText};

@@ -1,5 +1,5 @@
 use Rattle.feed_loop.specs.Feeding.{At}
-use Rattle.conn_desk.specs.declared.talker.ConnectionReader.{ConnectionReader}
+use Rattle.conn_desk.specs.declared.serving.ConnectionReader.{ConnectionReader}
 use Rattle.conn_desk.proofs.Ends.{begins}
 use Rattle.conn_desk.proofs.Whole.{cause_fed, grows_fed, serves_fed}
 use Rattle.conn_desk.proofs.serving.serve.Goals as goal

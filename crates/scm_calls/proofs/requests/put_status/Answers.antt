@@ -1,4 +1,0 @@
-use Rattle.scm_calls.proofs.requests.put_status.Goals as goal
-
-pub returns : goal.returns
-returns c = c.write_handle.ensures
