@@ -30,8 +30,8 @@ use Rattle.scm_book.specs.declared.answers.CallEnd.{CallEnd}
 use Rattle.scm_book.specs.declared.answers.CallEnd.TheVariants as calls
 use Rattle.scm_book.specs.declared.answers.StartEnd.{StartEnd}
 use Rattle.scm_book.specs.declared.answers.StartEnd.TheVariants as starts
-use Rattle.scm_book.specs.declared.calling.Recorded.{Recorded}
-use Rattle.scm_book.specs.declared.calling.Recorded.TheVariants as recorded
+use Rattle.scm_book.specs.declared.turning.Recorded.{Recorded}
+use Rattle.scm_book.specs.declared.turning.Recorded.TheVariants as recorded
 use Rattle.scm_book.specs.declared.fault.MakeFault.{MakeFault}
 use Rattle.scm_book.specs.declared.fault.MakeFault.TheVariants as makes
 use Rattle.scm_book.specs.Called.{CallTold, Calls, IfTold, IsBegun, IsReply, LeavesWhose, StartTold, StartsAs, WantsMemory, called}

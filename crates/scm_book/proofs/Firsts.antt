@@ -25,8 +25,8 @@ use Rattle.scm_book.specs.Steps.{Adds}
 use Rattle.scm_book.specs.Holds.{Holds, Runs, way_of}
 use Rattle.scm_book.specs.Processes.{DidLaunch, HandsOut, TakesBy, is_wanted_behind, line_behind}
 use Rattle.scm_book.specs.Turns.{known}
-use Rattle.scm_book.specs.declared.launching.TakenLaunch.{TakenLaunch}
-use Rattle.scm_book.specs.declared.owed.Owed.TheVariants as owes
+use Rattle.scm_book.specs.declared.processes.TakenLaunch.{TakenLaunch}
+use Rattle.scm_book.specs.declared.held.Owed.TheVariants as owes
 use Rattle.scm_book.proofs.Passes.{did_made, left_learnt}
 use Rattle.scm_book.proofs.Room.{and_both}
 use Rattle.scm_book.proofs.Standing.{owed_room}

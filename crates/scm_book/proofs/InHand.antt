@@ -80,9 +80,9 @@ always_ended o k moment process holds log longer runs claims = record {
   own = of_own o k process phases.Launched holds;
 }
 
-pub always_report : (o : Opening) (k : Known) (moment process : ℕ) (status : Status) → HoldsProcess o k process phases.Launched
-    → AlwaysMay o k moment (Report process 0 status)
-always_report o k moment process status holds log longer runs claims = record {
+pub always_report : (o : Opening) (k : Known) (moment process service : ℕ) (status : Status) → HoldsProcess o k process phases.Launched
+    → AlwaysMay o k moment (Report process service status)
+always_report o k moment process service status holds log longer runs claims = record {
   may = launched_by_phase (process_of (state o.limits o.first log) process)
       (still o runs.opens k process phases.Launched holds log longer runs.legal claims);
   own = of_own o k process phases.Launched holds;
@@ -111,11 +111,11 @@ module _ (o : Opening) (opens : Opens o) (k k' : Known) (moment : ℕ) where
     listed = (leaves (Launched process pid) told made).phase;
   }
 
-  pub holds_reported : (process : ℕ) (status : Status) (told : Answer) → Made o k moment (Report process 0 status) told k'
+  pub holds_reported : (process service : ℕ) (status : Status) (told : Answer) → Made o k moment (Report process service status) told k'
       → HoldsProcess o k process phases.Launched → HoldsProcess o k' process phases.Launched
-  holds_reported process status told made holds = record {
-    named = named_still (names.Process process) (Report process 0 status) told made holds.named;
-    listed = (leaves (Report process 0 status) told made).phase;
+  holds_reported process service status told made holds = record {
+    named = named_still (names.Process process) (Report process service status) told made holds.named;
+    listed = (leaves (Report process service status) told made).phase;
   }
 
   pub holds_taken : (process : ℕ) (made : Made o k moment LaunchTaken (answers.Launch process) k')

@@ -26,6 +26,7 @@ use Rattle.scm_book.specs.declared.answers.CallEnd.{CallEnd}
 use Rattle.scm_book.specs.declared.answers.CallEnd.TheVariants as calls
 use Rattle.scm_book.specs.declared.answers.StartEnd.{StartEnd}
 use Rattle.scm_book.specs.declared.answers.StartEnd.TheVariants as starts
+use Rattle.scm_book.specs.declared.fault.MakeFault.TheVariants as makes
 use Rattle.scm_book.specs.Called.{AnsweredSo, Calls, Raises, StartsAs}
 use Rattle.scm_book.specs.Holds.{Opens}
 use Rattle.scm_book.specs.Joins.{JoinsAs}
@@ -107,24 +108,24 @@ module _ (o : Opening) (opens : Opens o) where
 
     pub calls_keep : (moment : ℕ) (asked : Request) (end : CallEnd) → Calls o k moment asked k' end → KeepsAll o k k'
     calls_keep moment asked (calls.Answered reply) ends = answered_keeps moment asked reply ends
-    calls_keep moment asked calls.Full ends = learnt_keeps ends.learnt
-    calls_keep moment asked calls.OutOfMemory ends = learnt_keeps ends.learnt
+    calls_keep moment asked (calls.Unmade makes.Full) ends = learnt_keeps ends.learnt
+    calls_keep moment asked (calls.Unmade makes.OutOfMemory) ends = learnt_keeps ends.learnt
 
     pub raises_keep : (moment : ℕ) (subtype : List ℕ) (end : CallEnd) → Raises o k moment subtype k' end → KeepsAll o k k'
     raises_keep moment subtype (calls.Answered reply) (inl so) = made_keeps moment
         (Raised k.caller subtype) _ so.made.made so.made.made.caller refl (λ plan. refl) (no_process k.caller)
     raises_keep moment subtype (calls.Answered reply) (inr none) = made_keeps moment
         (NoMemory k.caller) _ none.made.made none.made.made.caller refl (λ plan. refl) (no_process k.caller)
-    raises_keep moment subtype calls.Full ends = learnt_keeps ends.learnt
-    raises_keep moment subtype calls.OutOfMemory ends = learnt_keeps ends.learnt
+    raises_keep moment subtype (calls.Unmade makes.Full) ends = learnt_keeps ends.learnt
+    raises_keep moment subtype (calls.Unmade makes.OutOfMemory) ends = learnt_keeps ends.learnt
 
     pub starts_keep : (moment : ℕ) (asked : Request) (end : StartEnd) → StartsAs o k moment asked k' end → KeepsAll o k k'
     starts_keep moment asked (starts.Answered reply) ends = answered_keeps moment asked reply ends
     starts_keep moment asked (starts.Waiting plan) ends =
         made_keeps moment (Call k.caller asked ends.made.append) _ ends.made.made ends.made.made.caller refl (λ plan. refl)
         (no_process k.caller)
-    starts_keep moment asked starts.Full ends = learnt_keeps ends.learnt
-    starts_keep moment asked starts.OutOfMemory ends = learnt_keeps ends.learnt
+    starts_keep moment asked (starts.Unmade makes.Full) ends = learnt_keeps ends.learnt
+    starts_keep moment asked (starts.Unmade makes.OutOfMemory) ends = learnt_keeps ends.learnt
 
     pub end_keeps : (moment plan : ℕ) (told : Answer) → Made o k moment (EndStart k.caller plan) told k' → KeepsAllButPlan o plan k k'
     end_keeps moment plan told made = record {

@@ -21,5 +21,7 @@ mod InHand
 mod StartsMade
 mod RaisesMade
 mod ReportsMade
+mod Handing
 mod Stirring
 mod Unstirred
+mod Asked

@@ -17,8 +17,8 @@ use Rattle.scm_rules.specs.Steps.{keeps_right, may_come}
 use Rattle.scm_rules.specs.Verdicts.{change_of}
 use Rattle.scm_core.specs.Managed.{WasMadeFor}
 use Rattle.scm_trail.specs.Notes.{is_brief}
-use Rattle.scm_book.specs.declared.owed.Owed.{Owed}
-use Rattle.scm_book.specs.declared.owed.Owed.TheVariants as owes
+use Rattle.scm_book.specs.declared.held.Owed.{Owed}
+use Rattle.scm_book.specs.declared.held.Owed.TheVariants as owes
 use Rattle.scm_history.specs.Kept.{kept_change}
 use Rattle.scm_book.specs.Holds.{one_failed}
 use Rattle.scm_book.specs.Naming.{all_names}

@@ -15,7 +15,7 @@ use Rattle.scm_runs.proofs.Histories.{told as last_told}
 use Rattle.scm_owed.proofs.Effects.{debt_owed}
 use Rattle.book_rule.specs.declared.view.Opening.{Opening}
 use Rattle.scm_book.specs.declared.held.Held.{Held}
-use Rattle.scm_book.specs.declared.owed.Owed.{Owed}
+use Rattle.scm_book.specs.declared.held.Owed.{Owed}
 use Rattle.scm_book.specs.Holds.{Holds, Runs}
 use Rattle.scm_book.specs.Steps.{Adds, Grows, Makes, has_room_in, owed_step}
 use Rattle.scm_book.proofs.Following.{runs_on}

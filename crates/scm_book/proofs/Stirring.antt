@@ -1,23 +1,24 @@
--- A step that doesn't ring the common bell leaves those that wait at it waiting.
-use Rattle.std.proofs.Common.{ℕ, ◌≡◌, ◌∙◌, ◌==◌, ◌||◌, Bool, true, false, not, cond, List, [], ◌∷◌, Option, None, Some, filter, find}
-use Rattle.std.proofs.Common.{ap, sym, refl, subst, inl, inr, eqb-true, length, map, ◌&&◌}
+-- A step that doesn't ring the common bell leaves those that wait at it waiting, and what they wait for as it is if it takes nothing.
+use Rattle.std.proofs.Common.{ℕ, ◌≡◌, ◌∙◌, ◌==◌, ◌||◌, ◌&&◌, Bool, true, false, not, cond, List, [], ◌∷◌, Option, None, Some, filter, find}
+use Rattle.std.proofs.Common.{ap, sym, refl, subst, inl, inr, eqb-true, length, map}
+use Rattle.std.proofs.lemmas.Bool.{not-true}
 use Rattle.std.proofs.lemmas.List.{length-map}
-use Rattle.std.specs.Prelude.{is_some, nat_le, option_and_then}
-use Rattle.std.specs.List.{AllByRecursion}
+use Rattle.std.specs.Prelude.{is_some, nat_le, option_and_then, option_map}
+use Rattle.std.specs.List.{AllByRecursion, list_all, list_any}
+use Rattle.scm_text.specs.Fold.{same_text}
+use Rattle.scm_text.specs.Numbers.{has}
 use Rattle.scm_model.specs.declared.calls.Request.{Request}
 use Rattle.scm_model.specs.declared.calls.Request.TheVariants as request
 use Rattle.scm_model.specs.declared.codes.TheConstants.{ERROR_SERVICE_DEPENDENCY_FAIL, ERROR_SERVICE_DISABLED}
 use Rattle.scm_model.specs.declared.codes.TheConstants.{ERROR_SERVICE_MARKED_FOR_DELETE, ERROR_SERVICE_NO_THREAD, SERVICE_DISABLED}
 use Rattle.scm_model.specs.declared.codes.TheConstants.{SERVICE_RUNNING, SERVICE_STOPPED}
-use Rattle.scm_model.specs.declared.flat.Caller.{Caller}
 use Rattle.scm_model.specs.declared.flat.Flat.{Flat}
-use Rattle.scm_model.specs.declared.flat.HandleRow.{HandleRow}
 use Rattle.scm_model.specs.declared.flat.Limits.{Limits}
-use Rattle.scm_model.specs.declared.flat.Next.{Next}
+use Rattle.scm_model.specs.declared.flat.Need.{Need}
+use Rattle.scm_model.specs.declared.flat.Need.TheVariants as needs
 use Rattle.scm_model.specs.declared.flat.Order.{Order}
 use Rattle.scm_model.specs.declared.flat.Plan.{Plan}
 use Rattle.scm_model.specs.declared.flat.Process.{Process}
-use Rattle.scm_model.specs.declared.flat.Registration.{Registration}
 use Rattle.scm_model.specs.declared.flat.Service.{Service}
 use Rattle.scm_model.specs.declared.flat.Wanted.{Wanted}
 use Rattle.scm_model.specs.declared.steps.Kept.{Kept}
@@ -26,16 +27,16 @@ use Rattle.scm_model.specs.declared.steps.Step.TheVariants.{Joined, Call, Contro
 use Rattle.scm_model.specs.Changes.{with_moment}
 use Rattle.scm_model.specs.Entries.{Entry, with_kept}
 use Rattle.scm_model.specs.Found.{if_found}
-use Rattle.scm_model.specs.Ready.{is_ready, state_of}
+use Rattle.scm_model.specs.Ready.{is_fulfilled, is_ready, is_running, is_up, state_in}
 use Rattle.scm_model.specs.Refused.{first_refusal}
-use Rattle.scm_model.specs.Rows.{service_of}
+use Rattle.scm_model.specs.Rows.{named, service_of}
 use Rattle.start_plan.specs.Decided.{code_of, is_numbered, without_plan}
-use Rattle.scm_text.specs.Numbers.{has}
-use Rattle.start_plan.specs.Moves.{cause_at, entering_at, is_pending, move_by}
+use Rattle.start_plan.specs.Moves.{cause_at, entering_at, is_pending, move_by, move_of}
 use Rattle.start_plan.specs.Settle.{settle_all, settled, stays}
+use Rattle.start_plan.specs.declared.settling.Move.{Move}
 use Rattle.start_plan.specs.declared.settling.Move.TheVariants as moves
 use Rattle.start_plan.proofs.Keeps.{all_filter}
-use Rattle.scm_rules.specs.Controls.{control_sent, controls_of, dequeued_if, first_control}
+use Rattle.scm_rules.specs.Controls.{control_sent, dequeued_if, dequeued_in, first_asked, next_order, unasked_if, unasked_in}
 use Rattle.scm_rules.specs.Histories.{state}
 use Rattle.scm_rules.specs.Launches.{first_wanted, launch_told, taken_if, wanted_of_others}
 use Rattle.scm_rules.specs.Steps.{at_moment, call_answer, effect_of, finished, finished_step, step_of, tells_plan, wants_launch}
@@ -45,63 +46,105 @@ use Rattle.scm_runs.proofs.Calls.{by_verdict}
 use Rattle.scm_runs.proofs.Clear.{Clear, clear_begun, clear_keeps}
 use Rattle.scm_runs.proofs.Founds.{opened_keeps}
 use Rattle.scm_runs.proofs.Histories.{legal_made, state_is}
-use Rattle.scm_runs.proofs.Lists.{find_filter}
+use Rattle.scm_runs.proofs.Lists.{filter_twice, find_filter}
 use Rattle.scm_runs.proofs.Plans.{all_weaker}
 use Rattle.scm_runs.proofs.Rests.{Rests, RestsAt, all_still, settled_rest}
+use Rattle.scm_runs.proofs.Rows.{unasked_or}
+use Rattle.scm_history.proofs.Finds.{found_map}
 use Rattle.book_rule.specs.declared.view.Opening.{Opening}
 use Rattle.scm_book.specs.Holds.{Runs}
-use Rattle.scm_book.specs.Ringing.{StirsNobody, WaitsOn, is_quiet, rings_common}
+use Rattle.scm_book.specs.Ringing.{IsAwaitedSo, StirsNobody, WaitsOn, is_quiet, rings_common, takes_nothing}
 
--- ## What plans don't look at
+-- ## What plans look at
 
--- a state with another moment, and other handles, registrations, callers, next numbers, plans, processes and wanted launches
-abbrev beside : Flat → List HandleRow → List Registration → List Caller → ℕ → Next → List Plan → List Process → List Wanted → Flat
-beside f handles registrations callers moment next plans processes wanted = record f {
-  handles = handles;
-  registrations = registrations;
-  callers = callers;
-  moment = moment;
-  next = next;
-  plans = plans;
-  processes = processes;
-  wanted = wanted;
-}
+-- other processes, but as many, and services that differ in what is asked
+abbrev beside : Flat → List Service → List Process → Flat
+beside f services processes = record f { services = services; processes = processes }
 
--- a state that is such, with as many processes, where a plan rests if it did, and those that wait on plans and launches still do
-record Beside (l : Limits) (f g : Flat) : Type 0 where
-  same : g ≡ beside f g.handles g.registrations g.callers g.moment g.next g.plans g.processes g.wanted
-  many : length g.processes ≡ length f.processes
-  rest : AllByRecursion (Rests l f) f.plans → AllByRecursion (Rests l f) g.plans
-  waits : WaitsOn f g
+-- a plan's move by the service that was found
+abbrev move_at : Limits → Flat → List ℕ → ℕ → Option Service → Move
+move_at l f tried service found =
+    cond (state_in found == SERVICE_RUNNING) moves.Passes
+    (cond (is_pending (state_in found)) moves.Waits (move_by (entering_at (cause_at l f (has tried service) found) (is_some f.lock))))
 
-module _ (l : Limits) (f : Flat) (hs : List HandleRow) (rs : List Registration) (cs : List Caller) (m : ℕ) (n : Next) (ps : List Plan)
-    (rows : List Process) (ws : List Wanted) (many : length rows ≡ length f.processes) where
-  cause_beside : (tried : Bool) (found : Option Service)
-      → cause_at l (beside f hs rs cs m n ps rows ws) tried found ≡ cause_at l f tried found
-  cause_beside tried None = refl
-  cause_beside tried (Some row) = ap (λ (count : ℕ). first_refusal (
-      (row.marked, ERROR_SERVICE_MARKED_FOR_DELETE)
-      ∷ (row.config.start == SERVICE_DISABLED, ERROR_SERVICE_DISABLED)
-      ∷ (not (is_ready f row) || not (row.status.state == SERVICE_STOPPED) || tried, ERROR_SERVICE_DEPENDENCY_FAIL)
-      ∷ (nat_le l.processes count, ERROR_SERVICE_NO_THREAD)
-      ∷ [])) many
+-- by what is ready and how many processes are listed
+abbrev cause_by : Limits → Service → Bool → Bool → ℕ → ℕ
+cause_by l row is_tried ready count = first_refusal (
+    (row.marked, ERROR_SERVICE_MARKED_FOR_DELETE)
+    ∷ (row.config.start == SERVICE_DISABLED, ERROR_SERVICE_DISABLED)
+    ∷ (not ready || not (row.status.state == SERVICE_STOPPED) || is_tried, ERROR_SERVICE_DEPENDENCY_FAIL)
+    ∷ (nat_le l.processes count, ERROR_SERVICE_NO_THREAD)
+    ∷ [])
 
-  at_beside : (plan : Plan) (entries : List ℕ) → RestsAt l f plan entries → RestsAt l (beside f hs rs cs m n ps rows ws) plan entries
-  at_beside plan [] rests = tt
-  at_beside plan (x ∷ xs) rests =
-      let tried = has plan.tried x in
-      ap (λ (cause : ℕ). cond (state_of f x == SERVICE_RUNNING) moves.Passes
-      (cond (is_pending (state_of f x)) moves.Waits (move_by (entering_at cause (is_some f.lock)))))
-      (cause_beside tried (service_of f x)) ∙ rests
+module _ (l : Limits) (f : Flat) (services : List Service) (processes : List Process) (many : length processes ≡ length f.processes)
+    (ready : (row : Service) → is_ready (beside f services processes) row ≡ is_ready f row) where
+  cause_same : (is_tried : Bool) (found : Option Service)
+      → cause_at l (beside f services processes) is_tried found ≡ cause_at l f is_tried found
+  cause_same is_tried None = refl
+  cause_same is_tried (Some row) = ap (λ (is : Bool). cause_by l row is_tried is (length processes)) (ready row)
+      ∙ ap (cause_by l row is_tried (is_ready f row)) many
 
-  one_beside : (plan : Plan) → Rests l f plan → Rests l (beside f hs rs cs m n ps rows ws) plan
-  one_beside plan (inl decided) = inl decided
-  one_beside plan (inr rests) = inr (at_beside plan plan.entries rests)
+  move_same : (tried : List ℕ) (service : ℕ) (found : Option Service)
+      → move_at l (beside f services processes) tried service found ≡ move_at l f tried service found
+  move_same tried service found =
+      ap (λ (cause : ℕ). cond (state_in found == SERVICE_RUNNING) moves.Passes
+      (cond (is_pending (state_in found)) moves.Waits (move_by (entering_at cause (is_some f.lock)))))
+      (cause_same (has tried service) found)
 
-  -- plans that rest go on resting
-  still_beside : AllByRecursion (Rests l f) ps → settle_all l (beside f hs rs cs m n ps rows ws) ps ≡ (beside f hs rs cs m n ps rows ws, ps)
-  still_beside rests = all_still l (beside f hs rs cs m n ps rows ws) ps
-      (all_weaker (Rests l f) (Rests l (beside f hs rs cs m n ps rows ws)) one_beside ps rests)
+-- ## A service that is asked no more
+
+still_up : (number : ℕ) (found : Option Service) → is_up (option_map (unasked_if number) found) ≡ is_up found
+still_up number None = refl
+still_up number (Some row) = unasked_or (λ new. is_up (Some new) ≡ is_up (Some row)) number row refl refl
+
+running_too : (new row : Service) (news rows : List Service) (b : Bool) → is_running new ≡ is_running row
+    → list_any is_running news ≡ list_any is_running rows
+    → list_any is_running (cond b (new ∷ news) news) ≡ list_any is_running (cond b (row ∷ rows) rows)
+running_too new row news rows true here later = ap (λ b. b || list_any is_running news) here ∙ ap (λ b. is_running row || b) later
+running_too new row news rows false here later = later
+
+still_running : (number : ℕ) (group : List ℕ) (rows : List Service)
+    → list_any is_running (filter (λ (row : Service). same_text row.config.group group) (map (unasked_if number) rows))
+    ≡ list_any is_running (filter (λ (row : Service). same_text row.config.group group) rows)
+still_running number group [] = refl
+still_running number group (row ∷ rows) =
+    let p = λ (row : Service). same_text row.config.group group in
+    let news = filter p (map (unasked_if number) rows) in
+    let later : list_any is_running news ≡ list_any is_running (filter p rows) = still_running number group rows in
+    unasked_or (λ new. list_any is_running (cond (p new) (new ∷ news) news) ≡ list_any is_running (filter p (row ∷ rows))) number row
+    (running_too (record row { asked = false }) row news (filter p rows) (p row) refl later)
+    (running_too row row news (filter p rows) (p row) refl later)
+
+module _ (f : Flat) (number : ℕ) (processes : List Process) where
+  need_same : (need : Need) → is_fulfilled (beside f (map (unasked_if number) f.services) processes) need ≡ is_fulfilled f need
+  need_same (needs.Service name) =
+      ap is_up (found_map (λ (row : Service). same_text row.config.name name) (unasked_if number)
+      (λ row. unasked_or (λ new. same_text new.config.name name ≡ same_text row.config.name name) number row refl refl) f.services)
+      ∙ still_up number (named f name)
+  need_same (needs.Group group) = still_running number group f.services
+
+  needs_same : (needed : List Need) → list_all (is_fulfilled (beside f (map (unasked_if number) f.services) processes)) needed
+      ≡ list_all (is_fulfilled f) needed
+  needs_same [] = refl
+  needs_same (need ∷ needed) =
+      ap (λ b. b && list_all (is_fulfilled (beside f (map (unasked_if number) f.services) processes)) needed) (need_same need)
+      ∙ ap (λ b. is_fulfilled f need && b) (needs_same needed)
+
+  moves_unasked : (l : Limits) (tried : List ℕ) (service : ℕ) → length processes ≡ length f.processes
+      → move_of l (beside f (map (unasked_if number) f.services) processes) tried service ≡ move_of l f tried service
+  moves_unasked l tried service many =
+      let g = beside f (map (unasked_if number) f.services) processes in
+      ap (move_at l g tried service) (found_map (λ (row : Service). row.number == service) (unasked_if number)
+      (λ row. unasked_or (λ new. (new.number == service) ≡ (row.number == service)) number row refl refl) f.services)
+      ∙ asked_or_not l g tried service (service_of f service)
+      ∙ move_same l f (map (unasked_if number) f.services) processes many (λ row. needs_same row.config.needs) tried service
+      (service_of f service)
+    where
+      asked_or_not : (l : Limits) (g : Flat) (tried : List ℕ) (service : ℕ) (found : Option Service)
+          → move_at l g tried service (option_map (unasked_if number) found) ≡ move_at l g tried service found
+      asked_or_not l g tried service None = refl
+      asked_or_not l g tried service (Some row) =
+          unasked_or (λ new. move_at l g tried service (Some new) ≡ move_at l g tried service (Some row)) number row refl refl
 
 -- ## What is waited for
 
@@ -147,31 +190,69 @@ many_taken : (found : Option ℕ) (rows : List Process) → length (if_found (λ
 many_taken None rows = refl
 many_taken (Some process) rows = length-map rows (taken_if process)
 
-settled_so : (l : Limits) (f g : Flat) → Beside l f g → settled l f ≡ f → WaitsOn f (settled l g)
-settled_so l f g is still =
-    let rests : AllByRecursion (Rests l f) f.plans = subst (λ (x : Flat). AllByRecursion (Rests l x) x.plans) still (settled_rest l f) in
-    let same : settle_all l g g.plans ≡ (g, g.plans) =
-    subst (λ (x : Flat). settle_all l x g.plans ≡ (x, g.plans)) (sym is.same)
-    (still_beside l f g.handles g.registrations g.callers g.moment g.next g.plans g.processes g.wanted is.many (is.rest rests)) in
+-- ## What an effect leaves
+
+-- each service lets plans make the moves that it did, a plan rests if it did, and those that wait on plans and launches still do
+record Leaves (l : Limits) (f g : Flat) : Type 0 where
+  moves : (tried : List ℕ) (service : ℕ) → move_of l g tried service ≡ move_of l f tried service
+  rest : AllByRecursion (Rests l f) f.plans → AllByRecursion (Rests l f) g.plans
+  waits : WaitsOn f g
+
+module _ (l : Limits) (f g : Flat) (moves : (tried : List ℕ) (service : ℕ) → move_of l g tried service ≡ move_of l f tried service) where
+  rests_at : (plan : Plan) (entries : List ℕ) → RestsAt l f plan entries → RestsAt l g plan entries
+  rests_at plan [] rests = tt
+  rests_at plan (x ∷ xs) rests = moves plan.tried x ∙ rests
+
+  rests_too : (plan : Plan) → Rests l f plan → Rests l g plan
+  rests_too plan (inl decided) = inl decided
+  rests_too plan (inr rests) = inr (rests_at plan plan.entries rests)
+
+-- plans that rest go on resting
+still : (l : Limits) (f g : Flat) → Leaves l f g → settled l f ≡ f → settle_all l g g.plans ≡ (g, g.plans)
+still l f g is settled_before =
+    let rests : AllByRecursion (Rests l f) f.plans = subst (λ (x : Flat). AllByRecursion (Rests l x) x.plans) settled_before
+    (settled_rest l f) in
+    all_still l g g.plans (all_weaker (Rests l f) (Rests l g) (rests_too l f g is.moves) g.plans (is.rest rests))
+
+settled_so : (l : Limits) (f g : Flat) → Leaves l f g → settled l f ≡ f → WaitsOn f (settled l g)
+settled_so l f g is settled_before =
+    let same = still l f g is settled_before in
     record {
       plans = λ plan none. subst (λ (r : Flat × List Plan). code_of (filter stays r.1) plan ≡ None) (sym same)
           (undecided_stays g.plans plan (is.waits.plans plan none));
       wanted = λ none. subst (λ (r : Flat × List Plan). wants_launch r.0.wanted ≡ false) (sym same) (is.waits.wanted none);
     }
 
--- ## Effects
+-- ## Effects that take nothing
 
--- a state with the same plans, processes and wanted launches
+-- a state with other handles, registrations, callers and next numbers, at another moment
 abbrev Alike : Flat → Flat → Type 0
-Alike f g = g ≡ beside f g.handles g.registrations g.callers g.moment g.next f.plans f.processes f.wanted
+Alike f g = g ≡ record f {
+  handles = g.handles;
+  registrations = g.registrations;
+  callers = g.callers;
+  moment = g.moment;
+  next = g.next;
+}
 
-alike_beside : (l : Limits) (f g : Flat) → Alike f g → Beside l f g
-alike_beside l f g is = subst (Beside l f) (sym is) (record {
-  same = refl;
-  many = refl;
+alike_leaves : (l : Limits) (f g : Flat) → Alike f g → Leaves l f g
+alike_leaves l f g is = subst (Leaves l f) (sym is) (record {
+  moves = λ tried service. refl;
   rest = λ rests. rests;
   waits = record { plans = λ plan none. none; wanted = λ none. none };
 })
+
+-- what is waited for is as it was
+settled_alike : (l : Limits) (f g : Flat) → Alike f g → settled l f ≡ f → IsAwaitedSo f (settled l g)
+settled_alike l f g is settled_before =
+    let same = still l f g (alike_leaves l f g is) settled_before in
+    let stay : filter stays f.plans ≡ f.plans = subst (λ (plans : List Plan). filter stays plans ≡ plans)
+    (ap (λ (x : Flat). x.plans) settled_before) (filter_twice stays (settle_all l f f.plans).1) in
+    record {
+      plans = ap (λ (r : Flat × List Plan). filter stays r.1) same ∙ ap (λ (x : Flat). filter stays x.plans) is ∙ stay;
+      wanted = ap (λ (r : Flat × List Plan). r.0.wanted) same ∙ ap (λ (x : Flat). x.wanted) is;
+      processes = ap (λ (r : Flat × List Plan). r.0.processes) same ∙ ap (λ (x : Flat). x.processes) is;
+    }
 
 done_alike : (l : Limits) (f : Flat) (caller : ℕ) (asked : Request) → not (is_quiet asked) ≡ false → Alike f (done_of l f caller asked).flat
 done_alike l f caller (request.QueryStatus handle) quiet = refl
@@ -199,31 +280,59 @@ call_alike l f caller asked append quiet =
 from_moment : (f g : Flat) (moment : ℕ) → Alike (with_moment f moment) g → Alike f g
 from_moment f g moment is = is
 
-effect_beside : (l : Limits) (f : Flat) (moment : ℕ) (step : Step) → rings_common step ≡ false
-    → Beside l f (effect_of l (at_moment f moment step) step).flat
-effect_beside l f moment (Joined principal) quiet = alike_beside l f _ refl
-effect_beside l f moment (Call caller asked append) quiet = alike_beside l f _ (from_moment f _ moment
-    (call_alike l (with_moment f moment) caller asked append quiet))
-effect_beside l f moment (EndStart caller plan) quiet = record {
-  same = refl;
-  many = refl;
-  rest = λ rests. all_filter (Rests l f) (λ (row : Plan). not (is_numbered plan row)) f.plans rests;
-  waits = record { plans = λ number none. undecided_left f.plans plan number none; wanted = λ none. none };
-}
-effect_beside l f moment LaunchTaken quiet = record {
-  same = refl;
-  many = many_taken (first_wanted f.wanted) f.processes;
-  rest = λ rests. rests;
-  waits = record { plans = λ number none. none; wanted = λ none. none_taken f.wanted none };
-}
-effect_beside l f moment (ControlTaken process) quiet = record {
-  same = refl;
-  many = length-map f.processes (dequeued_if process);
+-- what takes nothing rings nothing
+is_silent : (step : Step) → takes_nothing step ≡ true → rings_common step ≡ false
+is_silent (Joined principal) none = refl
+is_silent (Call caller asked append) none = not-true (not (is_quiet asked)) none
+is_silent (NoMemory caller) none = refl
+is_silent step none = absurd cc
+
+effect_alike : (l : Limits) (f : Flat) (moment : ℕ) (step : Step) → takes_nothing step ≡ true
+    → Alike f (effect_of l (at_moment f moment step) step).flat
+effect_alike l f moment (Joined principal) none = refl
+effect_alike l f moment (Call caller asked append) none = from_moment f _ moment
+    (call_alike l (with_moment f moment) caller asked append (not-true (not (is_quiet asked)) none))
+effect_alike l f moment (NoMemory caller) none = refl
+effect_alike l f moment step none = absurd cc
+
+-- ## All that don't ring
+
+-- what is sent next is taken
+sent_leaves : (l : Limits) (f : Flat) (moment process : ℕ) (asked : Option Service)
+    → Leaves l f (beside (with_moment f moment) (unasked_in asked f.services) (dequeued_in asked process f.processes))
+sent_leaves l f moment process None = record {
+  moves = λ tried service. move_same l f f.services (map (dequeued_if process) f.processes)
+      (length-map f.processes (dequeued_if process)) (λ row. refl) tried service (service_of f service);
   rest = λ rests. rests;
   waits = record { plans = λ number none. none; wanted = λ none. none };
 }
-effect_beside l f moment (NoMemory caller) quiet = alike_beside l f _ refl
-effect_beside l f moment step quiet = absurd cc
+sent_leaves l f moment process (Some row) = record {
+  moves = λ tried service. moves_unasked f row.number f.processes l tried service refl;
+  rest = λ rests. rests;
+  waits = record { plans = λ number none. none; wanted = λ none. none };
+}
+
+effect_leaves : (l : Limits) (f : Flat) (moment : ℕ) (step : Step) → rings_common step ≡ false
+    → Leaves l f (effect_of l (at_moment f moment step) step).flat
+effect_leaves l f moment (EndStart caller plan) quiet = record {
+  moves = λ tried service. refl;
+  rest = λ rests. all_filter (Rests l f) (λ (row : Plan). not (is_numbered plan row)) f.plans rests;
+  waits = record { plans = λ number none. undecided_left f.plans plan number none; wanted = λ none. none };
+}
+effect_leaves l f moment LaunchTaken quiet =
+    let rows = if_found (λ process. map (taken_if process)) (first_wanted f.wanted) f.processes in
+    record {
+      moves = λ tried service. move_same l f f.services rows (many_taken (first_wanted f.wanted) f.processes) (λ row. refl) tried service
+          (service_of f service);
+      rest = λ rests. rests;
+      waits = record { plans = λ number none. none; wanted = λ none. none_taken f.wanted none };
+    }
+effect_leaves l f moment (ControlTaken process) quiet = sent_leaves l f moment process (first_asked f process)
+effect_leaves l f moment (Joined principal) quiet = alike_leaves l f _ refl
+effect_leaves l f moment (Call caller asked append) quiet = alike_leaves l f _ (from_moment f _ moment
+    (call_alike l (with_moment f moment) caller asked append quiet))
+effect_leaves l f moment (NoMemory caller) quiet = alike_leaves l f _ refl
+effect_leaves l f moment step quiet = absurd cc
 
 -- ## Steps
 
@@ -254,16 +363,25 @@ only_settled l f moment LaunchTaken quiet = told_launch (settled l (effect_of l 
     (first_wanted f.wanted)
 only_settled l f moment (ControlTaken process) quiet = told_control
     (settled l (effect_of l (at_moment f moment (ControlTaken process)) (ControlTaken process)).flat)
-    (first_control (controls_of (with_moment f moment) process))
+    (next_order (with_moment f moment) process)
 only_settled l f moment (NoMemory caller) quiet = refl
 only_settled l f moment step quiet = absurd cc
 
-step_so : (l : Limits) (f : Flat) (moment : ℕ) (step : Step) → settled l f ≡ f → rings_common step ≡ false
+step_waits : (l : Limits) (f : Flat) (moment : ℕ) (step : Step) → settled l f ≡ f → rings_common step ≡ false
     → WaitsOn f (step_of l f moment step).flat
-step_so l f moment step still quiet =
+step_waits l f moment step settled_before quiet =
     let g = (effect_of l (at_moment f moment step) step).flat in
-    let so = subst (WaitsOn f) (sym (only_settled l f moment step quiet)) (settled_so l f g (effect_beside l f moment step quiet) still) in
+    let so = subst (WaitsOn f) (sym (only_settled l f moment step quiet))
+    (settled_so l f g (effect_leaves l f moment step quiet) settled_before) in
     record { plans = so.plans; wanted = so.wanted }
+
+step_awaited : (l : Limits) (f : Flat) (moment : ℕ) (step : Step) → settled l f ≡ f → takes_nothing step ≡ true
+    → IsAwaitedSo f (step_of l f moment step).flat
+step_awaited l f moment step settled_before none =
+    let g = (effect_of l (at_moment f moment step) step).flat in
+    let so = subst (IsAwaitedSo f) (sym (only_settled l f moment step (is_silent step none)))
+    (settled_alike l f g (effect_alike l f moment step none) settled_before) in
+    record { plans = so.plans; wanted = so.wanted; processes = so.processes }
 
 -- ## Histories
 
@@ -271,6 +389,10 @@ step_so l f moment step still quiet =
 rings_kept : (step : Step) (append : Kept) → rings_common (with_kept step append) ≡ rings_common step
 rings_kept (Call caller asked now) append = refl
 rings_kept step append = refl
+
+takes_kept : (step : Step) (append : Kept) → takes_nothing (with_kept step append) ≡ takes_nothing step
+takes_kept (Call caller asked now) append = refl
+takes_kept step append = refl
 
 -- plans rest behind a legal history
 rest_behind : (o : Opening) (log : List Entry) → Runs o log → settled o.limits (state o.limits o.first log) ≡ state o.limits o.first log
@@ -281,4 +403,9 @@ rest_behind o log runs =
 
 pub stirs_nobody : (step : Step) → rings_common step ≡ false → StirsNobody step
 stirs_nobody step quiet o log moment append runs =
-    step_so o.limits (state o.limits o.first log) moment (with_kept step append) (rest_behind o log runs) (rings_kept step append ∙ quiet)
+    let f = state o.limits o.first log in
+    let made = with_kept step append in
+    record {
+      waits = step_waits o.limits f moment made (rest_behind o log runs) (rings_kept step append ∙ quiet);
+      awaited = λ none. step_awaited o.limits f moment made (rest_behind o log runs) (takes_kept step append ∙ none);
+    }

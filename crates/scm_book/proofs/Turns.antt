@@ -12,7 +12,7 @@ use Rattle.book_rule.specs.declared.view.View.{View}
 use Rattle.book_rule.specs.Ways.{Follows, Has, NamesOwn, Protocol}
 use Rattle.book_rule.specs.Seats.{Identity, Commits}
 use Rattle.scm_book.specs.declared.held.Held.{Held}
-use Rattle.scm_book.specs.declared.owed.Owed.{Owed}
+use Rattle.scm_book.specs.declared.held.Owed.{Owed}
 use Rattle.scm_book.specs.Naming.{all_names}
 use Rattle.scm_book.specs.Holds.{Holds, Runs, way_of}
 use Rattle.scm_book.specs.Passes.{room_behind}

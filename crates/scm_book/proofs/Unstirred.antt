@@ -1,16 +1,19 @@
 -- A step leaves the controls of each process whose bell it doesn't ring, and lists it as it was.
 use Rattle.std.proofs.Common.{ℕ, ◌≡◌, ◌∙◌, ◌<◌, ◌==◌, Bool, true, false, not, cond, List, Option, None, Some, find, filter, map, ap, sym}
 use Rattle.std.proofs.Common.{refl, subst}
+use Rattle.std.proofs.lemmas.Bool.{and_parts}
 use Rattle.std.specs.Prelude.{option_map}
 use Rattle.scm_model.specs.declared.calls.Request.{Request}
 use Rattle.scm_model.specs.declared.calls.Request.TheVariants as request
-use Rattle.scm_model.specs.declared.codes.TheConstants.{ERROR_PROCESS_ABORTED}
+use Rattle.scm_model.specs.declared.codes.TheConstants.{ERROR_PROCESS_ABORTED, SERVICE_STOPPED}
 use Rattle.scm_model.specs.declared.flat.Flat.{Flat}
 use Rattle.scm_model.specs.declared.flat.Limits.{Limits}
 use Rattle.scm_model.specs.declared.flat.Order.{Order}
 use Rattle.scm_model.specs.declared.flat.Phase.TheVariants as phases
 use Rattle.scm_model.specs.declared.flat.Process.{Process}
 use Rattle.scm_model.specs.declared.flat.Service.{Service}
+use Rattle.scm_model.specs.declared.flat.Status.{Status}
+use Rattle.scm_model.specs.Found.{if_found}
 use Rattle.scm_model.specs.declared.steps.Kept.{Kept}
 use Rattle.scm_model.specs.declared.steps.Step.{Step}
 use Rattle.scm_model.specs.declared.steps.Step.TheVariants.{Call, LaunchTaken, Launched, LaunchFailed, Report, Ended, ControlTaken, Tick}
@@ -19,20 +22,23 @@ use Rattle.scm_model.specs.Changes.{with_moment}
 use Rattle.scm_model.specs.Entries.{with_kept}
 use Rattle.scm_model.specs.Rows.{held_service}
 use Rattle.scm_model.proofs.Found.{found_keeps}
-use Rattle.scm_rules.specs.Controls.{controlled_if, controlled_in, dequeued_if, order_to}
+use Rattle.scm_rules.specs.Controls.{controlled_if, controlled_in, dequeued_if, dequeued_in, first_asked, order_to}
 use Rattle.scm_rules.specs.Failures.{failed_by}
-use Rattle.scm_rules.specs.Launches.{current_of, first_wanted, launched_if, taken_if, with_fallen, without_process}
+use Rattle.scm_rules.specs.Launches.{currents, first_wanted, launched_if, taken_if, with_fallen, without_process}
+use Rattle.scm_rules.specs.Reports.{is_stopped_by, released_by, released_if, reporting}
 use Rattle.scm_rules.specs.Steps.{at_moment, effect_of}
 use Rattle.scm_rules.specs.Verdicts.{call_of, done_of, told_refused, verdict}
 use Rattle.scm_runs.proofs.Calls.{by_verdict}
-use Rattle.scm_runs.proofs.Failing.{failing_apart}
+use Rattle.scm_runs.proofs.Failing.{all_failing_apart, failing_apart}
 use Rattle.scm_runs.proofs.Founds.{notify_apart, opened_keeps, started_keeps}
 use Rattle.scm_runs.proofs.Lists.{find_filter}
-use Rattle.scm_runs.proofs.Sound.{controls_fewer, controls_more}
+use Rattle.scm_runs.proofs.Rows.{by_parts}
+use Rattle.scm_runs.proofs.Sound.{controls_fewer, controls_more, controls_released, reporting_by}
 use Rattle.scm_history.proofs.Finds.{found_map}
 use Rattle.scm_history.proofs.Processes.{IsOf, after_effect, apart, has, launches, others_changed, takes, ticked_still}
-use Rattle.scm_book.specs.declared.ringing.Children.{Children}
-use Rattle.scm_book.specs.Ringing.{StirsNoOther, children_rung, controls_rung, is_rung, one_or_nobody}
+use Rattle.scm_book.specs.declared.bells.Children.{Children}
+use Rattle.scm_book.specs.declared.bells.Children.TheVariants as children
+use Rattle.scm_book.specs.Ringing.{StirsNoOther, children_rung, controls_rung, if_stopped, is_rung, one_or_nobody}
 
 -- the controls of a process, if it is among these
 abbrev listed : ℕ → List Process → Option (List Order)
@@ -76,6 +82,30 @@ queues limit one order = record {
 relieves : (one : ℕ) → IsOf one (dequeued_if one)
 relieves one = record { number_same = λ row. ap (λ (r : Process). r.number) (controls_fewer one row); others = λ row e. rw e refl }
 
+releases : (one service : ℕ) → IsOf one (released_if one service)
+releases one service = record {
+  number_same = λ row. ap (λ (r : Process). r.number) (controls_released one service row);
+  others = λ row e. rw e refl;
+}
+
+-- a report that stops a service and rings not this process is of another
+pub stops_another : (report : Status) (number one : ℕ) → is_rung (if_stopped report (children.One one)) number ≡ false
+    → (report.state == SERVICE_STOPPED) ≡ true → (number == one) ≡ false
+stops_another report number one quiet stops =
+    subst (λ b. is_rung (cond b (children.One one) children.Nobody) number ≡ false) stops quiet
+
+-- a report changes no process but that of a service that it stops
+released_unstirred : (number : ℕ) (report : Status) (row : Service)
+    → ((report.state == SERVICE_STOPPED) ≡ true → (number == row.process) ≡ false) → (rows : List Process)
+    → listed number (released_by report row rows) ≡ listed number rows
+released_unstirred number report row other rows =
+    elim (is_stopped_by report row) as (λ b. is_stopped_by report row ≡ b
+    → listed number (cond b (map (released_if row.process row.number) rows) rows) ≡ listed number rows) [
+      | true ↦ λ stops. others_same number row.process (released_if row.process row.number) (releases row.process row.number)
+          (other (and_parts _ (report.state == SERVICE_STOPPED) stops).1) rows
+      | false ↦ λ runs. refl
+    ] refl
+
 taken_same : (one : ℕ) (row : Process) → (taken_if one row).controls ≡ row.controls
 taken_same one row = elim (row.number == one) as (λ b. (cond b (record row { phase = phases.Taken }) row).controls ≡ row.controls)
     [ true ↦ refl | false ↦ refl ]
@@ -88,22 +118,22 @@ launched_same one pid row = elim (row.number == one) as (λ b. (cond b (record r
 
 abbrev is_control : Request → Bool
 is_control (request.Control handle control) = true
+is_control (request.SetStatus handle status) = true
 is_control asked = false
 
 done_same : (l : Limits) (f : Flat) (caller : ℕ) (asked : Request) → is_control asked ≡ false
     → (done_of l f caller asked).flat.processes ≡ f.processes
 done_same l f caller (request.Control handle control) other = absurd cc
+done_same l f caller (request.SetStatus handle status) other = absurd cc
 done_same l f caller (request.OpenService handle name access) other = opened_keeps
     (λ (g : Flat). g.processes ≡ f.processes) f caller name access refl (λ row is. refl)
 done_same l f caller (request.Start handle words) other = started_keeps (λ (g : Flat). g.processes ≡ f.processes) f caller handle words refl
     (λ row is. refl)
-done_same l f caller (request.SetStatus handle status) other = failing_apart (λ (g : Flat). g.processes ≡ f.processes)
-    (failed_by status (held_service f caller handle)) _ refl
 done_same l f caller (request.Notify handle mask) other = notify_apart (λ (g : Flat). g.processes ≡ f.processes) f caller handle mask
     (λ rows next. refl)
 done_same l f caller asked other = refl
 
--- a call that is no control changes no process
+-- a call that is neither a control nor a report changes no process
 call_same : (l : Limits) (f : Flat) (caller : ℕ) (asked : Request) (append : Kept) → is_control asked ≡ false
     → (call_of l f caller asked append).flat.processes ≡ f.processes
 call_same l f caller asked append other =
@@ -121,6 +151,13 @@ control_unstirred l f control number (Some row) quiet =
     (queues l.controls row.process (order_to row.number control)) quiet
     f.processes
 
+held_released : (f : Flat) (number : ℕ) (report : Status) (found : Option Service)
+    → is_rung (if_stopped report (one_or_nobody (option_map (λ (row : Service). row.process) found))) number ≡ false
+    → listed number (if_found (released_by report) found f.processes) ≡ listed number f.processes
+held_released f number report None quiet = refl
+held_released f number report (Some row) quiet = released_unstirred number report row (stops_another report number row.process quiet)
+    f.processes
+
 call_unstirred : (l : Limits) (f : Flat) (moment caller : ℕ) (asked : Request) (append : Kept) (number : ℕ)
     → is_rung (controls_rung f caller asked) number ≡ false
     → listed number (call_of l (with_moment f moment) caller asked append).flat.processes ≡ listed number f.processes
@@ -130,6 +167,13 @@ call_unstirred l f moment caller (request.Control handle control) append number 
     by_verdict (λ r. listed number r.flat.processes ≡ listed number f.processes) (verdict l g caller asked append)
     (told_refused g caller asked (verdict l g caller asked append)) g (done_of l g caller asked)
     (λ e. control_unstirred l f control number (held_service f caller handle) quiet) (λ e. refl)
+call_unstirred l f moment caller (request.SetStatus handle status) append number quiet =
+    let g = with_moment f moment in
+    let asked = request.SetStatus handle status in
+    by_verdict (λ r. listed number r.flat.processes ≡ listed number f.processes) (verdict l g caller asked append)
+    (told_refused g caller asked (verdict l g caller asked append)) g (done_of l g caller asked)
+    (λ e. failing_apart (λ (h : Flat). listed number h.processes ≡ listed number f.processes)
+    (failed_by status (held_service f caller handle)) _ (held_released f number status (held_service f caller handle) quiet)) (λ e. refl)
 call_unstirred l f moment caller asked append number quiet = ap (listed number)
     (call_same l (with_moment f moment) caller asked append refl)
 
@@ -147,19 +191,28 @@ effect_unstirred l f moment (Launched process pid) number low quiet =
     all_same number process (launched_if process pid) (launches process pid) (launched_same process pid) f.processes
 effect_unstirred l f moment (LaunchFailed process code) number low quiet = others_left number process quiet f.processes
 effect_unstirred l f moment (Report process service status) number low quiet =
-    failing_apart (λ (g : Flat). listed number g.processes ≡ listed number f.processes) (failed_by status (current_of f process)) _ refl
+    failing_apart (λ (g : Flat). listed number g.processes ≡ listed number f.processes) (failed_by status (reporting f process service)) _
+    (found_keeps (λ (rows : List Process). listed number rows ≡ listed number f.processes) (released_by status)
+    (reporting f process service) f.processes refl
+    (λ row is. released_unstirred number status row (λ stops.
+    ap (λ n. number == n) (by_parts process row (reporting_by f process service row is).1).1
+    ∙ stops_another status number process quiet stops) f.processes))
 effect_unstirred l f moment (Ended process) number low quiet =
-    failing_apart (λ (g : Flat). listed number (without_process g process).processes ≡ listed number f.processes) (current_of f process)
-    (with_fallen (with_moment f moment) process ERROR_PROCESS_ABORTED) (others_left number process quiet f.processes)
-effect_unstirred l f moment (ControlTaken process) number low quiet = others_same number process (dequeued_if process)
-    (relieves process) quiet f.processes
+    all_failing_apart (λ (g : Flat). listed number (without_process g process).processes ≡ listed number f.processes)
+    (currents process f.services) (with_fallen (with_moment f moment) process ERROR_PROCESS_ABORTED) (others_left number process quiet
+    f.processes)
+effect_unstirred l f moment (ControlTaken process) number low quiet = by (first_asked f process)
+  where
+    by : (found : Option Service) → listed number (dequeued_in found process f.processes) ≡ listed number f.processes
+    by None = others_same number process (dequeued_if process) (relieves process) quiet f.processes
+    by (Some row) = refl
 effect_unstirred l f moment Tick number low quiet = ap (option_map (λ (row : Process). row.controls))
     (ticked_still l (with_moment f moment) number low).same
 effect_unstirred l f moment (Raised caller subtype) number low quiet = absurd cc
 effect_unstirred l f moment step number low quiet = refl
 
 -- what became of a change plays no part
-rung_kept : (f : Flat) (step : Step) (append : Kept) → children_rung f (with_kept step append) ≡ children_rung f step
+pub rung_kept : (f : Flat) (step : Step) (append : Kept) → children_rung f (with_kept step append) ≡ children_rung f step
 rung_kept f (Call caller asked now) append = refl
 rung_kept f step append = refl
 

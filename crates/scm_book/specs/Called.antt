@@ -18,9 +18,8 @@ use Rattle.scm_book.specs.declared.answers.CallEnd.TheVariants as calls
 use Rattle.scm_book.specs.declared.answers.StartEnd.{StartEnd}
 use Rattle.scm_book.specs.declared.answers.StartEnd.TheVariants as starts
 use Rattle.scm_book.specs.declared.fault.MakeFault.{MakeFault}
-use Rattle.scm_book.specs.declared.fault.MakeFault.TheVariants as makes
 use Rattle.scm_book.specs.Naming.{whose_after}
-use Rattle.scm_book.specs.Passes.{FindsNoMemory, FindsNoRoom, HasPlan, Known, MadeSo, room_behind}
+use Rattle.scm_book.specs.Passes.{FindsFault, HasPlan, Known, MadeSo, room_behind}
 
 -- a pass's call, as it is asked for
 abbrev pub called : Known → Request → Step
@@ -55,8 +54,7 @@ refusal_of step = replies.Code ERROR_NOT_ENOUGH_MEMORY
 
 abbrev pub Calls : Opening → Known → ℕ → Request → Known → CallEnd → Type 0
 Calls o k moment asked k' (calls.Answered reply) = AnsweredSo o k moment asked reply k'
-Calls o k moment asked k' calls.Full = FindsNoRoom o k (called k asked) k'
-Calls o k moment asked k' calls.OutOfMemory = FindsNoMemory o k (called k asked) k'
+Calls o k moment asked k' (calls.Unmade fault) = FindsFault o k (called k asked) fault k'
 
 -- ## raise
 
@@ -78,8 +76,7 @@ pub record RaisedSo (o : Opening) (k : Known) (moment : ℕ) (subtype : List ℕ
 
 abbrev pub Raises : Opening → Known → ℕ → List ℕ → Known → CallEnd → Type 0
 Raises o k moment subtype k' (calls.Answered reply) = RaisedSo o k moment subtype reply k' ⊎ RaiseWants o k moment subtype reply k'
-Raises o k moment subtype k' calls.Full = FindsNoRoom o k (raised_by k subtype) k'
-Raises o k moment subtype k' calls.OutOfMemory = FindsNoMemory o k (raised_by k subtype) k'
+Raises o k moment subtype k' (calls.Unmade fault) = FindsFault o k (raised_by k subtype) fault k'
 
 -- ## begin_start
 
@@ -91,8 +88,7 @@ pub record StartWaits (o : Opening) (k : Known) (moment : ℕ) (asked : Request)
 abbrev pub StartsAs : Opening → Known → ℕ → Request → Known → StartEnd → Type 0
 StartsAs o k moment asked k' (starts.Answered reply) = AnsweredSo o k moment asked reply k'
 StartsAs o k moment asked k' (starts.Waiting plan) = StartWaits o k moment asked plan k'
-StartsAs o k moment asked k' starts.Full = FindsNoRoom o k (called k asked) k'
-StartsAs o k moment asked k' starts.OutOfMemory = FindsNoMemory o k (called k asked) k'
+StartsAs o k moment asked k' (starts.Unmade fault) = FindsFault o k (called k asked) fault k'
 
 -- ## What is made of what a call was told
 
@@ -116,11 +112,9 @@ IfTold P ended = Unit {0}
 abbrev pub CallTold : Result (Option Answer) MakeFault → Reply → CallEnd → Type 0
 CallTold (Ok (Some told)) refusal end = (reply : Reply) × (told ≡ answers.Reply reply) × (end ≡ calls.Answered reply)
 CallTold (Ok None) refusal end = end ≡ calls.Answered refusal
-CallTold (Err makes.Full) refusal end = end ≡ calls.Full
-CallTold (Err makes.OutOfMemory) refusal end = end ≡ calls.OutOfMemory
+CallTold (Err fault) refusal end = end ≡ calls.Unmade fault
 
 abbrev pub StartTold : Result (Option Answer) MakeFault → Reply → StartEnd → Type 0
 StartTold (Ok (Some told)) refusal end = Begun told end
 StartTold (Ok None) refusal end = end ≡ starts.Answered refusal
-StartTold (Err makes.Full) refusal end = end ≡ starts.Full
-StartTold (Err makes.OutOfMemory) refusal end = end ≡ starts.OutOfMemory
+StartTold (Err fault) refusal end = end ≡ starts.Unmade fault

@@ -15,8 +15,8 @@ use Rattle.book_rule.specs.Views.{longer}
 use Rattle.scm_book.specs.declared.answers.JoinFault.{JoinFault}
 use Rattle.scm_book.specs.declared.answers.JoinFault.TheVariants as joins
 use Rattle.scm_book.specs.declared.held.Held.{Held}
-use Rattle.scm_book.specs.Passes.{Known, Learnt, MadeSo, room_behind}
-use Rattle.scm_book.specs.Turns.{known, of_badge}
+use Rattle.scm_book.specs.Passes.{Known, Learnt, MadeSo}
+use Rattle.scm_book.specs.Turns.{MakeCause, known, of_badge}
 
 -- ## Causes
 
@@ -27,8 +27,7 @@ has_place o log = nat_lt (length (state o.limits o.first log).callers) o.limits.
 -- why a join after a history fails
 abbrev pub JoinCauseAt : Opening → List Entry → Principal → JoinFault → Type 0
 JoinCauseAt o log principal joins.TooMany = has_place o log ≡ false
-JoinCauseAt o log principal joins.Full = (has_place o log ≡ true) × (room_behind o log (Joined principal) ≡ false)
-JoinCauseAt o log principal joins.OutOfMemory = (has_place o log ≡ true) × (room_behind o log (Joined principal) ≡ true)
+JoinCauseAt o log principal (joins.Unmade fault) = (has_place o log ≡ true) × MakeCause o log (Joined principal) fault
 
 -- in the state that the pass has seen
 abbrev pub JoinCause : Opening → Known → Principal → JoinFault → Type 0

@@ -9,7 +9,7 @@ use Rattle.scm_rules.specs.Steps.{may}
 use Rattle.book_rule.specs.declared.view.Opening.{Opening}
 use Rattle.book_rule.specs.Ways.{Follows}
 use Rattle.scm_book.specs.declared.held.Held.{Held}
-use Rattle.scm_book.specs.declared.owed.Owed.{Owed}
+use Rattle.scm_book.specs.declared.held.Owed.{Owed}
 use Rattle.scm_book.specs.Holds.{Holds, Runs, way_of}
 use Rattle.scm_book.specs.Steps.{Adds, IsAsItWas, Makes, owed_step}
 

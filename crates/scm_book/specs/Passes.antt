@@ -21,6 +21,8 @@ use Rattle.book_rule.specs.declared.view.Stage.TheVariants.{Away}
 use Rattle.book_rule.specs.Ways.{Claims, Has}
 use Rattle.book_rule.specs.Views.{nobody}
 use Rattle.book_rule.specs.Seats.{Identity}
+use Rattle.scm_book.specs.declared.fault.MakeFault.{MakeFault}
+use Rattle.scm_book.specs.declared.fault.MakeFault.TheVariants as makes
 use Rattle.scm_book.specs.Naming.{names_made, whose_after}
 use Rattle.scm_book.specs.Holds.{way_of}
 
@@ -131,6 +133,11 @@ pub record FindsNoRoom (o : Opening) (k : Known) (step : Step) (k' : Known) : Ty
 pub record FindsNoMemory (o : Opening) (k : Known) (step : Step) (k' : Known) : Type 0 where
   pub learnt : Learnt o k k'
   pub free : room_behind o k'.seen step ≡ true
+
+-- it learnt why the step isn't made
+abbrev pub FindsFault : Opening → Known → Step → MakeFault → Known → Type 0
+FindsFault o k step makes.Full k' = FindsNoRoom o k step k'
+FindsFault o k step makes.OutOfMemory k' = FindsNoMemory o k step k'
 
 -- ## What a pass is responsible for
 

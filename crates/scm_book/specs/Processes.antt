@@ -17,8 +17,8 @@ use Rattle.book_rule.specs.declared.view.Opening.{Opening}
 use Rattle.book_rule.specs.declared.view.View.{View}
 use Rattle.book_rule.specs.Seats.{Identity}
 use Rattle.scm_book.specs.declared.held.Held.{Held}
-use Rattle.scm_book.specs.declared.launching.LaunchRoom.{LaunchRoom}
-use Rattle.scm_book.specs.declared.launching.TakenLaunch.{TakenLaunch}
+use Rattle.scm_book.specs.declared.processes.LaunchRoom.{LaunchRoom}
+use Rattle.scm_book.specs.declared.processes.TakenLaunch.{TakenLaunch}
 use Rattle.scm_book.specs.declared.processes.EndedEnd.{EndedEnd}
 use Rattle.scm_book.specs.declared.processes.EndedEnd.TheVariants as ends
 use Rattle.scm_book.specs.declared.processes.LaunchLook.{LaunchLook}

@@ -1,25 +1,31 @@
 -- Which bells a step rings, and that it leaves what is waited for at the others as it is.
-use Rattle.std.specs.Prelude.{ℕ, ◌≡◌, ◌<◌, ◌==◌, Bool, true, false, not, List, Option, None, Some, option_map}
+use Rattle.std.specs.Prelude.{ℕ, ◌≡◌, ◌<◌, ◌==◌, Bool, true, false, not, List, Option, None, Some, filter, map, option_map}
+use Rattle.std.specs.Prelude.{if◌then◌else◌}
+use Rattle.scm_model.specs.declared.codes.TheConstants.{SERVICE_STOPPED}
 use Rattle.scm_model.specs.declared.flat.Flat.{Flat}
 use Rattle.scm_model.specs.declared.flat.Limits.{Limits}
 use Rattle.scm_model.specs.declared.flat.Order.{Order}
 use Rattle.scm_model.specs.declared.flat.Process.{Process}
+use Rattle.scm_model.specs.declared.flat.Service.{Service}
+use Rattle.scm_model.specs.declared.flat.Status.{Status}
 use Rattle.scm_model.specs.declared.calls.Request.{Request}
 use Rattle.scm_model.specs.declared.calls.Request.TheVariants as request
 use Rattle.scm_model.specs.declared.steps.Kept.{Kept}
 use Rattle.scm_model.specs.declared.steps.Step.{Step}
-use Rattle.scm_model.specs.declared.steps.Step.TheVariants.{Joined, Call, EndStart, LaunchTaken, LaunchFailed, Ended, ControlTaken, Raised}
-use Rattle.scm_model.specs.declared.steps.Step.TheVariants.{NoMemory}
+use Rattle.scm_model.specs.declared.steps.Step.TheVariants.{Joined, Call, EndStart, LaunchTaken, LaunchFailed, Report, Ended, ControlTaken}
+use Rattle.scm_model.specs.declared.steps.Step.TheVariants.{Raised, NoMemory}
 use Rattle.scm_model.specs.Entries.{Entry, with_kept}
 use Rattle.start_plan.specs.Decided.{code_of}
+use Rattle.scm_rules.specs.Controls.{is_asked_by}
 use Rattle.scm_rules.specs.Histories.{state}
 use Rattle.scm_rules.specs.Launches.{process_of}
 use Rattle.scm_rules.specs.Steps.{step_of, wants_launch}
+use Rattle.scm_rules.specs.Valid.{IsValid}
 use Rattle.scm_core.specs.Managed.{process_held}
 use Rattle.book_rule.specs.declared.view.Opening.{Opening}
-use Rattle.scm_book.specs.declared.ringing.Children.{Children}
-use Rattle.scm_book.specs.declared.ringing.Children.TheVariants as children
-use Rattle.scm_book.specs.declared.ringing.Ring.{Ring}
+use Rattle.scm_book.specs.declared.bells.Children.{Children}
+use Rattle.scm_book.specs.declared.bells.Children.TheVariants as children
+use Rattle.scm_book.specs.declared.bells.Ring.{Ring}
 use Rattle.scm_book.specs.Holds.{Runs}
 
 -- the state that a step leaves, settled and purged, whatever became of its change
@@ -60,11 +66,29 @@ pub record WaitsOn (before now : Flat) : Type 0 where
   pub plans : (plan : ℕ) → code_of before.plans plan ≡ None → code_of now.plans plan ≡ None
   pub wanted : wants_launch before.wanted ≡ false → wants_launch now.wanted ≡ false
 
--- after each legal history the step leaves those that wait waiting
+-- what is waited for is as it was: the plans, the wanted launches, and the processes with their controls
+pub record IsAwaitedSo (before now : Flat) : Type 0 where
+  pub plans : now.plans ≡ before.plans
+  pub wanted : now.wanted ≡ before.wanted
+  pub processes : now.processes ≡ before.processes
+
+-- the steps that neither ring it nor take anything: a caller joins, a quiet call, and a call that there was no memory for
+abbrev pub takes_nothing : Step → Bool
+takes_nothing (EndStart caller plan) = false
+takes_nothing LaunchTaken = false
+takes_nothing (ControlTaken process) = false
+takes_nothing step = not (rings_common step)
+
+-- those that wait wait on, and if nothing is taken all that they wait for is as it was
+pub record IsUnstirred (step : Step) (before now : Flat) : Type 0 where
+  pub waits : WaitsOn before now
+  pub awaited : takes_nothing step ≡ true → IsAwaitedSo before now
+
+-- so it is after each legal history
 abbrev pub StirsNobody : Step → Type 0
 StirsNobody step =
     (o : Opening) (log : List Entry) (moment : ℕ) (append : Kept) → Runs o log
-    → WaitsOn (state o.limits o.first log) (state_after o.limits (state o.limits o.first log) moment step append)
+    → IsUnstirred step (state o.limits o.first log) (state_after o.limits (state o.limits o.first log) moment step append)
 
 -- ## The bells of processes
 
@@ -72,15 +96,21 @@ abbrev pub one_or_nobody : Option ℕ → Children
 one_or_nobody None = children.Nobody
 one_or_nobody (Some process) = children.One process
 
--- of calls only a control rings one, that of its process
+-- a report by which its service is STOPPED may take orders away; another takes none
+abbrev pub if_stopped : Status → Children → Children
+if_stopped status rung = if status.state == SERVICE_STOPPED then rung else children.Nobody
+
+-- of calls only a control rings one, and a report that stops a service, that of the service's process
 abbrev pub controls_rung : Flat → ℕ → Request → Children
 controls_rung f caller (request.Control handle control) = one_or_nobody (process_held f caller handle)
+controls_rung f caller (request.SetStatus handle status) = if_stopped status (one_or_nobody (process_held f caller handle))
 controls_rung f caller asked = children.Nobody
 
 -- the processes whose bells a step rings in a state
 abbrev pub children_rung : Flat → Step → Children
 children_rung f (Call caller asked append) = controls_rung f caller asked
 children_rung f (LaunchFailed process code) = children.One process
+children_rung f (Report process service status) = if_stopped status (children.One process)
 children_rung f (Ended process) = children.One process
 children_rung f (ControlTaken process) = children.One process
 children_rung f (Raised caller subtype) = children.All
@@ -100,6 +130,16 @@ abbrev pub StirsNoOther : Flat → Step → Children → Type 0
 StirsNoOther f step rung =
     (l : Limits) (moment : ℕ) (append : Kept) (process : ℕ) → process < f.next.process → is_rung rung process ≡ false
     → controls_listed (state_after l f moment step append) process ≡ controls_listed f process
+
+-- the services that a process is still to be sent to start, in order
+abbrev pub asked_of : Flat → ℕ → List ℕ
+asked_of f process = map (λ (row : Service). row.number) (filter (is_asked_by process) f.services)
+
+-- from a valid state on, such a process is also to be sent the services that it was
+abbrev pub AsksNoOther : Flat → Step → Children → Type 0
+AsksNoOther f step rung =
+    (l : Limits) (moment : ℕ) (append : Kept) (process : ℕ) → IsValid l f → process < f.next.process → is_rung rung process ≡ false
+    → asked_of (state_after l f moment step append) process ≡ asked_of f process
 
 -- ## Both
 

@@ -16,8 +16,8 @@ use Rattle.scm_history.specs.Kept.{kept_change, one_or_none}
 use Rattle.scm_book.specs.declared.fault.MakeFault.{MakeFault}
 use Rattle.scm_book.specs.declared.fault.MakeFault.TheVariants.{Full, OutOfMemory}
 use Rattle.scm_book.specs.declared.held.Held.{Held}
-use Rattle.scm_book.specs.declared.owed.Owed.{Owed}
-use Rattle.scm_book.specs.declared.owed.Owed.TheVariants as owes
+use Rattle.scm_book.specs.declared.held.Owed.{Owed}
+use Rattle.scm_book.specs.declared.held.Owed.TheVariants as owes
 use Rattle.scm_book.specs.Holds.{RoseBy, one_failed}
 
 -- the step that is owed

@@ -17,8 +17,8 @@ use Rattle.book_rule.specs.Ways.{Has, Protocol}
 use Rattle.book_rule.specs.Rule.{ClaimsOf}
 use Rattle.book_rule.specs.Seats.{Holding, Identity}
 use Rattle.book_rule.specs.Views.{having_left, having_made}
-use Rattle.scm_book.specs.declared.calling.Recorded.{Recorded}
-use Rattle.scm_book.specs.declared.calling.Recorded.TheVariants as recorded
+use Rattle.scm_book.specs.declared.turning.Recorded.{Recorded}
+use Rattle.scm_book.specs.declared.turning.Recorded.TheVariants as recorded
 use Rattle.scm_book.specs.declared.fault.MakeFault.{MakeFault}
 use Rattle.scm_book.specs.declared.fault.MakeFault.TheVariants as makes
 use Rattle.scm_book.specs.declared.fault.StepFault.{StepFault}
@@ -53,8 +53,7 @@ MakeCause o log step makes.OutOfMemory = room_behind o log step ≡ true
 -- why a step isn't made after a history
 abbrev pub StepCause : Opening → List Entry → ℕ → Step → StepFault → Type 0
 StepCause o log moment step faults.NotNow = may_behind o log moment step ≡ false
-StepCause o log moment step faults.Full = (may_behind o log moment step ≡ true) × (room_behind o log step ≡ false)
-StepCause o log moment step faults.OutOfMemory = (may_behind o log moment step ≡ true) × (room_behind o log step ≡ true)
+StepCause o log moment step (faults.Unmade fault) = (may_behind o log moment step ≡ true) × MakeCause o log step fault
 
 -- ## Between two calls
 

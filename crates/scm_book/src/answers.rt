@@ -1,4 +1,5 @@
 // What the calls of the book answer.
+use crate::fault::MakeFault;
 use crate::pass::Pass;
 use scm_model::Reply;
 
@@ -7,10 +8,8 @@ use scm_model::Reply;
 pub enum JoinFault {
     /// There are as many callers as there may be.
     TooMany,
-    /// The limits have no room for it.
-    Full,
-    /// There is no memory for it.
-    OutOfMemory,
+    /// There is no room or no memory for the step.
+    Unmade(MakeFault),
 }
 
 /// A pass that didn't become a caller's, and why.
@@ -25,10 +24,8 @@ pub struct NotJoined {
 pub enum CallEnd {
     /// It was made. Where there was no memory for its effect, this is its refusal with 8.
     Answered(Reply),
-    /// The limits have no room for it. No step was made.
-    Full,
-    /// The history has no memory for an entry. No step was made.
-    OutOfMemory,
+    /// The limits have no room for it, or the history has no memory for an entry.
+    Unmade(MakeFault),
 }
 
 /// The outcome of the begin of a start.
@@ -39,10 +36,8 @@ pub enum StartEnd {
     Answered(Reply),
     /// It waits, under the number of its plan.
     Waiting(u64),
-    /// The limits have no room for it. No step was made.
-    Full,
-    /// The history has no memory for an entry. No step was made.
-    OutOfMemory,
+    /// The limits have no room for it, or the history has no memory for an entry.
+    Unmade(MakeFault),
 }
 
 /// The outcome of a look at a start that waits.

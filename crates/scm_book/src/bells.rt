@@ -1,8 +1,103 @@
-// The bells of a book.
-use crate::bell::Bell;
-use crate::ringing::{Children, Ring};
+// The bells of a book, and which of them a step rings.
+ghost use Rattle.std.specs.Prelude.{◌≡◌, false};
+ghost use Rattle.scm_model.specs.declared.flat.Flat.{Flat};
+ghost use Rattle.scm_book.specs.Ringing.{AsksNoOther, StirsNoOther, StirsNobody};
+ghost use Rattle.scm_book.specs.Ringing.{children_rung, controls_rung, if_stopped, is_quiet};
+ghost use Rattle.scm_book.specs.Ringing.{one_or_nobody, ring_of, rings_common};
+ghost use Rattle.scm_book.specs.Steps.{owed_step};
+
+use crate::held::Owed;
+use scm_core::Manager;
+use scm_model::codes::SERVICE_STOPPED;
+use scm_model::{Request, Status, Step};
 use std::array;
-use std::sync::Wait;
+use std::sync::atomic::{AtomicBool, AtomicU64, Ordering};
+use std::sync::{Condvar, Mutex, Wait};
+
+/// Counts entries that somebody waits for, and carries the wish to end. Nothing is claimed of
+/// wake-ups.
+#[derive(Drop)]
+pub struct Bell {
+    count: AtomicU64,
+    /// Whether the count was asked for since the last ring that was counted.
+    is_asked: AtomicBool,
+    sleepers: AtomicU64,
+    is_shut: AtomicBool,
+    door: Mutex<u64>,
+    rung: Condvar,
+}
+
+impl Bell {
+    pub(crate) fn new() -> Bell {
+        Bell {
+            count: AtomicU64::new(0),
+            is_asked: AtomicBool::new(false),
+            sleepers: AtomicU64::new(0),
+            is_shut: AtomicBool::new(false),
+            door: Mutex::new(0),
+            rung: Condvar::new(),
+        }
+    }
+
+    /// The count. The next ring after this call is counted: a ring clears the asking before it
+    /// counts, and one that did so between the two lines is asked again.
+    pub fn count(&self) -> u64 {
+        for _ in 0..u64::MAX {
+            self.is_asked.store(true, Ordering::SeqCst);
+            let count = self.count.load(Ordering::SeqCst);
+            if self.is_asked.load(Ordering::SeqCst) {
+                return count;
+            }
+        }
+        self.count.load(Ordering::SeqCst)
+    }
+
+    /// Whether it was shut.
+    pub fn is_shut(&self) -> bool {
+        self.is_shut.load(Ordering::SeqCst)
+    }
+
+    /// Waits until the count isn't `seen`, or the bell is shut, and answers the count.
+    pub fn wait<R: Wait>(&self, rt: &R, seen: u64) -> u64 {
+        self.sleepers.fetch_add(1, Ordering::SeqCst);
+        let mut door = self.door.lock(rt);
+        for _ in rt.forever() {
+            if self.count.load(Ordering::SeqCst) != seen || self.is_shut() {
+                break;
+            }
+            door = self.rung.wait(rt, door);
+        }
+        drop(door);
+        self.sleepers.fetch_sub(1, Ordering::SeqCst);
+        self.count()
+    }
+
+    /// An entry was made that this bell counts. It costs a load where nobody asked, and the lock is
+    /// taken only where somebody sleeps.
+    #[inline(always)]
+    pub(crate) fn ring<R: Wait>(&self, rt: &R) {
+        if !self.is_asked.load(Ordering::SeqCst) {
+            return;
+        }
+        self.is_asked.store(false, Ordering::SeqCst);
+        self.count.fetch_add(1, Ordering::SeqCst);
+        if self.sleepers.load(Ordering::SeqCst) != 0 {
+            self.wake(rt);
+        }
+    }
+
+    /// Wakes all that wait, now and from now on.
+    pub fn shut<R: Wait>(&self, rt: &R) {
+        self.is_shut.store(true, Ordering::SeqCst);
+        self.wake(rt);
+    }
+
+    fn wake<R: Wait>(&self, rt: &R) {
+        let door = self.door.lock(rt);
+        drop(door);
+        self.rung.notify_all();
+    }
+}
 
 /// How many bells the processes share. At most 32 processes are listed at a time.
 const CHILDREN: usize = 64;
@@ -52,6 +147,160 @@ impl Bells {
         self.common.shut(rt);
         for bell in self.children.iter() {
             bell.shut(rt);
+        }
+    }
+}
+
+/// The processes whose bells a step rings.
+#[derive(Clone, Copy)]
+pub enum Children {
+    Nobody,
+    One(u64),
+    All,
+}
+
+/// The bells that a step rings.
+#[derive(Clone, Copy)]
+pub struct Ring {
+    /// Whether it rings the common bell.
+    pub common: bool,
+    pub children: Children,
+}
+
+/// Whether a call only reads, opens a handle, or looks for a notification.
+fn is_quiet(request: &Request) -> bool
+    ensures { result ≡ is_quiet request.now }
+{
+    match request {
+        Request::QueryStatus { .. }
+        | Request::EnumDependents { .. }
+        | Request::EnumServices { .. }
+        | Request::OpenManager { .. }
+        | Request::OpenService { .. }
+        | Request::QueryConfig { .. }
+        | Request::QueryLock { .. }
+        | Request::DisplayName { .. }
+        | Request::KeyName { .. }
+        | Request::QueryConfig2 { .. }
+        | Request::QueryStatusEx { .. }
+        | Request::GetNotify { .. } => true,
+        _ => false,
+    }
+}
+
+/// Whether a step rings the common bell. A step that doesn't decides no plan, and no launch is
+/// wanted after it if none was before. If it takes nothing either, plans, wanted launches and
+/// processes are as they were.
+#[tactic(auto, using(crate::proofs::Stirring::stirs_nobody))]
+pub fn rings_common(step: &Step) -> bool
+    ensures rings { result ≡ rings_common step.now }
+    ensures quiet { result ≡ false → StirsNobody step.now }
+{
+    match step {
+        Step::Call { request, .. } => !is_quiet(request),
+        Step::Joined { .. }
+        | Step::EndStart { .. }
+        | Step::LaunchTaken
+        | Step::ControlTaken { .. }
+        | Step::NoMemory { .. } => false,
+        _ => true,
+    }
+}
+
+/// The one process, if there is one.
+fn one_or_nobody(process: Option<u64>) -> Children
+    ensures { result ≡ one_or_nobody process }
+{
+    match process {
+        Some(process) => Children::One(process),
+        None => Children::Nobody,
+    }
+}
+
+/// The processes whose bells a report rings: one by which its service is STOPPED may take orders
+/// away, and another takes none.
+fn if_stopped(status: &Status, rung: Children) -> Children
+    ensures { result ≡ if_stopped status.now rung }
+{
+    if status.state == SERVICE_STOPPED {
+        rung
+    } else {
+        Children::Nobody
+    }
+}
+
+/// The processes whose bells a call rings: of calls only a control rings one, and a report that
+/// stops a service, that of the service's process.
+fn controls_rung(manager: &Manager, caller: u64, request: &Request) -> Children
+    ensures { result ≡ controls_rung manager.now.flat caller request.now }
+{
+    match request {
+        Request::Control { handle, .. } => one_or_nobody(manager.process_held(caller, *handle)),
+        Request::SetStatus { handle, status } => if_stopped(
+            status,
+            one_or_nobody(manager.process_held(caller, *handle)),
+        ),
+        _ => Children::Nobody,
+    }
+}
+
+/// The processes whose bells a step rings when it is made next. No other process gets or loses an
+/// order by it, is asked to start another service, or ends.
+#[tactic(auto, using(crate::proofs::Unstirred::stirs_no_other, crate::proofs::Asked::asks_no_other))]
+pub fn children_rung(manager: &Manager, step: &Step) -> Children
+    ensures rung { result ≡ children_rung manager.now.flat step.now }
+    ensures others { StirsNoOther manager.now.flat step.now result }
+    ensures asked { AsksNoOther manager.now.flat step.now result }
+{
+    match step {
+        Step::Call {
+            caller,
+            request,
+            ..
+        } => controls_rung(manager, *caller, request),
+        Step::Report {
+            process,
+            status,
+            ..
+        } => if_stopped(status, Children::One(*process)),
+        Step::LaunchFailed { process, code: _ }
+        | Step::Ended { process }
+        | Step::ControlTaken { process } => Children::One(*process),
+        Step::Raised { .. } => Children::All,
+        _ => Children::Nobody,
+    }
+}
+
+/// The bells that a step rings when it is made next.
+#[inline(always)]
+pub fn ring_of(manager: &Manager, step: &Step) -> Ring
+    ensures { result ≡ ring_of manager.now.flat step.now }
+{
+    Ring {
+        common: rings_common(step),
+        children: children_rung(manager, step),
+    }
+}
+
+impl Owed {
+    /// The bells that the step rings, in whatever state it is made.
+    #[inline(always)]
+    pub fn ring(self) -> Ring
+        ensures { (f : Flat) → result ≡ ring_of f (owed_step self) }
+    {
+        match self {
+            Owed::EndStart { .. } | Owed::LaunchTaken => Ring {
+                common: false,
+                children: Children::Nobody,
+            },
+            Owed::Launched { .. } | Owed::Gone { .. } => Ring {
+                common: true,
+                children: Children::Nobody,
+            },
+            Owed::LaunchFailed { process, code: _ } | Owed::Ended { process } => Ring {
+                common: true,
+                children: Children::One(process),
+            },
         }
     }
 }

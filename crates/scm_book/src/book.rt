@@ -4,7 +4,7 @@ ghost use Rattle.scm_model.specs.Ranges.{in_range};
 ghost use Rattle.scm_rules.specs.Opening.{IsOpening};
 ghost use Rattle.scm_core.specs.Managed.{AreSmall};
 ghost use Rattle.record_journal.specs.Bearing.{Bears};
-ghost use Rattle.scm_book.specs.declared.calling.Recorded.TheVariants.{NoMemory};
+ghost use Rattle.scm_book.specs.declared.turning.Recorded.TheVariants.{NoMemory};
 ghost use Rattle.scm_book.specs.Called.{Calls, LeavesWhose, Raises, StartsAs, is_start};
 ghost use Rattle.scm_book.specs.Calls.{BeginsWith, Closes, Goes};
 ghost use Rattle.scm_book.specs.Holds.{Opens};
@@ -15,16 +15,12 @@ ghost use Rattle.scm_book.specs.Starts.{EndKeeps, EndLooks};
 ghost use Rattle.scm_book.specs.Turns.{AlwaysMay, CallEnds, call_told};
 
 use crate::answers::{CallEnd, EndLook, JoinFault, NotJoined, StartEnd};
-use crate::bell::Bell;
-use crate::bells::Bells;
-use crate::calling::{Recorded, call_end, start_end};
-use crate::doubled::PendingEntry;
-use crate::ending::end_look;
+use crate::bells::{Bell, Bells};
 use crate::fault::MakeFault;
-use crate::held::Held;
-use crate::owed::Owed;
+use crate::held::{Held, Owed, PendingEntry};
+use crate::joining::end_look;
 use crate::pass::{Pass, Spent};
-use crate::shared::Shared;
+use crate::turning::{Recorded, Shared, call_end, start_end};
 use book_rule::{Begun, Turn};
 use record_journal::{Journal, Keeper};
 use scm_core::Manager;
@@ -341,5 +337,15 @@ impl<K: Keeper> Book<K> {
         let gone = Owed::Gone { caller };
         let _done = self.shared.owe_by(rt, moment, gone, &mut badge);
         Spent { badge }
+    }
+}
+
+impl<K: Keeper> Book<K> {
+    /// Its history begins in an opening state, under limits that a manager can have. It does
+    /// nothing: its clause is what a caller learns.
+    pub fn opens(&self)
+        ensures { Opens self.now.opening }
+    {
+        let _alloc = self.shared.alloc;
     }
 }

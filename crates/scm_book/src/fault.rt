@@ -1,5 +1,5 @@
 /// Why a step that may come isn't made, and isn't owed.
-#[derive(Clone, Copy, Drop)]
+#[derive(Clone, Copy, Drop, PartialEq, Eq)]
 pub enum MakeFault {
     /// The limits have no room for it.
     Full,
@@ -12,8 +12,6 @@ pub enum MakeFault {
 pub enum StepFault {
     /// It may not come in the state of that look.
     NotNow,
-    /// The limits have no room for it.
-    Full,
-    /// There is no memory for it.
-    OutOfMemory,
+    /// It may come, and isn't made.
+    Unmade(MakeFault),
 }

@@ -1,18 +1,18 @@
-// What the holder of the turn has, and the steps that it makes.
-ghost use Rattle.std.specs.Prelude.{◌≡◌, ◌≤◌, ◌<◌, ◌+◌, ◌^◌, [], true, IsSome, IsTrue};
-ghost use Rattle.std.specs.Prelude.{IfErr, IfOk, IfSome, OnErr, OnOk};
+// What the holder of the turn has, and the steps that it makes, each with its note.
+ghost use Rattle.std.specs.Prelude.{◌≡◌, IfSome, true, ◌≤◌, ◌<◌, ◌+◌, ◌^◌, [], IsSome, IsTrue};
+ghost use Rattle.std.specs.Prelude.{IfErr, IfOk, OnErr, OnOk};
+ghost use Rattle.std.specs.Option.{ForSome};
+ghost use Rattle.scm_trail.specs.Notes.{is_brief};
+ghost use Rattle.scm_book.specs.Steps.{owed_step, Adds, Grows, HasMemory, IsAsItWas, IsPrepared};
+ghost use Rattle.scm_book.specs.Steps.{KeepsAs, Makes, TellsRight, Why, has_room_in, may_come_in};
+ghost use Rattle.scm_book.specs.Steps.{may_in};
 ghost use Rattle.scm_model.specs.Entries.{with_kept};
 ghost use Rattle.scm_model.specs.Texts.{text_of};
 ghost use Rattle.scm_rules.specs.Owed.{owed};
 ghost use Rattle.scm_rules.specs.Room.{debt};
 ghost use Rattle.scm_core.specs.Managed.{AreSmall, WasMadeFor};
-ghost use Rattle.scm_book.specs.Steps.{Adds, Grows, HasMemory, IsAsItWas, IsPrepared, KeepsAs};
-ghost use Rattle.scm_book.specs.Steps.{Makes, TellsRight, Why, has_room_in, may_come_in, may_in};
-ghost use Rattle.scm_book.specs.Steps.{owed_step};
 
-use crate::doubled::PendingEntry;
 use crate::fault::MakeFault;
-use crate::owed::Owed;
 use book_rule::Guarded;
 use record_journal::{Journal, KeepFault, Keeper};
 use scm_core::Manager;
@@ -20,6 +20,109 @@ use scm_model::{Answer, Kept, Step};
 use scm_text::OutOfMemory;
 use scm_trail::{Note, Trail};
 use std::alloc::Global;
+
+/// A step, and its note for the trail. The manager uses up the one, and the trail keeps the other.
+/// There is no note where there was no memory for it. It is made before the turn is taken, so that
+/// no request is copied with the turn held.
+pub struct PendingEntry {
+    pub step: Step,
+    pub note: Option<Note>,
+    ghost same: { ForSome note (λ other. other ≡ step) },
+}
+
+/// A drop of its own: a function that owns one drops it by a call, which is proved once.
+impl Drop for PendingEntry {
+    fn drop(self) {
+        let PendingEntry { step, note } = self;
+        drop(step);
+        drop(note);
+    }
+}
+
+/// The note of a step, if there is memory for it.
+#[inline(always)]
+fn note_of(alloc: Global, step: &Step) -> Option<Note>
+    ensures { IfSome result (λ note. note ≡ step.now) }
+{
+    match Note::new(alloc, step) {
+        Ok(note) => Some(note),
+        Err(_) => None,
+    }
+}
+
+impl PendingEntry {
+    #[inline(always)]
+    pub fn new(alloc: Global, step: Step) -> PendingEntry
+        ensures { result.step ≡ step }
+    {
+        let note = note_of(alloc, &step);
+        PendingEntry { step, note }
+    }
+
+    /// Makes the note of a step that has none, where the step lies.
+    #[inline(always)]
+    pub fn write(&mut self, alloc: Global)
+        ensures { self.new.step ≡ self.old.step }
+    {
+        self.note = note_of(alloc, &self.step);
+    }
+}
+
+/// A step that is owed: it takes place without being asked for, and its room was made when it
+/// became owed. It holds no memory.
+#[derive(Clone, Copy)]
+pub enum Owed {
+    /// A start that waited is answered.
+    EndStart { caller: u64, plan: u64 },
+    /// The launch that is wanted first is taken.
+    LaunchTaken,
+    /// A process was launched. The system's number of it is `pid`.
+    Launched { process: u64, pid: u32 },
+    /// A process could not be launched.
+    LaunchFailed { process: u64, code: u32 },
+    /// A process has ended.
+    Ended { process: u64 },
+    /// A connection ends.
+    Gone { caller: u64 },
+}
+
+impl Owed {
+    /// The step.
+    pub fn step(self) -> Step
+        ensures { result ≡ owed_step self }
+    {
+        match self {
+            Owed::EndStart { caller, plan } => Step::EndStart { caller, plan },
+            Owed::LaunchTaken => Step::LaunchTaken,
+            Owed::Launched { process, pid } => Step::Launched { process, pid },
+            Owed::LaunchFailed { process, code } => Step::LaunchFailed { process, code },
+            Owed::Ended { process } => Step::Ended { process },
+            Owed::Gone { caller } => Step::Gone { caller },
+        }
+    }
+
+    /// The note of the step, which takes no memory.
+    #[tactic(auto, using(crate::proofs::Room::owed_brief))]
+    pub fn note(self) -> Note
+        ensures { result ≡ owed_step self }
+    {
+        let step = self.step();
+        let note = brief_note(&step);
+        drop(step);
+        note
+    }
+}
+
+/// The note of a step that takes no memory to write.
+fn brief_note(step: &Step) -> Note
+    requires { is_brief step.now ≡ true }
+    ensures { result ≡ step.now }
+{
+    let Some(note) = Note::brief(step) else {
+        unreachable!()
+    };
+    note
+}
 
 /// What the holder of the turn has: the manager, the trail of the steps that it made, and the
 /// journal of the changes that were kept, with its keeper.
@@ -166,7 +269,7 @@ impl<K: Keeper> Held<K> {
     /// Makes all that a step can use, appends its change where it makes one, and says what became
     /// of that.
     #[inline(always)]
-    fn prepare(&mut self, doubled: &PendingEntry) -> Result<Kept, MakeFault>
+    pub(crate) fn prepare(&mut self, doubled: &PendingEntry) -> Result<Kept, MakeFault>
         requires small { AreSmall self.old.manager.limits }
         ensures ok { IfOk result (IsPrepared K.held K.faults self.old self.new doubled.now.step) }
         ensures noted { OnOk result (IsSome doubled.now.note) }
@@ -240,7 +343,13 @@ impl<K: Keeper> Held<K> {
 
     /// Does a step that was prepared, and puts its answer into its place.
     #[inline(always)]
-    fn finish(&mut self, moment: u64, doubled: &mut PendingEntry, kept: Kept, answer: &mut Answer)
+    pub(crate) fn finish(
+        &mut self,
+        moment: u64,
+        doubled: &mut PendingEntry,
+        kept: Kept,
+        answer: &mut Answer,
+    )
         requires noted { IsSome doubled.old.note }
         requires may { IsTrue (may_in self.old moment (with_kept doubled.old.step kept)) }
         requires made { WasMadeFor self.old.manager.room doubled.old.step }

@@ -1,19 +1,21 @@
-// Callers that join, and passes that are made and taken in.
-ghost use Rattle.std.specs.Prelude.{◌≡◌, ℕ, IfOk, IfErr};
+// Callers that join, starts that end, and passes that are made and taken in.
+ghost use Rattle.std.specs.Prelude.{◌≡◌, ℕ, IfOk, IfErr, IfSome};
 ghost use Rattle.scm_model.specs.declared.steps.Answer.TheVariants as answers;
 ghost use Rattle.book_rule.specs.Seats.{Waits};
 ghost use Rattle.scm_book.specs.Holds.{Opens};
 ghost use Rattle.scm_book.specs.Joins.{JoinCause, JoinEndsAt, JoinEndsBy, JoinsBy, TakesIn};
 ghost use Rattle.scm_book.specs.Joins.{WatchesBy, accompanied, fresh};
 ghost use Rattle.scm_book.specs.Passes.{IsOf};
-ghost use Rattle.scm_book.specs.Turns.{IsSeated, KeepsAllBy, of_badge};
+ghost use Rattle.scm_book.specs.Turns.{IsSeated, KeepsAllBy, of_badge, HasTurn};
+ghost use Rattle.scm_book.specs.Called.{IsReply};
+ghost use Rattle.scm_book.specs.Looks.{EndTold};
+ghost use Rattle.scm_book.specs.Starts.{AlwaysThere, DidEnd, IsEndBy, IsThere};
 
-use crate::answers::JoinFault;
-use crate::doubled::PendingEntry;
+use crate::answers::{EndLook, JoinFault};
 use crate::fault::StepFault;
-use crate::held::Held;
+use crate::held::{Held, Owed, PendingEntry};
 use crate::pass::Pass;
-use crate::shared::Shared;
+use crate::turning::{Shared, reply_of};
 use atomic_table::Badge;
 use book_rule::{TurnSeat, View};
 use record_journal::Keeper;
@@ -49,8 +51,7 @@ impl<K: Keeper> Shared<K> {
         match self.make_at(rt, moment, &mut joined, seat) {
             Ok(told) => Ok(caller_of(told)),
             Err(StepFault::NotNow) => Err(JoinFault::TooMany),
-            Err(StepFault::Full) => Err(JoinFault::Full),
-            Err(StepFault::OutOfMemory) => Err(JoinFault::OutOfMemory),
+            Err(StepFault::Unmade(fault)) => Err(JoinFault::Unmade(fault)),
         }
     }
 
@@ -132,5 +133,64 @@ impl<K: Keeper> Shared<K> {
         let other = self.sit(&mut spent);
         self.turn.merge(&mut mine, other);
         *by = self.stand(mine);
+    }
+}
+
+impl<K: Keeper> Shared<K> {
+    /// Answers a start whose plan is decided, with the turn held; none where it is undecided.
+    fn add_end<R: Wait>(
+        &self,
+        rt: &R,
+        moment: u64,
+        plan: u64,
+        by: u64,
+        held: Box<Held<K>>,
+        seat: &mut TurnSeat<Held<K>>,
+    ) -> Option<Answer>
+        requires turn { HasTurn K.held K.faults self.now.turn seat.old held.value }
+        requires there { IsThere self.now.turn.opening seat.old.me.0.seen seat.old.me.0.names by
+            plan }
+        ensures did { DidEnd K.held K.faults self.now.turn seat.old seat.new moment by plan result }
+        ensures waits { Waits self.now.turn seat.new }
+    {
+        if held.manager.decided(plan).is_none() {
+            self.turn.unlock(rt, seat, held);
+            return None;
+        }
+        let owed = Owed::EndStart { caller: by, plan };
+        Some(self.add_owed(rt, moment, owed, held, seat))
+    }
+
+    /// Answers a start whose plan is decided at the end of the history; none where it is undecided
+    /// there.
+    pub fn end_by<R: Wait>(
+        &self,
+        rt: &R,
+        moment: u64,
+        plan: u64,
+        caller: u64,
+        badge: &mut Badge<View>,
+    ) -> Option<Answer>
+        requires badge { IsSeated self.now.turn badge.old }
+        requires there { AlwaysThere self.now.turn.opening (of_badge badge.old) caller plan }
+        ensures badge { IsSeated self.now.turn badge.new }
+        ensures ends { IsEndBy self.now.turn.opening badge.old moment caller plan badge.new result }
+    {
+        let mut seat = self.sit(badge);
+        let held = self.turn.enter(rt, &mut seat);
+        let ended = self.add_end(rt, moment, plan, caller, held, &mut seat);
+        *badge = self.stand(seat);
+        ended
+    }
+}
+
+/// The outcome of a look at a start that waits.
+pub fn end_look(ended: Option<Answer>) -> EndLook
+    requires { IfSome ended IsReply }
+    ensures { EndTold ended result }
+{
+    match ended {
+        Some(told) => EndLook::Done(reply_of(told)),
+        None => EndLook::Again,
     }
 }

@@ -6,35 +6,23 @@
 #![tactic(auto)]
 
 mod answers;
-mod beginning;
-mod bell;
 mod bells;
 mod book;
-mod calling;
-mod doubled;
-mod ending;
+mod controlling;
 mod fault;
 mod held;
 mod joining;
-mod launching;
 mod laws;
-mod owed;
 mod pass;
 mod processes;
-mod reporting;
-mod ringing;
-mod shared;
 mod turning;
 
 pub use answers::{CallEnd, EndLook, JoinFault, NotJoined, StartEnd};
-pub use bell::Bell;
+pub use bells::Bell;
 pub use book::{Book, Closed, Opened};
-pub use doubled::PendingEntry;
+pub use controlling::{ControlLook, ControlRoom};
 pub use fault::MakeFault;
-pub use held::Held;
-pub use launching::LaunchRoom;
+pub use held::{Held, Owed, PendingEntry};
 pub use laws::{each_entry_follows, standing_is_kept};
-pub use owed::Owed;
 pub use pass::{Pass, Spent};
-pub use processes::{EndedEnd, LaunchLook};
-pub use reporting::{ControlLook, ReportEnd, TickEnd};
+pub use processes::{EndedEnd, LaunchLook, LaunchRoom, ReportEnd, TickEnd};
