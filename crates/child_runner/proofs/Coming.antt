@@ -6,7 +6,7 @@ use Rattle.std.proofs.KnownBytes.{Consumes-trans, Consumes-whole}
 use Rattle.feed_loop.specs.declared.fed.ReadEnd.TheVariants as fed
 use Rattle.outside.specs.Causes.{Rose}
 use Rattle.outside.specs.Written.{Begins}
-use Rattle.scm_model.specs.declared.flat.Status.{Status}
+use Rattle.child_link.specs.declared.lines.Reported.{Reported}
 use Rattle.book_rule.specs.declared.view.Opening.{Opening}
 use Rattle.scm_book.specs.declared.fault.MakeFault.{MakeFault}
 use Rattle.scm_book.specs.declared.fault.MakeFault.TheVariants as lacks
@@ -21,12 +21,12 @@ use Rattle.child_runner.proofs.Stretches.{chain_append}
 all_of : (left left_now : Option (List ℕ)) (read : List ℕ) → Consumes left left_now read → IsAtEnd left_now → IsAll left read
 all_of left left_now read consumed end = Consumes-whole left left_now read (λ (bytes : List ℕ). read ≡ bytes) consumed end refl
 
-shorter : (front : List Status) (next : Status) (all : List Status) → Begins (front ++ next ∷ []) all → Begins front all
+shorter : (front : List Reported) (next : Reported) (all : List Reported) → Begins (front ++ next ∷ []) all → Begins front all
 shorter front next all begins = (next ∷ begins.0, begins.1 ∙ append_assoc front (next ∷ []) begins.0)
 
 -- the first reports of what was read were made
 pub record SoFar (tells : ℕ → Type 0) (o : Opening) (process : ℕ) (k m : Known) (read line : List ℕ) : Type 0 where
-  pub done : List Status
+  pub done : List Reported
   pub has : HasRead read done line
   pub chain : Chain tells o process k m done
 
@@ -35,9 +35,9 @@ pub one_piece : (tells : ℕ → Type 0) (o : Opening) (process : ℕ) (k m now 
     → SoFar tells o process k m read line
     → GoesOn tells o process piece line line' m now → SoFar tells o process k now (read ++ piece) line'
 one_piece tells o process k m now read line piece line' on goes = record {
-  done = on.done ++ goes.statuses;
+  done = on.done ++ goes.heard;
   has = goes.reads read on.done on.has;
-  chain = chain_append tells o process k m now on.done goes.statuses on.chain goes.chain;
+  chain = chain_append tells o process k m now on.done goes.heard on.chain goes.chain;
 }
 
 module _ (tells : ℕ → Type 0) (o : Opening) (process : ℕ) (k m : Known) (left left_now : Option (List ℕ)) (read line : List ℕ)
@@ -64,19 +64,19 @@ module _ (tells : ℕ → Type 0) (o : Opening) (process : ℕ) (k m : Known) (l
   module _ (piece line' : List ℕ) (now : Known) (count : ℕ) (consumed : Consumes left left_now (read ++ piece))
       (counted : count ≡ length read + length piece) (much : count ≤ 2 ^ 40) where
     next_is : (why : MakeFault) (s : Stops tells o process piece line line' m now why) (more : List ℕ)
-        → Begins ((on.done ++ s.statuses) ++ s.next ∷ []) (reports ((read ++ piece) ++ more))
+        → Begins ((on.done ++ s.heard) ++ s.next ∷ []) (reports ((read ++ piece) ++ more))
     next_is why s more =
-        subst (λ (front : List Status). Begins front (reports ((read ++ piece) ++ more)))
-        (sym (append_assoc on.done s.statuses (s.next ∷ [])))
-        (subst (λ (bs : List ℕ). Begins (on.done ++ (s.statuses ++ s.next ∷ [])) (reports bs)) (sym (append_assoc read piece more))
+        subst (λ (front : List Reported). Begins front (reports ((read ++ piece) ++ more)))
+        (sym (append_assoc on.done s.heard (s.next ∷ [])))
+        (subst (λ (bs : List ℕ). Begins (on.done ++ (s.heard ++ s.next ∷ [])) (reports bs)) (sym (append_assoc read piece more))
         (s.follows read on.done on.has more))
 
     came_to : (why : MakeFault) (s : Stops tells o process piece line line' m now why)
-        → CameTo o process s.last now (child_served_as (fed.Stopped why)) left (read ++ piece) (on.done ++ s.statuses)
+        → CameTo o process s.last now (child_served_as (fed.Stopped why)) left (read ++ piece) (on.done ++ s.heard)
     came_to lacks.Full s = (s.next, next_is lacks.Full s, s.lacks)
     came_to lacks.OutOfMemory s = (
       s.lacks.learnt,
-      λ more. shorter (on.done ++ s.statuses) s.next (reports ((read ++ piece) ++ more))
+      λ more. shorter (on.done ++ s.heard) s.next (reports ((read ++ piece) ++ more))
           (next_is lacks.OutOfMemory s more),
     )
 
@@ -84,12 +84,12 @@ module _ (tells : ℕ → Type 0) (o : Opening) (process : ℕ) (k m : Known) (l
         → MakesReports tells o process k now left left_now count (child_served_as (fed.Stopped why))
     report_lacks why s = record {
       read = read ++ piece;
-      done = on.done ++ s.statuses;
+      done = on.done ++ s.heard;
       consumed = consumed;
       counted = counted ∙ sym (length-append read piece);
       most = (let long = length-append read piece in omega (arith, long, counted, much));
       last = s.last;
-      chain = chain_append tells o process k m s.last on.done s.statuses on.chain s.chain;
+      chain = chain_append tells o process k m s.last on.done s.heard on.chain s.chain;
       came = came_to why s;
     }
 

@@ -4,10 +4,11 @@ use Rattle.std.proofs.Common.{append-nil}
 use Rattle.std.specs.Prelude.{slice_get}
 use Rattle.std.proofs.lemmas.List.Elements.{All-cons, All-nil}
 use mathlib.Core.List.{IsPrefix}
-use Rattle.scm_model.specs.declared.flat.Status.{Status}
+use Rattle.child_link.specs.declared.lines.Reported.{Reported}
+use Rattle.child_link.specs.Lines.{report_step}
 use Rattle.scm_model.specs.declared.steps.Answer.{Answer}
 use Rattle.scm_model.specs.declared.steps.Step.{Step}
-use Rattle.scm_model.specs.declared.steps.Step.TheVariants.{Ended, Report}
+use Rattle.scm_model.specs.declared.steps.Step.TheVariants.{Ended}
 use Rattle.scm_model.specs.Entries.{Entry}
 use Rattle.book_rule.specs.declared.view.Opening.{Opening}
 use Rattle.book_rule.proofs.Prefixes.{prefix_self, prefix_snoc, prefix_trans}
@@ -66,9 +67,9 @@ module _ (o : Opening) (process : ℕ) where
 
   module _ (tells : ℕ → Type 0) where
     -- what the reports of a chain leave
-    pub record Left (k k' : Known) (statuses : List Status) : Type 0 where
+    pub record Left (k k' : Known) (heard : List Reported) : Type 0 where
       pub entries : List Entry
-      pub reports : AreReports tells process statuses entries
+      pub reports : AreReports tells process heard entries
       pub places : List ℕ
       pub own : k'.own ≡ k.own ++ places
       pub stand : EntriesStandAt k'.seen places entries
@@ -86,35 +87,35 @@ module _ (o : Opening) (process : ℕ) where
       caller = refl;
     }
 
-    left_more : (k m k' : Known) (status : Status) (more : List Status) → IsReported tells o process k status m → Left m k' more
-        → Left k k' (status ∷ more)
-    left_more k m k' status more first rest =
+    left_more : (k m k' : Known) (report : Reported) (more : List Reported) → IsReported tells o process k report m → Left m k' more
+        → Left k k' (report ∷ more)
+    left_more k m k' report more first rest =
         let made = first.made.made in
-        let e : Entry = (first.moment, Report process 0 status) in
+        let e : Entry = (first.moment, report_step process report) in
         let place : ℕ = length made.before in record {
           entries = e ∷ rest.entries;
           reports = record {
-            steps = ap (λ (ss : List Step). Report process 0 status ∷ ss) rest.reports.steps;
+            steps = ap (λ (ss : List Step). report_step process report ∷ ss) rest.reports.steps;
             told = All-cons (λ (e : Entry). tells e.0) e rest.entries first.told rest.reports.told;
           };
           places = place ∷ rest.places;
           own = rest.own ∙ (ap (λ (ps : List ℕ). ps ++ rest.places) made.own ∙ append_assoc k.own (place ∷ []) rest.places);
           stand = (
-            there_behind m.seen k'.seen place e rest.longer (made_there k m first.moment (Report process 0 status) first.answer made),
+            there_behind m.seen k'.seen place e rest.longer (made_there k m first.moment (report_step process report) first.answer made),
             rest.stand,
           );
-          longer = prefix_trans k.seen m.seen k'.seen (longer_made k m first.moment (Report process 0 status) first.answer made)
+          longer = prefix_trans k.seen m.seen k'.seen (longer_made k m first.moment (report_step process report) first.answer made)
               rest.longer;
           caller = rest.caller ∙ made.caller;
         }
 
-    pub left_behind : (k k' : Known) (statuses : List Status) → Chain tells o process k k' statuses → Left k k' statuses
+    pub left_behind : (k k' : Known) (heard : List Reported) → Chain tells o process k k' heard → Left k k' heard
     left_behind k k' [] same = subst (λ (x : Known). Left k x []) (sym same) (left_none k)
-    left_behind k k' (status ∷ more) chain = left_more k chain.0 k' status more chain.1 (left_behind chain.0 k' more chain.2)
+    left_behind k k' (report ∷ more) chain = left_more k chain.0 k' report more chain.1 (left_behind chain.0 k' more chain.2)
 
     -- what ended the reading added no place
-    left_learnt : (k last stood : Known) (statuses : List Status) → Left k last statuses → Learnt o last stood → Left k stood statuses
-    left_learnt k last stood statuses left learnt = record {
+    left_learnt : (k last stood : Known) (heard : List Reported) → Left k last heard → Learnt o last stood → Left k stood heard
+    left_learnt k last stood heard left learnt = record {
       entries = left.entries;
       reports = left.reports;
       places = left.places;
@@ -124,15 +125,15 @@ module _ (o : Opening) (process : ℕ) where
       caller = learnt.caller ∙ left.caller;
     }
 
-    left_same : (k last stood : Known) (statuses : List Status) → Left k last statuses → stood ≡ last → Left k stood statuses
-    left_same k last stood statuses left same = subst (λ (x : Known). Left k x statuses) (sym same) left
+    left_same : (k last stood : Known) (heard : List Reported) → Left k last heard → stood ≡ last → Left k stood heard
+    left_same k last stood heard left same = subst (λ (x : Known). Left k x heard) (sym same) left
 
-    pub left_stood : (how : ChildServed) (k last stood : Known) (statuses : List Status) → Left k last statuses → PassLeft o how last stood
-        → Left k stood statuses
-    left_stood served.Full k last stood statuses left leaves = left_learnt k last stood statuses left leaves
-    left_stood served.OutOfMemory k last stood statuses left (inl same) = left_same k last stood statuses left same
-    left_stood served.OutOfMemory k last stood statuses left (inr learnt) = left_learnt k last stood statuses left learnt
-    left_stood how k last stood statuses left leaves = left_same k last stood statuses left leaves
+    pub left_stood : (how : ChildServed) (k last stood : Known) (heard : List Reported) → Left k last heard → PassLeft o how last stood
+        → Left k stood heard
+    left_stood served.Full k last stood heard left leaves = left_learnt k last stood heard left leaves
+    left_stood served.OutOfMemory k last stood heard left (inl same) = left_same k last stood heard left same
+    left_stood served.OutOfMemory k last stood heard left (inr learnt) = left_learnt k last stood heard left learnt
+    left_stood how k last stood heard left leaves = left_same k last stood heard left leaves
 
     -- ## The end
 
@@ -149,10 +150,10 @@ module _ (o : Opening) (process : ℕ) where
     pub end_caller : (stood k' : Known) (moment : ℕ) (ended : EndedEnd) → EndedSo o stood moment process ended k' → k'.caller ≡ stood.caller
     end_caller stood k' moment ended so = (made_end stood k' moment ended so).caller
 
-    pub has_reported : (k stood k' : Known) (statuses : List Status) (moment : ℕ) (ended : EndedEnd) → Left k stood statuses → tells moment
+    pub has_reported : (k stood k' : Known) (heard : List Reported) (moment : ℕ) (ended : EndedEnd) → Left k stood heard → tells moment
         → EndedSo o stood moment process ended k'
-        → HasReported tells o process k k' statuses
-    has_reported k stood k' statuses moment ended left told so =
+        → HasReported tells o process k k' heard
+    has_reported k stood k' heard moment ended left told so =
         let made = made_end stood k' moment ended so in
         let place : ℕ = length made.before in record {
           entries = left.entries;

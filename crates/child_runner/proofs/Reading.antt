@@ -7,7 +7,7 @@ use Rattle.std.proofs.lemmas.Bool.{cases_lt}
 use Rattle.std.proofs.lemmas.List.{length-take, take-append-le, take_all}
 use Rattle.std.proofs.lemmas.List.Elements.{All-append, All-cons, All-nil}
 use Rattle.std.proofs.lemmas.List.Splits.{length-slice_split, slice_split_at, slice_split_none}
-use Rattle.scm_model.specs.declared.flat.Status.{Status}
+use Rattle.child_link.specs.declared.lines.Reported.{Reported}
 use Rattle.child_link.specs.Cutting.{kept, kept_with}
 use Rattle.child_link.specs.Lines.{stated}
 use Rattle.child_link.proofs.Kept.{kept_report}
@@ -80,7 +80,8 @@ has_none = record {
 }
 
 -- one byte more of a line
-pub one_byte : (read : List ℕ) (before : List Status) (line line' : List ℕ) (byte : ℕ) → (byte == 10) ≡ false → line' ≡ kept_with line byte
+pub one_byte : (read : List ℕ) (before : List Reported) (line line' : List ℕ) (byte : ℕ) → (byte == 10) ≡ false
+    → line' ≡ kept_with line byte
     → HasRead read before line → HasRead (read ++ byte ∷ []) before line'
 one_byte read before line line' byte other is has = record {
   lines = has.lines;
@@ -94,7 +95,7 @@ one_byte read before line line' byte other is has = record {
 }
 
 -- a line feed, behind which this follows
-pub feed_told : (read : List ℕ) (before : List Status) (line : List ℕ) (found : Option Status) → found ≡ stated (line ++ 10 ∷ [])
+pub feed_told : (read : List ℕ) (before : List Reported) (line : List ℕ) (found : Option Reported) → found ≡ stated (line ++ 10 ∷ [])
     → HasRead read before line → (more : List ℕ)
     → reports (read ++ 10 ∷ more) ≡ (before ++ option_to_list found) ++ reports more
 feed_told read before line found is has more =
@@ -103,11 +104,11 @@ feed_told read before line found is has more =
     ap (λ (bs : List ℕ). reports (bs ++ 10 ∷ more)) has.parts
     ∙ (ap reports (append_assoc has.lines has.rest (10 ∷ more))
     ∙ (has.told (has.rest ++ 10 ∷ more)
-    ∙ (ap (λ (ss : List Status). before ++ ss) (whole_line has.rest more has.one_line
-    ∙ (ap (λ (o : Option Status). cons_option o (reports more)) (sym same) ∙ cons_as_append found (reports more)))
+    ∙ (ap (λ (ss : List Reported). before ++ ss) (whole_line has.rest more has.one_line
+    ∙ (ap (λ (o : Option Reported). cons_option o (reports more)) (sym same) ∙ cons_as_append found (reports more)))
     ∙ sym (append_assoc before (option_to_list found) (reports more)))))
 
-pub line_ends : (read : List ℕ) (before : List Status) (line : List ℕ) (found : Option Status) → found ≡ stated (line ++ 10 ∷ [])
+pub line_ends : (read : List ℕ) (before : List Reported) (line : List ℕ) (found : Option Reported) → found ≡ stated (line ++ 10 ∷ [])
     → HasRead read before line
     → HasRead (read ++ 10 ∷ []) (before ++ option_to_list found) []
 line_ends read before line found is has = record {
@@ -121,7 +122,7 @@ line_ends read before line found is has = record {
 
 -- ## All that was read
 
-pub all_told : (read : List ℕ) (before : List Status) (line : List ℕ) → HasRead read before line → before ≡ reports read
+pub all_told : (read : List ℕ) (before : List Reported) (line : List ℕ) → HasRead read before line → before ≡ reports read
 all_told read before line has =
-    sym (ap reports has.parts ∙ (has.told has.rest ∙ (ap (λ (ss : List Status). before ++ ss) (rest_alone has.rest has.one_line)
+    sym (ap reports has.parts ∙ (has.told has.rest ∙ (ap (λ (ss : List Reported). before ++ ss) (rest_alone has.rest has.one_line)
     ∙ append-nil before)))

@@ -1,6 +1,6 @@
 -- Controls that a pass takes one after another, and their lines.
 use Rattle.std.proofs.Common.{◌≡◌, ◌≤◌, ◌∙◌, ◌+◌, ℕ, List, [], ◌∷◌, ◌++◌, length, Option, None, Some, true, inl, inr, refl, sym, ap, subst}
-use Rattle.std.proofs.Common.{append_assoc, append-nil, length-append, arith}
+use Rattle.std.proofs.Common.{append_assoc, append-nil, cond, eq-eqb, length-append, arith}
 use Rattle.std.specs.List.{AllZip}
 use Rattle.std.specs.Io.KnownBytes.{Appends}
 use Rattle.std.proofs.KnownBytes.{Appends-nil, Appends-trans}
@@ -10,32 +10,38 @@ use Rattle.scm_model.specs.declared.flat.Order.{Order}
 use Rattle.scm_model.specs.declared.steps.Answer.TheVariants as answers
 use Rattle.scm_model.specs.declared.steps.Step.TheVariants.{ControlTaken}
 use Rattle.scm_model.specs.Entries.{Entry}
+use Rattle.scm_model.specs.Rows.{service_of}
+use Rattle.scm_text.specs.TextWithRoom.{TextWithRoom}
 use Rattle.scm_rules.specs.Histories.{answer, state}
 use Rattle.scm_rules.specs.Steps.{step_of}
 use Rattle.scm_runs.proofs.Histories.{told}
 use Rattle.book_rule.specs.declared.view.Opening.{Opening}
 use Rattle.book_rule.proofs.Prefixes.{prefix_length, prefix_self, prefix_snoc, prefix_trans}
-use Rattle.scm_book.specs.Passes.{FindsNoMemory, FindsNoRoom, KeepsAll, Known, Learnt, Made, MadeSo, may_behind, room_behind}
-use Rattle.scm_book.specs.Reporting.{waiting_behind}
+use Rattle.scm_book.specs.declared.fault.MakeFault.{MakeFault}
+use Rattle.scm_book.specs.declared.fault.MakeFault.TheVariants as makes
+use Rattle.scm_book.specs.Passes.{FindsFault, FindsNoMemory, FindsNoRoom, KeepsAll, Known, Learnt, Made, may_behind, room_behind}
+use Rattle.scm_book.specs.declared.controlling.HandedOrder.{HandedOrder}
+use Rattle.scm_book.specs.Reporting.{HandsOver, TakesOrder, name_in, waiting_behind, with_name_for}
 use Rattle.child_runner.specs.declared.sending.ControlsSent.{ControlsSent}
 use Rattle.child_runner.specs.declared.sending.ControlsSent.TheVariants as sent
-use Rattle.child_runner.specs.Sending.{AreLines, AreRisingFrom, FeedCause, GoesOn, HasReason, IsBehindOwn, MayEnd, Sends, Takes, TookAt}
-use Rattle.child_runner.specs.Sending.{WritesLine, control_lines, order_line}
+use Rattle.child_runner.specs.Sending.{AreLines, AreRisingFrom, FeedCause, GoesOn, Handed, HasReason, IsBehindOwn, MayEnd, Sends, Takes}
+use Rattle.child_runner.specs.Sending.{TookAt}
+use Rattle.child_runner.specs.Sending.{WritesLine, control_lines, handed_of, order_line, unsent}
 
 -- ## Lines
 
-lines_append : (orders more : List Order) → control_lines (orders ++ more) ≡ control_lines orders ++ control_lines more
+lines_append : (orders more : List Handed) → control_lines (orders ++ more) ≡ control_lines orders ++ control_lines more
 lines_append orders more = flat_map-append order_line orders more
 
-line_of_one : (order : Order) → control_lines (order ∷ []) ≡ order_line order
+line_of_one : (order : Handed) → control_lines (order ∷ []) ≡ order_line order
 line_of_one order = append-nil (order_line order)
 
-whole_behind : (orders more : List Order) (text : List ℕ) → text ≡ control_lines more → control_lines orders
+whole_behind : (orders more : List Handed) (text : List ℕ) → text ≡ control_lines more → control_lines orders
     ++ text ≡ control_lines (orders ++ more)
 whole_behind orders more text is = ap (λ t. control_lines orders ++ t) is ∙ sym (lines_append orders more)
 
 -- lines behind those of controls that came before
-lines_behind : (how : ControlsSent) (orders more : List Order) (text : List ℕ) → AreLines how more text
+lines_behind : (how : ControlsSent) (orders more : List Handed) (text : List ℕ) → AreLines how more text
     → AreLines how (orders ++ more) (control_lines orders ++ text)
 lines_behind sent.WriteFault orders more text lines = record {
   whole = orders ++ lines.whole;
@@ -69,7 +75,7 @@ keeps_then o k m k' first then = record {
   plans = λ plan has. then.plans plan (first.plans plan has);
 }
 
-zip_append : (R : ℕ → Order → Type 0) (xs ys : List ℕ) (vs ws : List Order) → AllZip R xs vs → AllZip R ys ws
+zip_append : (R : ℕ → Handed → Type 0) (xs ys : List ℕ) (vs ws : List Handed) → AllZip R xs vs → AllZip R ys ws
     → AllZip R (xs ++ ys) (vs ++ ws)
 zip_append R [] ys [] ws first then = then
 zip_append R (x ∷ xs) ys (v ∷ vs) ws first then = (first.0, zip_append R xs ys vs ws first.1 then)
@@ -85,7 +91,7 @@ rises_from least more (place ∷ places) few rising = (let from : more ≤ place
 -- ## Controls that are taken
 
 module _ (tells : ℕ → Type 0) (o : Opening) (process : ℕ) where
-  took_still : (log more : List Entry) (place : ℕ) (order : Order) → TookAt tells o process log place order
+  took_still : (log more : List Entry) (place : ℕ) (order : Handed) → TookAt tells o process log place order
       → TookAt tells o process (log ++ more) place order
   took_still log more place order took =
       let l = o.limits in
@@ -107,22 +113,24 @@ module _ (tells : ℕ → Type 0) (o : Opening) (process : ℕ) where
         answered =
             then ∙ (sym first ∙ took.answered);
         room = took.room;
+        shared = took.shared;
+        named = took.named;
       }
 
-  all_still : (log more : List Entry) (places : List ℕ) (orders : List Order) → AllZip (TookAt tells o process log) places orders
+  all_still : (log more : List Entry) (places : List ℕ) (orders : List Handed) → AllZip (TookAt tells o process log) places orders
       → AllZip (TookAt tells o process (log ++ more)) places orders
   all_still log more [] [] all = tt
   all_still log more (place ∷ places) (order ∷ orders) all = (took_still log more place order all.0, all_still log more places orders all.1)
   all_still log more [] (order ∷ orders) all = absurd all
   all_still log more (place ∷ places) [] all = absurd all
 
-  all_behind : (log longer : List Entry) (places : List ℕ) (orders : List Order) → IsPrefix log longer
+  all_behind : (log longer : List Entry) (places : List ℕ) (orders : List Handed) → IsPrefix log longer
       → AllZip (TookAt tells o process log) places orders
       → AllZip (TookAt tells o process longer) places orders
   all_behind log longer places orders is all = subst (λ (es : List Entry). AllZip (TookAt tells o process es) places orders) is.1
       (all_still log is.0 places orders all)
 
-  took_within : (log : List Entry) (place : ℕ) (order : Order) → TookAt tells o process log place order → place + 1 ≤ length log
+  took_within : (log : List Entry) (place : ℕ) (order : Handed) → TookAt tells o process log place order → place + 1 ≤ length log
   took_within log place order took =
       let e : Entry = (took.moment, ControlTaken process) in
       let all : length log ≡ length (took.front ++ e ∷ took.rest) = ap length took.is in
@@ -131,7 +139,7 @@ module _ (tells : ℕ → Type 0) (o : Opening) (process : ℕ) where
       let at : place ≡ length took.front = took.at in omega arith
 
   -- places of what was seen before, and then places behind that
-  rises_then : (log : List Entry) (least : ℕ) (places : List ℕ) (orders : List Order) (more : List ℕ) → least ≤ length log
+  rises_then : (log : List Entry) (least : ℕ) (places : List ℕ) (orders : List Handed) (more : List ℕ) → least ≤ length log
       → AllZip (TookAt tells o process log) places orders
       → AreRisingFrom least places → AreRisingFrom (length log) more → AreRisingFrom least (places ++ more)
   rises_then log least [] [] more few all first then = rises_from least (length log) more few then
@@ -170,11 +178,18 @@ module _ (tells : ℕ → Type 0) (o : Opening) (process : ℕ) where
     same = learnt.same;
   }
 
-  made_takes : (k k' : Known) (moment : ℕ) (order : Order) → tells moment
-      → (made : Made o k moment (ControlTaken process) (answers.Control order) k')
+  -- the name that lies in the room, for a service that is to start
+  name_for : (order : Order) (name : List ℕ) (room room' : TextWithRoom) → room' ≡ with_name_for order name room → order.code ≡ 0
+      → room'.units ≡ name
+  name_for order name room room' is start =
+      ap (λ (t : TextWithRoom). t.units) is ∙ ap (λ b. cond b name room.units) (eq-eqb order.code 0 start)
+
+  made_takes : (k k' : Known) (moment : ℕ) (room room' : TextWithRoom) (handed : HandedOrder) → tells moment
+      → (made : Made o k moment (ControlTaken process) (answers.Control handed.order) k')
       → room_behind o made.before (ControlTaken process) ≡ true
-      → Takes tells o process k (order ∷ []) k'
-  made_takes k k' moment order told made room = record {
+      → HandsOver (state o.limits o.first made.before) process room room' handed
+      → Takes tells o process k (handed_of handed.order handed.shared room'.units ∷ []) k'
+  made_takes k k' moment room room' handed told made free hands = record {
     longer = subst (IsPrefix k.seen) (sym made.seen) (prefix_snoc k.seen made.before (moment, ControlTaken process) made.longer);
     legal = λ legal. made.legal;
     places = length made.before ∷ [];
@@ -189,7 +204,10 @@ module _ (tells : ℕ → Type 0) (o : Opening) (process : ℕ) where
         at = refl;
         told = told;
         answered = made.answer;
-        room = room;
+        room = free;
+        shared = hands.shared;
+        named = name_for handed.order (name_in (service_of (state o.limits o.first made.before) handed.order.service)) room room'
+            hands.name;
       },
       tt,
     );
@@ -204,12 +222,13 @@ module _ (tells : ℕ → Type 0) (o : Opening) (process : ℕ) where
     same = made.same;
   }
 
-  pub takes_one : (k k' : Known) (moment : ℕ) (order : Order) → tells moment
-      → MadeSo o k moment (ControlTaken process) (answers.Control order) k'
-      → Takes tells o process k (order ∷ []) k'
-  takes_one k k' moment order told so = made_takes k k' moment order told so.made so.room
+  pub takes_one : (k k' : Known) (moment : ℕ) (room room' : TextWithRoom) (handed : HandedOrder) → tells moment
+      → TakesOrder o k moment process room room' handed k'
+      → Takes tells o process k (handed_of handed.order handed.shared room'.units ∷ []) k'
+  takes_one k k' moment room room' handed told takes =
+      made_takes k k' moment room room' handed told takes.so.made takes.so.room takes.hands
 
-  takes_then : (k m k' : Known) (orders more : List Order) → Takes tells o process k orders m → Takes tells o process m more k'
+  takes_then : (k m k' : Known) (orders more : List Handed) → Takes tells o process k orders m → Takes tells o process m more k'
       → Takes tells o process k (orders ++ more) k'
   takes_then k m k' orders more first then = record {
     longer = prefix_trans k.seen m.seen k'.seen first.longer then.longer;
@@ -243,7 +262,7 @@ module _ (tells : ℕ → Type 0) (o : Opening) (process : ℕ) where
       → GoesOn tells o process k held held faults faults k'
   goes_learnt k k' held faults learnt = record { orders = []; takes = takes_learnt k k' learnt; appended = Appends-nil held; kept = refl }
 
-  appends_lines : (held mid now : Option (List ℕ)) (orders : List Order) (text : List ℕ) → Appends held mid (control_lines orders)
+  appends_lines : (held mid now : Option (List ℕ)) (orders : List Handed) (text : List ℕ) → Appends held mid (control_lines orders)
       → Appends mid now text
       → Appends held now (control_lines orders ++ text)
   appends_lines held mid now orders text first then = Appends-trans held mid now (control_lines orders) text first then
@@ -299,7 +318,7 @@ module _ (tells : ℕ → Type 0) (o : Opening) (process : ℕ) where
     pub over : Learnt o k k' → waiting_behind o k'.seen process ≡ None → Ends sent.Over
     over learnt none = ends_so sent.Over (takes_learnt k k' learnt) refl (behind_own learnt, none) refl
 
-    pub full : (moment : ℕ) → tells moment → FindsNoRoom o k (ControlTaken process) k'
+    full : (moment : ℕ) → tells moment → FindsNoRoom o k (ControlTaken process) k'
         → may_behind o k'.seen moment (ControlTaken process) ≡ true → Ends sent.Full
     full moment told finds may =
         ends_so sent.Full (takes_learnt k k' finds.learnt) refl (
@@ -307,11 +326,22 @@ module _ (tells : ℕ → Type 0) (o : Opening) (process : ℕ) where
           record { full = finds.full; moment = moment; told = told; may = may },
         ) refl
 
-    pub no_memory : FindsNoMemory o k (ControlTaken process) k' → Ends sent.OutOfMemory
+    -- there was no memory for a name
+    pub no_name : k' ≡ k → Ends sent.OutOfMemory
+    no_name same = ends_so sent.OutOfMemory (subst (λ (x : Known). Takes tells o process k [] x) (sym same) (takes_none k))
+        (inl refl) tt refl
+
+    no_memory : FindsNoMemory o k (ControlTaken process) k' → Ends sent.OutOfMemory
     no_memory finds = ends_so sent.OutOfMemory (takes_learnt k k' finds.learnt) (inl refl) tt refl
 
+    -- there was no room or no memory for the step
+    pub unmade : (moment : ℕ) → tells moment → (fault : MakeFault) → FindsFault o k (ControlTaken process) fault k'
+        → may_behind o k'.seen moment (ControlTaken process) ≡ true → (how : ControlsSent) → how ≡ unsent fault → Ends how
+    unmade moment told makes.Full finds may how is = subst Ends (sym is) (full moment told finds may)
+    unmade moment told makes.OutOfMemory finds may how is = subst Ends (sym is) (no_memory finds)
+
   -- a control was taken, and this became of its line
-  module _ (may_ask : Type 0) (k k' : Known) (order : Order) (held held_now : Option (List ℕ)) (faults faults_now : ℕ)
+  module _ (may_ask : Type 0) (k k' : Known) (order : Handed) (held held_now : Option (List ℕ)) (faults faults_now : ℕ)
       (takes : Takes tells o process k (order ∷ []) k') where
     pub line_ends : (end : Option ControlsSent) → WritesLine order held held_now faults faults_now end
         → MayEnd tells o process may_ask k held held_now faults faults_now end k'

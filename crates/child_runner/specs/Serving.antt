@@ -7,12 +7,13 @@ use Rattle.feed_loop.specs.declared.fed.ReadEnd.{ReadEnd}
 use Rattle.feed_loop.specs.declared.fed.ReadEnd.TheVariants as fed
 use Rattle.outside.specs.Causes.{Rose}
 use Rattle.outside.specs.Written.{Begins}
-use Rattle.scm_model.specs.declared.flat.Status.{Status}
+use Rattle.child_link.specs.declared.lines.Reported.{Reported}
 use Rattle.scm_model.specs.declared.steps.Step.TheVariants as steps
 use Rattle.scm_model.specs.Entries.{Entry}
 use Rattle.book_rule.specs.declared.view.Opening.{Opening}
 use Rattle.book_rule.specs.Ways.{Has}
 use Rattle.child_link.specs.Children.{HasEnded}
+use Rattle.child_link.specs.Lines.{report_step}
 use Rattle.scm_book.specs.declared.fault.MakeFault.{MakeFault}
 use Rattle.scm_book.specs.declared.fault.MakeFault.TheVariants as lacks
 use Rattle.scm_book.specs.declared.processes.EndedEnd.{EndedEnd}
@@ -49,13 +50,13 @@ pub record ReadsOn (left left_now : Option (List ℕ)) (count faults faults_now 
   pub caused : (faults_now ≡ faults) ⊎ Rose faults faults_now
 
 -- the limits have no room for the report that comes next, after what the pass has seen
-pub record HasNoRoom (o : Opening) (process : ℕ) (k : Known) (read : List ℕ) (done : List Status) : Type 0 where
-  pub next : Status
+pub record HasNoRoom (o : Opening) (process : ℕ) (k : Known) (read : List ℕ) (done : List Reported) : Type 0 where
+  pub next : Reported
   pub follows : Begins (done ++ next ∷ []) (reports read)
-  pub full : room_behind o k.seen (steps.Report process 0 next) ≡ false
+  pub full : room_behind o k.seen (report_step process next) ≡ false
 
 -- How far the reports of what was read came, by what is answered.
-abbrev pub HowFar : Opening → ℕ → Known → ChildServed → (left : Option (List ℕ)) → (read : List ℕ) → List Status → Type 0
+abbrev pub HowFar : Opening → ℕ → Known → ChildServed → (left : Option (List ℕ)) → (read : List ℕ) → List Reported → Type 0
 HowFar o process k served.Ended left read done = IsAll left read × (length read < 2 ^ 40) × (done ≡ reports read)
 HowFar o process k served.ReadFault left read done = (length read < 2 ^ 40) × (done ≡ reports read)
 HowFar o process k served.Worn left read done = (length read ≡ 2 ^ 40) × (done ≡ reports read)
@@ -63,10 +64,10 @@ HowFar o process k served.Full left read done = HasNoRoom o process k read done
 HowFar o process k served.OutOfMemory left read done = Begins done (reports read)
 
 -- How far they came where reading ended or a report wasn't made, whatever follows what was read.
-abbrev pub CameTo : Opening → ℕ → (last now : Known) → ChildServed → (left : Option (List ℕ)) → (read : List ℕ) → List Status → Type 0
+abbrev pub CameTo : Opening → ℕ → (last now : Known) → ChildServed → (left : Option (List ℕ)) → (read : List ℕ) → List Reported → Type 0
 CameTo o process last now served.Full left read done =
-    (next : Status) × ((more : List ℕ) → Begins (done ++ next ∷ []) (reports (read ++ more)))
-    × FindsNoRoom o last (steps.Report process 0 next) now
+    (next : Reported) × ((more : List ℕ) → Begins (done ++ next ∷ []) (reports (read ++ more)))
+    × FindsNoRoom o last (report_step process next) now
 CameTo o process last now served.OutOfMemory left read done = Learnt o last now × ((more : List ℕ) → Begins done (reports (read ++ more)))
 CameTo o process last now how left read done = (now ≡ last) × HowFar o process now how left read done
 
@@ -84,10 +85,10 @@ IsReadFor served.ReadFault faults faults_now = Rose faults faults_now
 IsReadFor how faults faults_now = (faults_now ≡ faults) ⊎ Rose faults faults_now
 
 module _ (tells : ℕ → Type 0) (o : Opening) (process : ℕ) where
-  -- Reports of the first statuses of what was read lead to last.
+  -- The first reports of what was read lead to last.
   pub record MakesReports (k now : Known) (left left_now : Option (List ℕ)) (count : ℕ) (how : ChildServed) : Type 0 where
     pub read : List ℕ
-    pub done : List Status
+    pub done : List Reported
     pub consumed : Consumes left left_now read
     pub counted : count ≡ length read
     pub most : length read ≤ 2 ^ 40
@@ -95,10 +96,10 @@ module _ (tells : ℕ → Type 0) (o : Opening) (process : ℕ) where
     pub chain : Chain tells o process k last done
     pub came : CameTo o process last now how left read done
 
-  -- All was read, and reports of the first statuses of it lead to last; the pass then stands here.
+  -- All was read, and the first reports of it lead to last; the pass then stands here.
   pub record ReadsAll (k stood : Known) (left left_now : Option (List ℕ)) (faults faults_now : ℕ) (how : ChildServed) : Type 0 where
     pub read : List ℕ
-    pub done : List Status
+    pub done : List Reported
     pub consumed : Consumes left left_now read
     pub most : length read ≤ 2 ^ 40
     pub out : IsReadOut left read faults faults_now
@@ -132,16 +133,16 @@ EntriesStandAt log (place ∷ places) (e ∷ entries) = (slice_get log place ≡
 EntriesStandAt log [] (e ∷ entries) = ⊥
 EntriesStandAt log (place ∷ places) [] = ⊥
 
--- these are reports of the statuses, in order, at moments that the clock tells
-pub record AreReports (tells : ℕ → Type 0) (process : ℕ) (statuses : List Status) (entries : List Entry) : Type 0 where
-  pub steps : map (λ (e : Entry). e.1) entries ≡ map (steps.Report process 0) statuses
+-- these entries are the reports, in order, at moments that the clock tells
+pub record AreReports (tells : ℕ → Type 0) (process : ℕ) (heard : List Reported) (entries : List Entry) : Type 0 where
+  pub steps : map (λ (e : Entry). e.1) entries ≡ map (report_step process) heard
   pub told : All (λ (e : Entry). tells e.0) entries
 
 module _ (tells : ℕ → Type 0) (o : Opening) (process : ℕ) where
-  -- The pass's own places are those that it had, and those of reports of these statuses, and last that of the process's end.
-  pub record HasReported (k k' : Known) (statuses : List Status) : Type 0 where
+  -- The pass's own places are those that it had, and those of these reports, and last that of the process's end.
+  pub record HasReported (k k' : Known) (heard : List Reported) : Type 0 where
     pub entries : List Entry
-    pub reports : AreReports tells process statuses entries
+    pub reports : AreReports tells process heard entries
     pub moment : ℕ
     pub told : tells moment
     pub places : List ℕ
@@ -161,10 +162,10 @@ module _ (tells : ℕ → Type 0) (o : Opening) (process : ℕ) where
 -- ## Completeness
 
 -- the limits had room for each of these reports after all that the pass then saw
-abbrev pub HadRoomFor : Opening → ℕ → Known → Known → List Status → Type 0
-HadRoomFor o process k k' statuses =
-    (log : List Entry) (status : Status) → IsPrefix k.seen log → IsPrefix log k'.seen → Has status statuses
-    → room_behind o log (steps.Report process 0 status) ≡ true
+abbrev pub HadRoomFor : Opening → ℕ → Known → Known → List Reported → Type 0
+HadRoomFor o process k k' heard =
+    (log : List Entry) (report : Reported) → IsPrefix k.seen log → IsPrefix log k'.seen → Has report heard
+    → room_behind o log (report_step process report) ≡ true
 
 -- Where the link tells its bytes, fewer than a child may have, its count didn't rise, and there was room, all reports were made and the
 -- answer is

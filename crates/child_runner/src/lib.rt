@@ -5,8 +5,6 @@
 mod fault;
 mod launching;
 mod quitting;
-mod reporter;
-mod reports;
 mod sending;
 mod served;
 mod serving;
@@ -14,6 +12,6 @@ mod serving;
 pub use fault::LaunchFault;
 pub use launching::{LaunchEnd, launch_one};
 pub use quitting::BellQuit;
-pub use sending::{ControlsEnded, ControlsSent, send_controls, write_controls};
+pub use sending::{ControlsEnded, ControlsSent, Sender, send_controls};
 pub use served::{ChildEnded, ChildServed};
 pub use serving::serve_child;

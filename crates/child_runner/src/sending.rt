@@ -1,12 +1,12 @@
-ghost use Rattle.std.specs.Prelude.{◌≡◌};
+ghost use Rattle.std.specs.Prelude.{◌≡◌, ◌≤◌};
 ghost use Rattle.scm_book.specs.Passes.{IsOf, KeepsAll};
-ghost use Rattle.child_runner.specs.Sending.{MayEnd, Sends, WritesLine};
+ghost use Rattle.child_runner.specs.Sending.{MayEnd, Sends, WritesLine, handed_of, unsent};
 
 use child_link::{Feed, control_line};
 use outside::{Clock, write_all};
 use process_runner::Quit;
 use record_journal::Keeper;
-use scm_book::{Book, ControlLook, Pass, Spent};
+use scm_book::{Book, ControlLook, ControlRoom, MakeFault, Pass, Spent};
 use scm_model::Order;
 use std::alloc::Global;
 use std::sync::Wait;
@@ -22,8 +22,8 @@ pub enum ControlsSent {
     Full,
     /// The feed failed. The control that was taken last isn't written, or in part.
     WriteFault,
-    /// There was no memory for the taking of a control, or for the line of the one that was taken
-    /// last.
+    /// There was no memory for a name, for the taking of a control, or for the line of the one that
+    /// was taken last.
     OutOfMemory,
 }
 
@@ -34,12 +34,29 @@ pub struct ControlsEnded {
     pub spent: Spent,
 }
 
-/// Writes the line of a control, and tells what ended the sending there, if something did.
-fn send_line<F: Feed>(alloc: Global, feed: &mut F, order: Order) -> Option<ControlsSent>
-    ensures { WritesLine order (F.held feed.old) (F.held feed.new)
+/// What ends the sending if the step that takes an order isn't made.
+fn unsent(fault: MakeFault) -> ControlsSent
+    ensures { result ≡ unsent fault }
+{
+    match fault {
+        MakeFault::Full => ControlsSent::Full,
+        MakeFault::OutOfMemory => ControlsSent::OutOfMemory,
+    }
+}
+
+/// Writes the line of an order to a process that is shared or not, and tells what ended the sending
+/// there, if something did. The name is that of a service that is to start.
+fn send_line<F: Feed>(
+    alloc: Global,
+    feed: &mut F,
+    order: &Order,
+    shared: bool,
+    name: &[u16],
+) -> Option<ControlsSent>
+    ensures { WritesLine (handed_of order.now shared name.now) (F.held feed.old) (F.held feed.new)
         (F.faults feed.old) (F.faults feed.new) result }
 {
-    let Ok(line) = control_line(alloc, order.code) else {
+    let Ok(line) = control_line(alloc, order, shared, name) else {
         return Some(ControlsSent::OutOfMemory);
     };
     let written = write_all(feed, line.as_slice());
@@ -50,74 +67,109 @@ fn send_line<F: Feed>(alloc: Global, feed: &mut F, order: Order) -> Option<Contr
     }
 }
 
-/// Takes the control that waits first and writes its line; if none waits it sleeps until the
-/// process's bell rings. It returns what ended the sending there, if something did.
-fn send_next<R: Wait, K: Keeper, F: Feed, C: Clock, Q: Quit>(
-    rt: &R,
-    alloc: Global,
-    book: &Book<K>,
-    pass: &mut Pass,
-    process: u64,
-    feed: &mut F,
-    clock: &C,
-    quit: &Q,
-) -> Option<ControlsSent>
-    requires book { IsOf book.now pass.old }
-    ensures book { IsOf book.now pass.new }
-    ensures sends { MayEnd (C.tells clock.now) book.now.opening process
-        (Q.may_ask quit.now) pass.old
-        (F.held feed.old) (F.held feed.new) (F.faults feed.old) (F.faults feed.new)
-        result pass.new }
-    ensures keeps { KeepsAll book.now.opening pass.old pass.new }
-{
-    if quit.asked() {
-        return Some(ControlsSent::Shut);
-    }
-    let bell = book.child_bell(process);
-    let seen = bell.count();
-    match book.take_control(rt, pass, clock.now(), process) {
-        ControlLook::Control(order) => send_line(alloc, feed, order),
-        ControlLook::Empty => {
-            bell.wait(rt, seen);
-            None
+/// A process whose controls are sent, and what they are sent with.
+#[derive(Drop)]
+pub struct Sender<'a, R: Wait, K: Keeper, C: Clock, Q: Quit> {
+    pub rt: &'a R,
+    pub alloc: Global,
+    pub book: &'a Book<K>,
+    pub process: u64,
+    pub clock: &'a C,
+    /// It is asked before each look whether the sending is to end.
+    pub quit: &'a Q,
+}
+
+impl<'a, R: Wait, K: Keeper, C: Clock, Q: Quit> Sender<'a, R, K, C, Q> {
+    /// Takes what is sent to the process next and writes its line; if nothing is, it sleeps until
+    /// the process's bell rings. It returns what ended the sending there, if something did.
+    fn send_next<F: Feed>(
+        &self,
+        pass: &mut Pass,
+        feed: &mut F,
+        room: &mut ControlRoom,
+    ) -> Option<ControlsSent>
+        requires book { IsOf self.now.book.now pass.old }
+        requires room { 256 ≤ room.old.name.room }
+        ensures book { IsOf self.now.book.now pass.new }
+        ensures room { 256 ≤ room.new.name.room }
+        ensures sends { MayEnd (C.tells self.now.clock.now) self.now.book.now.opening
+            self.now.process (Q.may_ask self.now.quit.now) pass.old
+            (F.held feed.old) (F.held feed.new) (F.faults feed.old) (F.faults feed.new)
+            result pass.new }
+        ensures keeps { KeepsAll self.now.book.now.opening pass.old pass.new }
+    {
+        if self.quit.asked() {
+            return Some(ControlsSent::Shut);
         }
-        ControlLook::Over => Some(ControlsSent::Over),
-        ControlLook::Full => Some(ControlsSent::Full),
-        ControlLook::OutOfMemory => Some(ControlsSent::OutOfMemory),
+        let bell = self.book.child_bell(self.process);
+        let seen = bell.count();
+        let moment = self.clock.now();
+        match self
+            .book
+            .take_control(self.rt, pass, moment, self.process, room)
+        {
+            ControlLook::Control { order, shared } => {
+                send_line(self.alloc, feed, &order, shared, room.name.units())
+            }
+            ControlLook::Empty => {
+                bell.wait(self.rt, seen);
+                None
+            }
+            ControlLook::Over => Some(ControlsSent::Over),
+            ControlLook::Unmade(fault) => Some(unsent(fault)),
+        }
+    }
+
+    /// Takes what is sent to the process, as it comes, and writes the line of each to its feed,
+    /// until something ends it.
+    fn write_each<F: Feed>(
+        &self,
+        pass: &mut Pass,
+        feed: &mut F,
+        room: &mut ControlRoom,
+    ) -> ControlsSent
+        requires book { IsOf self.now.book.now pass.old }
+        requires room { 256 ≤ room.old.name.room }
+        ensures book { IsOf self.now.book.now pass.new }
+        ensures sends { Sends (C.tells self.now.clock.now) self.now.book.now.opening
+            self.now.process (Q.may_ask self.now.quit.now) pass.old
+            (F.held feed.old) (F.held feed.new) (F.faults feed.old) (F.faults feed.new)
+            result pass.new }
+        ensures keeps { KeepsAll self.now.book.now.opening pass.old pass.new }
+    {
+        for _ in self.rt.forever() {
+            match self.send_next(pass, feed, room) {
+                Some(how) => return how,
+                None => {}
+            }
+        }
+        unreachable!()
+    }
+
+    /// Takes the controls of the process one after another, as they come, and writes the line of
+    /// each to its feed, until the process isn't listed, `quit` asks for the end or a fault comes.
+    /// A shared process is also told which services are to start. Between two looks that find
+    /// nothing it waits on the process's bell.
+    pub fn write_controls<F: Feed>(&self, pass: &mut Pass, feed: &mut F) -> ControlsSent
+        requires book { IsOf self.now.book.now pass.old }
+        ensures book { IsOf self.now.book.now pass.new }
+        ensures sends { Sends (C.tells self.now.clock.now) self.now.book.now.opening
+            self.now.process (Q.may_ask self.now.quit.now) pass.old
+            (F.held feed.old) (F.held feed.new) (F.faults feed.old) (F.faults feed.new)
+            result pass.new }
+        ensures keeps { KeepsAll self.now.book.now.opening pass.old pass.new }
+    {
+        let Ok(mut room) = ControlRoom::new(self.alloc) else {
+            return ControlsSent::OutOfMemory;
+        };
+        let how = self.write_each(pass, feed, &mut room);
+        drop(room);
+        how
     }
 }
 
-/// Takes the controls of a process one after another, as they come, and writes the line of each to
-/// its feed, until the process isn't listed, `quit` asks for the end or a fault comes. Between two
-/// looks that find no control it waits on the process's bell.
-pub fn write_controls<R: Wait, K: Keeper, F: Feed, C: Clock, Q: Quit>(
-    rt: &R,
-    alloc: Global,
-    book: &Book<K>,
-    pass: &mut Pass,
-    process: u64,
-    feed: &mut F,
-    clock: &C,
-    quit: &Q,
-) -> ControlsSent
-    requires book { IsOf book.now pass.old }
-    ensures book { IsOf book.now pass.new }
-    ensures sends { Sends (C.tells clock.now) book.now.opening process (Q.may_ask quit.now) pass.old
-        (F.held feed.old) (F.held feed.new) (F.faults feed.old) (F.faults feed.new)
-        result pass.new }
-    ensures keeps { KeepsAll book.now.opening pass.old pass.new }
-{
-    for _ in rt.forever() {
-        match send_next(rt, alloc, book, pass, process, feed, clock, quit) {
-            Some(how) => return how,
-            None => {}
-        }
-    }
-    unreachable!()
-}
-
-/// Sends a process its controls by a pass that is nobody's, as `write_controls` does, and drops the
-/// feed, which ends the child's input.
+/// Sends a process its controls by a pass that is nobody's, as `Sender::write_controls` does, and
+/// drops the feed, which ends the child's input.
 pub fn send_controls<R: Wait, K: Keeper, F: Feed + Drop, C: Clock, Q: Quit>(
     rt: &R,
     alloc: Global,
@@ -139,7 +191,16 @@ pub fn send_controls<R: Wait, K: Keeper, F: Feed + Drop, C: Clock, Q: Quit>(
 {
     let mut pass = pass;
     let mut feed = feed;
-    let how = write_controls(rt, alloc, book, &mut pass, process, &mut feed, clock, quit);
+    let sender = Sender {
+        rt,
+        alloc,
+        book,
+        process,
+        clock,
+        quit,
+    };
+    let how = sender.write_controls(&mut pass, &mut feed);
+    drop(sender);
     drop(feed);
     let spent = book.gone(rt, pass, clock.now());
     ControlsEnded { how, spent }

@@ -1,21 +1,189 @@
-// A child from its first byte to its end.
-ghost use Rattle.std.specs.Prelude.{◌≡◌, ◌≤◌, ◌^◌, []};
-ghost use Rattle.std.specs.Io.KnownBytes.{Keeps};
+// A child from its first byte to its end: its output, the lines in it, and their reports.
+ghost use Rattle.std.specs.Prelude.{◌≡◌, ◌≤◌, ◌∷◌, [], length, ◌^◌};
 ghost use Rattle.scm_model.specs.declared.flat.Phase.TheVariants as phases;
 ghost use Rattle.scm_book.specs.Passes.{HoldsProcess, IsOf};
+ghost use Rattle.child_runner.specs.Reports.{Fed, Reports};
+ghost use Rattle.std.specs.Io.KnownBytes.{Keeps};
 ghost use Rattle.child_runner.specs.Serving.{IsWhole, IsReadFor, IsEndedFor, MakesReports};
 ghost use Rattle.child_runner.specs.Serving.{ReadsAll, ReadsOn, ServesChild, Awaits};
 ghost use Rattle.child_runner.specs.Serving.{child_served_as, waited_in_vain};
 
-use crate::reporter::{Reporter, Unread};
 use crate::served::{ChildEnded, ChildServed};
-use child_link::{LineCutter, Link};
-use feed_loop::{ReadEnd, feed_all};
+use child_link::{LineCutter, Link, Reported, read_report};
+use feed_loop::{ByteConsumer, ReadEnd, feed_all};
 use outside::{Clock, Failed};
 use record_journal::Keeper;
-use scm_book::{Book, MakeFault, Pass};
+use scm_book::{Book, MakeFault, Pass, ReportEnd};
 use std::alloc::Global;
+use std::convert::Infallible;
 use std::sync::Wait;
+
+/// Makes a report of a process.
+fn report<R: Wait, K: Keeper, C: Clock>(
+    rt: &R,
+    book: &Book<K>,
+    pass: &mut Pass,
+    process: u64,
+    clock: &C,
+    found: &Reported,
+) -> Result<(), MakeFault>
+    requires book { IsOf book.now pass.old }
+    requires process { HoldsProcess book.now.opening pass.old process phases.Launched }
+    ensures book { IsOf book.now pass.new }
+    ensures process { HoldsProcess book.now.opening pass.new process phases.Launched }
+    ensures reports { Reports (C.tells clock.now) book.now.opening process
+        pass.old found.now pass.new result }
+{
+    let Reported { service, status } = *found;
+    match book.report(rt, pass, clock.now(), process, service, &status) {
+        ReportEnd::Taken | ReportEnd::Refused(_) | ReportEnd::Stale => Ok(()),
+        ReportEnd::Unmade(fault) => Err(fault),
+    }
+}
+
+/// Takes a byte, and makes the report that the line is which it ends.
+fn take<R: Wait, K: Keeper, C: Clock>(
+    rt: &R,
+    book: &Book<K>,
+    pass: &mut Pass,
+    process: u64,
+    clock: &C,
+    line: &mut LineCutter,
+    byte: u8,
+) -> Result<(), MakeFault>
+    requires book { IsOf book.now pass.old }
+    requires process { HoldsProcess book.now.opening pass.old process phases.Launched }
+    requires line { length line.old ≤ 4096 }
+    ensures book { IsOf book.now pass.new }
+    ensures process { HoldsProcess book.now.opening pass.new process phases.Launched }
+    ensures line { length line.new ≤ 4096 }
+    ensures fed { Fed (C.tells clock.now) book.now.opening process (byte ∷ [])
+        line.old line.new pass.old pass.new result }
+{
+    if !line.take(byte) {
+        return Ok(());
+    }
+    let found = read_report(line.line());
+    line.clear();
+    match found {
+        Some(found) => report(rt, book, pass, process, clock, &found),
+        None => Ok(()),
+    }
+}
+
+/// Takes a piece of a child's output, and makes the reports that the lines are which end in it.
+pub fn feed<R: Wait, K: Keeper, C: Clock>(
+    rt: &R,
+    book: &Book<K>,
+    pass: &mut Pass,
+    process: u64,
+    clock: &C,
+    line: &mut LineCutter,
+    piece: &[u8],
+) -> Result<(), MakeFault>
+    requires book { IsOf book.now pass.old }
+    requires process { HoldsProcess book.now.opening pass.old process phases.Launched }
+    requires line { length line.old ≤ 4096 }
+    ensures book { IsOf book.now pass.new }
+    ensures process { HoldsProcess book.now.opening pass.new process phases.Launched }
+    ensures line { length line.new ≤ 4096 }
+    ensures fed { Fed (C.tells clock.now) book.now.opening process piece.now
+        line.old line.new pass.old pass.new result }
+{
+    for byte in piece {
+        match take(rt, book, pass, process, clock, line, *byte) {
+            Ok(()) => {}
+            Err(fault) => return Err(fault),
+        }
+    }
+    Ok(())
+}
+
+/// Takes the pieces of a process's output, and makes the reports that its lines are by a pass.
+pub struct Reporter<'a, R: Wait, K: Keeper, C: Clock> {
+    pub rt: &'a R,
+    pub book: &'a Book<K>,
+    pub process: u64,
+    pub clock: &'a C,
+    pub line: LineCutter,
+}
+
+/// A drop of its own: a function that owns one drops it by a call, which is proved once.
+impl<'a, R: Wait, K: Keeper, C: Clock> Drop for Reporter<'a, R, K, C> {
+    fn drop(self) {
+        let Reporter {
+            rt: _rt,
+            book: _book,
+            process: _process,
+            clock: _clock,
+            line,
+        } = self;
+        drop(line);
+    }
+}
+
+impl<'a, R: Wait, K: Keeper, C: Clock> ByteConsumer<Pass, ()> for Reporter<'a, R, K, C> {
+    ghost use Rattle.std.specs.Prelude.{◌≡◌, ◌≤◌, length};
+    ghost use Rattle.scm_model.specs.declared.flat.Phase.TheVariants as phases;
+    ghost use Rattle.scm_book.specs.Passes.{HoldsProcess, IsOf};
+    ghost use Rattle.child_runner.specs.Reports.{GoesOn, Stops, child_parts};
+
+    type Stop = MakeFault;
+
+    ghost ready = { λ a most. IsOf a.eater.book.now a.place
+        × HoldsProcess a.eater.book.now.opening a.place a.eater.process phases.Launched
+        × (length a.eater.line ≤ 4096) };
+
+    ghost eats = { λ a b piece. (child_parts b.eater.book.now b.eater.clock.now b.eater.process
+        ≡ child_parts a.eater.book.now a.eater.clock.now a.eater.process)
+        × GoesOn (C.tells a.eater.clock.now) a.eater.book.now.opening a.eater.process piece
+        a.eater.line b.eater.line a.place b.place };
+
+    ghost stops = { λ a b piece why. (child_parts b.eater.book.now b.eater.clock.now b.eater.process
+        ≡ child_parts a.eater.book.now a.eater.clock.now a.eater.process)
+        × Stops (C.tells a.eater.clock.now) a.eater.book.now.opening a.eater.process piece
+        a.eater.line b.eater.line a.place b.place why };
+
+    fn consume(
+        &mut self,
+        pass: &mut Pass,
+        _output: &mut (),
+        piece: &[u8],
+    ) -> Result<(), MakeFault> {
+        feed(
+            self.rt,
+            self.book,
+            pass,
+            self.process,
+            self.clock,
+            &mut self.line,
+            piece,
+        )
+    }
+}
+
+/// Takes pieces, and makes nothing of them.
+#[derive(Drop)]
+pub struct Unread;
+
+impl ByteConsumer<(), ()> for Unread {
+    type Stop = Infallible;
+
+    ghost ready = { λ a most. Unit {0} };
+
+    ghost eats = { λ a b piece. Unit {0} };
+
+    ghost stops = { λ a b piece why. ⊥ };
+
+    fn consume(
+        &mut self,
+        _place: &mut (),
+        _output: &mut (),
+        _piece: &[u8],
+    ) -> Result<(), Infallible> {
+        Ok(())
+    }
+}
 
 /// How it ends that a child's output was fed so.
 fn served_as(fed: ReadEnd<MakeFault>) -> ChildServed

@@ -2,8 +2,9 @@
 use Rattle.std.proofs.Common.{◌≡◌, ℕ, Bool, true, false, List, [], ◌∷◌, ◌++◌, ◌∙◌, All, ap, inr, refl, subst, sym}
 use Rattle.std.proofs.lemmas.List.Elements.{All-push}
 use Rattle.book_rule.specs.declared.view.Opening.{Opening}
-use Rattle.scm_book.specs.declared.reporting.TickEnd.{TickEnd}
-use Rattle.scm_book.specs.declared.reporting.TickEnd.TheVariants as ticks
+use Rattle.scm_book.specs.declared.fault.MakeFault.TheVariants as makes
+use Rattle.scm_book.specs.declared.processes.TickEnd.{TickEnd}
+use Rattle.scm_book.specs.declared.processes.TickEnd.TheVariants as ticks
 use Rattle.scm_book.specs.Passes.{Known}
 use Rattle.scm_book.specs.Reporting.{TickEnds}
 use Rattle.scm_launcher.specs.Ticks.{Chain, IsTicked, IsTicksEnd, TicksOn, no_room}
@@ -41,8 +42,8 @@ module _ (tells : ℕ → Type 0) (o : Opening) where
   caller_kept : (k m : Known) (end : TickEnd) (moment : ℕ) → TickEnds o k moment end m → m.caller ≡ k.caller
   caller_kept k m ticks.Ticked moment e = e.made.caller
   caller_kept k m ticks.Idle moment e = e.0.caller
-  caller_kept k m ticks.Full moment e = e.0.learnt.caller
-  caller_kept k m ticks.OutOfMemory moment e = e.0.learnt.caller
+  caller_kept k m (ticks.Unmade makes.Full) moment e = e.0.learnt.caller
+  caller_kept k m (ticks.Unmade makes.OutOfMemory) moment e = e.0.learnt.caller
 
   callers_kept : (k k' : Known) (ends : List TickEnd) → Chain tells o k k' ends → k'.caller ≡ k.caller
   callers_kept k k' [] c = ap (λ (x : Known). x.caller) c
@@ -62,7 +63,7 @@ module _ (tells : ℕ → Type 0) (o : Opening) where
 -- one that found no room ends it
 pub full_end : (asked : Type 0) (o : Opening) (k k' : Known) (moment : ℕ) (end : TickEnd) → TickEnds o k moment end k' → no_room end ≡ true
     → IsTicksEnd asked o k'
-full_end asked o k k' moment ticks.Full ends full = inr ends.0.full
+full_end asked o k k' moment (ticks.Unmade makes.Full) ends full = inr ends.0.full
 full_end asked o k k' moment ticks.Ticked ends full = absurd cc
 full_end asked o k k' moment ticks.Idle ends full = absurd cc
-full_end asked o k k' moment ticks.OutOfMemory ends full = absurd cc
+full_end asked o k k' moment (ticks.Unmade makes.OutOfMemory) ends full = absurd cc

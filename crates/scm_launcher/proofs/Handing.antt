@@ -7,7 +7,7 @@ use Rattle.scm_book.specs.Joins.{accompanied, fresh}
 use Rattle.scm_book.specs.Passes.{HoldsProcess, IsOf, Known}
 use Rattle.child_runner.specs.declared.launching.LaunchEnd.TheVariants as ends
 use Rattle.child_runner.specs.Launches.{Launches, Spawning}
-use Rattle.scm_launcher.specs.declared.launching.Child.{Child}
+use Rattle.scm_launcher.specs.declared.children.Child.{Child}
 use Rattle.scm_launcher.specs.Launches.{IsHanded, IsLaunched}
 
 module _ (o : Opening) (tells : ℕ → Type 0) {L F : Type 0} (pid : L → ℕ) (gives : L → F → Type 0) (k : Known) (s : Spawning) (process : ℕ)

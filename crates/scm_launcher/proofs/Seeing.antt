@@ -17,8 +17,8 @@ use Rattle.child_runner.specs.declared.sending.ControlsSent.{ControlsSent}
 use Rattle.child_runner.specs.declared.served.ChildServed.{ChildServed}
 use Rattle.child_runner.specs.Launches.{Spawning, TakesAndTells}
 use Rattle.child_runner.specs.Sending.{Sends}
-use Rattle.scm_launcher.specs.declared.launching.Next.{Next}
-use Rattle.scm_launcher.specs.declared.launching.Next.TheVariants as nexts
+use Rattle.scm_launcher.specs.declared.children.Next.{Next}
+use Rattle.scm_launcher.specs.declared.children.Next.TheVariants as nexts
 use Rattle.scm_launcher.specs.Children.{ServesLink}
 use Rattle.scm_launcher.specs.Launches.{Hands, LooksOn}
 use Rattle.scm_launcher.specs.Past.{IfReady, SawLegal, SeesOn}

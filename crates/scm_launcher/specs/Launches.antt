@@ -7,9 +7,9 @@ use Rattle.scm_book.specs.Joins.{accompanied, fresh}
 use Rattle.scm_book.specs.Passes.{HoldsProcess, IsOf, Known}
 use Rattle.child_runner.specs.declared.launching.LaunchEnd.TheVariants as ends
 use Rattle.child_runner.specs.Launches.{Launches, Spawning}
-use Rattle.scm_launcher.specs.declared.launching.Child.{Child}
-use Rattle.scm_launcher.specs.declared.launching.Next.{Next}
-use Rattle.scm_launcher.specs.declared.launching.Next.TheVariants as nexts
+use Rattle.scm_launcher.specs.declared.children.Child.{Child}
+use Rattle.scm_launcher.specs.declared.children.Next.{Next}
+use Rattle.scm_launcher.specs.declared.children.Next.TheVariants as nexts
 
 -- the pass of a child is responsible for it, and the other one is a runner's; both are of the book
 pub record IsHanded {L F : Type 0} (b : Identity) (child : Child L F) : Type 0 where

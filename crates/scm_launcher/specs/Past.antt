@@ -6,9 +6,9 @@ use Rattle.book_rule.specs.declared.view.Opening.{Opening}
 use Rattle.book_rule.specs.Seats.{Identity}
 use Rattle.scm_book.specs.Passes.{IsOf, Known}
 use Rattle.scm_launcher.specs.declared.children.ChildPast.{ChildPast}
-use Rattle.scm_launcher.specs.declared.launching.Child.{Child}
-use Rattle.scm_launcher.specs.declared.launching.Next.{Next}
-use Rattle.scm_launcher.specs.declared.launching.Next.TheVariants as nexts
+use Rattle.scm_launcher.specs.declared.children.Child.{Child}
+use Rattle.scm_launcher.specs.declared.children.Next.{Next}
+use Rattle.scm_launcher.specs.declared.children.Next.TheVariants as nexts
 use Rattle.scm_launcher.specs.Launches.{IsHanded}
 
 -- what the pass has seen is legal

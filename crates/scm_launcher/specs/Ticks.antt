@@ -2,14 +2,15 @@
 use Rattle.std.specs.Prelude.{ℕ, ◌≡◌, ◌⊎◌, ◌++◌, All, Bool, true, false, List, [], ◌∷◌}
 use Rattle.scm_model.specs.declared.steps.Step.TheVariants.{Tick}
 use Rattle.book_rule.specs.declared.view.Opening.{Opening}
-use Rattle.scm_book.specs.declared.reporting.TickEnd.{TickEnd}
-use Rattle.scm_book.specs.declared.reporting.TickEnd.TheVariants as ticks
+use Rattle.scm_book.specs.declared.fault.MakeFault.TheVariants as makes
+use Rattle.scm_book.specs.declared.processes.TickEnd.{TickEnd}
+use Rattle.scm_book.specs.declared.processes.TickEnd.TheVariants as ticks
 use Rattle.scm_book.specs.Passes.{Known, room_behind}
 use Rattle.scm_book.specs.Reporting.{TickEnds}
 
 -- the limits had no room for it
 abbrev pub no_room : TickEnd → Bool
-no_room ticks.Full = true
+no_room (ticks.Unmade makes.Full) = true
 no_room end = false
 
 module _ (tells : ℕ → Type 0) (o : Opening) where

@@ -4,8 +4,7 @@ ghost use Rattle.std.specs.Thread.{IsSend, IsSync};
 ghost use Rattle.scm_book.specs.Passes.{IsOf};
 ghost use Rattle.scm_launcher.specs.Past.{IfReady, IsPast, IsReady, SawLegal, SeesOn};
 
-use crate::children::{ChildPast, run_child};
-use crate::launching::{Child, Next, launch_next};
+use crate::children::{Child, ChildPast, Next, launch_next, run_child};
 use child_link::{Feed, Link};
 use outside::Clock;
 use process_runner::{Quit, Spawner};
@@ -204,56 +203,6 @@ where
     )
 }
 
-/// Begins a thread in which a child runs. Where there is no memory or none can be started, the
-/// child runs here, and has ended on return.
-fn begin<'s, E, R, K, L, F, C, Q>(
-    scope: &Scope<'s, E>,
-    rt: &'s R,
-    alloc: Global,
-    book: &'s Book<K>,
-    by: &mut Pass,
-    child: Child<L, F>,
-    clock: &'s C,
-    quit: &'s Q,
-    runners: &mut Vec<Runner<'s, K>>,
-)
-where
-    R: Threads + Wait + Sync + 's,
-    K: Keeper + Send + 's,
-    L: Link + Send + Drop + 's,
-    F: Feed + Send + Drop + 's,
-    C: Clock + Sync + 's,
-    Q: Quit + Sync + 's,
-    requires by { IsOf book.now by.old }
-    requires nobody { by.old.caller ≡ 0 }
-    requires child { IsReady book.now child }
-    requires all { All (λ r. r.handle.promise.book.now ≡ book.now) runners.old.items }
-    ensures all { All (λ r. r.handle.promise.book.now ≡ book.now) runners.new.items }
-    ensures book { IsOf book.now by.new }
-    ensures sees { SeesOn book.now.opening by.old by.new }
-{
-    let Ok((flag, is_done)) = flag(alloc) else {
-        take_both(book, by, run(rt, alloc, book, child, clock, quit));
-        return;
-    };
-    let worker = move || -> ChildPast
-        requires { IsReady book.now child }
-        ensures { IsPast book.entry.now result }
-    {
-        let past = run(rt, alloc, book, child, clock, quit);
-        flag.store(true, Ordering::SeqCst);
-        drop(flag);
-        past
-    };
-    match scope.spawn_with(OfBook { book }, worker) {
-        Ok(handle) => keep(rt, book, by, Runner { handle, is_done }, runners),
-        Err(refused) => {
-            let worker = refused.value;
-            take_both(book, by, worker());
-        }
-    }
-}
-
 #[tactic(auto, using(crate::proofs::Seeing::sees_looked, crate::proofs::Seeing::if_ready))]
 /// Launches what is wanted first, and hands the child out with what its passes have seen.
 fn look<R: Wait, K: Keeper, P: Spawner, C: Clock>(
@@ -300,90 +249,134 @@ fn make_room<R: Wait, K: Keeper, Q: Quit>(
     unreachable!()
 }
 
-#[tactic(auto, using(crate::proofs::Seeing::sees_none, crate::proofs::Seeing::sees_then))]
-/// Begins a child's thread for each launch that is wanted, until `quit` asks for the end. The
-/// bell's count is read before each look, so no launch that comes after the look is missed.
-fn launch_until<'s, E, R, K, P, L, F, C, Q>(
-    scope: &Scope<'s, E>,
+/// What all children of a launcher run with, and what ends them.
+#[derive(Drop)]
+struct Launcher<'s, R, K: Keeper, C, Q> {
     rt: &'s R,
     alloc: Global,
     book: &'s Book<K>,
-    by: &mut Pass,
-    room: &mut LaunchRoom,
-    spawner: &mut P,
     clock: &'s C,
     quit: &'s Q,
-    runners: &mut Vec<Runner<'s, K>>,
-)
+}
+
+impl<'s, R, K, C, Q> Launcher<'s, R, K, C, Q>
 where
     R: Threads + Wait + Sync + 's,
     K: Keeper + Send + 's,
-    L: Link + Send + Drop + 's,
-    F: Feed + Send + Drop + 's,
-    P: Spawner<Link = L, Feed = F>,
     C: Clock + Sync + 's,
     Q: Quit + Sync + 's,
-    requires by { IsOf book.now by.old }
-    requires nobody { by.old.caller ≡ 0 }
-    requires path { 2048 ≤ room.old.path.room }
-    requires all { All (λ r. r.handle.promise.book.now ≡ book.now) runners.old.items }
-    ensures all { All (λ r. r.handle.promise.book.now ≡ book.now) runners.new.items }
-    ensures book { IsOf book.now by.new }
-    ensures sees { SeesOn book.now.opening by.old by.new }
-    ensures asked { Q.may_ask quit.now }
 {
-    for _ in rt.forever() {
-        let seen = book.bell().count();
-        if quit.asked() {
+    /// Begins a thread in which a child runs. Where there is no memory or none can be started, the
+    /// child runs here, and has ended on return.
+    fn begin<E, L: Link + Send + Drop + 's, F: Feed + Send + Drop + 's>(
+        &self,
+        scope: &Scope<'s, E>,
+        by: &mut Pass,
+        child: Child<L, F>,
+        runners: &mut Vec<Runner<'s, K>>,
+    )
+        requires by { IsOf self.now.book.now by.old }
+        requires nobody { by.old.caller ≡ 0 }
+        requires child { IsReady self.now.book.now child }
+        requires all { All (λ r. r.handle.promise.book.now ≡ self.now.book.now) runners.old.items }
+        ensures all { All (λ r. r.handle.promise.book.now ≡ self.now.book.now) runners.new.items }
+        ensures book { IsOf self.now.book.now by.new }
+        ensures sees { SeesOn self.now.book.now.opening by.old by.new }
+    {
+        let Launcher {
+            rt,
+            alloc,
+            book,
+            clock,
+            quit,
+        } = *self;
+        let Ok((flag, is_done)) = flag(alloc) else {
+            take_both(book, by, run(rt, alloc, book, child, clock, quit));
             return;
-        }
-        match look(rt, alloc, book, by, room, spawner, clock) {
-            Next::Child(child) => {
-                reap(rt, book, by, runners);
-                begin(scope, rt, alloc, book, by, child, clock, quit, runners);
-            }
-            Next::Failed { .. } => {}
-            Next::Empty => {
-                book.bell().wait(rt, seen);
+        };
+        let worker = move || -> ChildPast
+            requires { IsReady book.now child }
+            ensures { IsPast book.entry.now result }
+        {
+            let past = run(rt, alloc, book, child, clock, quit);
+            flag.store(true, Ordering::SeqCst);
+            drop(flag);
+            past
+        };
+        match scope.spawn_with(OfBook { book }, worker) {
+            Ok(handle) => keep(rt, book, by, Runner { handle, is_done }, runners),
+            Err(refused) => {
+                let worker = refused.value;
+                take_both(book, by, worker());
             }
         }
     }
-    unreachable!()
-}
 
-#[tactic(auto, using(crate::proofs::Seeing::sees_none))]
-/// The same, once there is room for a line.
-fn launch_with_room<'s, E, R, K, P, L, F, C, Q>(
-    scope: &Scope<'s, E>,
-    rt: &'s R,
-    alloc: Global,
-    book: &'s Book<K>,
-    by: &mut Pass,
-    spawner: &mut P,
-    clock: &'s C,
-    quit: &'s Q,
-    runners: &mut Vec<Runner<'s, K>>,
-)
-where
-    R: Threads + Wait + Sync + 's,
-    K: Keeper + Send + 's,
-    L: Link + Send + Drop + 's,
-    F: Feed + Send + Drop + 's,
-    P: Spawner<Link = L, Feed = F>,
-    C: Clock + Sync + 's,
-    Q: Quit + Sync + 's,
-    requires by { IsOf book.now by.old }
-    requires nobody { by.old.caller ≡ 0 }
-    requires all { All (λ r. r.handle.promise.book.now ≡ book.now) runners.old.items }
-    ensures all { All (λ r. r.handle.promise.book.now ≡ book.now) runners.new.items }
-    ensures book { IsOf book.now by.new }
-    ensures sees { SeesOn book.now.opening by.old by.new }
-    ensures asked { Q.may_ask quit.now }
-{
-    if let Some(mut room) = make_room(rt, alloc, book, quit) {
-        launch_until(
-            scope, rt, alloc, book, by, &mut room, spawner, clock, quit, runners,
-        );
+    #[tactic(auto, using(crate::proofs::Seeing::sees_none, crate::proofs::Seeing::sees_then))]
+    /// Begins a child's thread for each launch that is wanted, until `quit` asks for the end. The
+    /// bell's count is read before each look, so no launch that comes after the look is missed.
+    fn launch_until<E, P, L: Link + Send + Drop + 's, F: Feed + Send + Drop + 's>(
+        &self,
+        scope: &Scope<'s, E>,
+        by: &mut Pass,
+        room: &mut LaunchRoom,
+        spawner: &mut P,
+        runners: &mut Vec<Runner<'s, K>>,
+    )
+    where
+        P: Spawner<Link = L, Feed = F>,
+        requires by { IsOf self.now.book.now by.old }
+        requires nobody { by.old.caller ≡ 0 }
+        requires path { 2048 ≤ room.old.path.room }
+        requires all { All (λ r. r.handle.promise.book.now ≡ self.now.book.now) runners.old.items }
+        ensures all { All (λ r. r.handle.promise.book.now ≡ self.now.book.now) runners.new.items }
+        ensures book { IsOf self.now.book.now by.new }
+        ensures sees { SeesOn self.now.book.now.opening by.old by.new }
+        ensures asked { Q.may_ask self.now.quit.now }
+    {
+        for _ in self.rt.forever() {
+            let seen = self.book.bell().count();
+            if self.quit.asked() {
+                return;
+            }
+            match look(
+                self.rt, self.alloc, self.book, by, room, spawner, self.clock,
+            ) {
+                Next::Child(child) => {
+                    reap(self.rt, self.book, by, runners);
+                    self.begin(scope, by, child, runners);
+                }
+                Next::Failed { .. } => {}
+                Next::Empty => {
+                    self.book.bell().wait(self.rt, seen);
+                }
+            }
+        }
+        unreachable!()
+    }
+
+    #[tactic(auto, using(crate::proofs::Seeing::sees_none))]
+    /// The same, once there is room for a line.
+    fn launch_with_room<E, P, L: Link + Send + Drop + 's, F: Feed + Send + Drop + 's>(
+        &self,
+        scope: &Scope<'s, E>,
+        by: &mut Pass,
+        spawner: &mut P,
+        runners: &mut Vec<Runner<'s, K>>,
+    )
+    where
+        P: Spawner<Link = L, Feed = F>,
+        requires by { IsOf self.now.book.now by.old }
+        requires nobody { by.old.caller ≡ 0 }
+        requires all { All (λ r. r.handle.promise.book.now ≡ self.now.book.now) runners.old.items }
+        ensures all { All (λ r. r.handle.promise.book.now ≡ self.now.book.now) runners.new.items }
+        ensures book { IsOf self.now.book.now by.new }
+        ensures sees { SeesOn self.now.book.now.opening by.old by.new }
+        ensures asked { Q.may_ask self.now.quit.now }
+    {
+        if let Some(mut room) = make_room(self.rt, self.alloc, self.book, self.quit) {
+            self.launch_until(scope, by, &mut room, spawner, runners);
+        }
     }
 }
 
@@ -428,17 +421,15 @@ where
             let mut by = pass;
             let mut spawner = spawner;
             let mut runners = Vec::new(alloc);
-            launch_with_room(
-                scope,
+            let launcher = Launcher {
                 rt,
                 alloc,
                 book,
-                &mut by,
-                &mut spawner,
                 clock,
                 quit,
-                &mut runners,
-            );
+            };
+            launcher.launch_with_room(scope, &mut by, &mut spawner, &mut runners);
+            drop(launcher);
             join_all(rt, book, &mut by, &mut runners);
             drop(runners);
             let spent = book.gone(rt, by, clock.now());

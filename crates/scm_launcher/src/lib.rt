@@ -4,10 +4,8 @@
 
 mod children;
 mod launcher;
-mod launching;
 mod ticking;
 
-pub use children::{ChildPast, run_child};
+pub use children::{Child, ChildPast, Next, launch_next, run_child};
 pub use launcher::{Launched, launch_all};
-pub use launching::{Child, Next, launch_next};
 pub use ticking::tick_all;

@@ -6,7 +6,7 @@ ghost use Rattle.scm_launcher.specs.Ticks.{IsTicksEnd, TicksOn, no_room};
 use outside::Clock;
 use process_runner::Quit;
 use record_journal::Keeper;
-use scm_book::{Book, Pass, Spent, TickEnd};
+use scm_book::{Book, MakeFault, Pass, Spent, TickEnd};
 use std::sync::Wait;
 use std::time::Duration;
 use std::{thread, time};
@@ -18,7 +18,7 @@ const PAUSE: u64 = 50;
 fn is_full(end: TickEnd) -> bool
     ensures { result ≡ no_room end }
 {
-    matches!(end, TickEnd::Full)
+    matches!(end, TickEnd::Unmade(MakeFault::Full))
 }
 
 /// Ticks, and ticks again after each pause, until `quit` asks for the end or there is no room.

@@ -2,7 +2,7 @@ use Rattle.std.proofs.Common.{◌≤◌, length, take}
 use Rattle.scm_book.specs.Passes.{HoldsProcess, IsOf}
 use Rattle.scm_model.specs.declared.flat.Phase.TheVariants as phases
 use Rattle.child_runner.specs.Reports.{GoesOn}
-use Rattle.child_runner.proofs.reports.feed.Given as goal
+use Rattle.child_runner.proofs.serving.feed.Given as goal
 
 -- the reports of the lines that end in the bytes so far were made
 abbrev pub invariant-loop-byte : goal.invariant-loop-byte

@@ -1,6 +1,6 @@
 use Rattle.std.proofs.Common.{get_or, refl}
 use Rattle.child_runner.proofs.Stretches.{goes_nowhere, one_more, one_stops}
-use Rattle.child_runner.proofs.reports.feed.Goals as goal
+use Rattle.child_runner.proofs.serving.feed.Goals as goal
 
 pub loop-byte-init : goal.loop-byte-init
 loop-byte-init g c = record {

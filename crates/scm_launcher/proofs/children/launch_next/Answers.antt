@@ -1,7 +1,7 @@
 use Rattle.std.proofs.Common.{refl}
 use Rattle.child_runner.specs.Launches.{spawning_of}
 use Rattle.scm_launcher.proofs.Handing.{is_handed, is_launched}
-use Rattle.scm_launcher.proofs.launching.launch_next.Goals as goal
+use Rattle.scm_launcher.proofs.children.launch_next.Goals as goal
 
 pub returns-in-Started-clause-looks : goal.returns-in-Started-clause-looks
 returns-in-Started-clause-looks g c =
