@@ -11,6 +11,7 @@ use Rattle.book_rule.specs.declared.view.Opening.{Opening}
 use Rattle.book_rule.specs.Seats.{Identity}
 use Rattle.scm_book.specs.declared.answers.CallEnd.{CallEnd}
 use Rattle.scm_book.specs.declared.answers.CallEnd.TheVariants as calls
+use Rattle.scm_book.specs.declared.fault.MakeFault.TheVariants as makes
 use Rattle.scm_book.specs.Called.{Calls, Raises}
 use Rattle.scm_book.specs.Joins.{TakesIn, accompanied, fresh}
 use Rattle.scm_book.specs.Passes.{IsOf, Known}
@@ -20,16 +21,16 @@ pub calls_stay : (o : Opening) (k : Known) (moment : ℕ) (asked : Request) (k' 
     → k'.caller ≡ k.caller
 calls_stay o k moment asked k' (calls.Answered reply) (inl made) = made.made.caller
 calls_stay o k moment asked k' (calls.Answered reply) (inr lacks) = lacks.made.made.caller
-calls_stay o k moment asked k' calls.Full finds = finds.learnt.caller
-calls_stay o k moment asked k' calls.OutOfMemory finds = finds.learnt.caller
+calls_stay o k moment asked k' (calls.Unmade makes.Full) finds = finds.learnt.caller
+calls_stay o k moment asked k' (calls.Unmade makes.OutOfMemory) finds = finds.learnt.caller
 
 -- so does a raise
 pub raises_stay : (o : Opening) (k : Known) (moment : ℕ) (subtype : List ℕ) (k' : Known) (end : CallEnd) → Raises o k moment subtype k' end
     → k'.caller ≡ k.caller
 raises_stay o k moment subtype k' (calls.Answered reply) (inl so) = so.made.made.caller
 raises_stay o k moment subtype k' (calls.Answered reply) (inr lacks) = lacks.made.made.caller
-raises_stay o k moment subtype k' calls.Full finds = finds.learnt.caller
-raises_stay o k moment subtype k' calls.OutOfMemory finds = finds.learnt.caller
+raises_stay o k moment subtype k' (calls.Unmade makes.Full) finds = finds.learnt.caller
+raises_stay o k moment subtype k' (calls.Unmade makes.OutOfMemory) finds = finds.learnt.caller
 
 pub some_still : (m n : ℕ) → n ≡ m → m ≢ 0 → n ≢ 0
 some_still m n same some = λ none. some (sym same ∙ none)

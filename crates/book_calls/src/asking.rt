@@ -136,8 +136,7 @@ fn end_of(ended: CallEnd) -> Result<Told, MakeFault> {
             drop(reply);
             Ok(told)
         }
-        CallEnd::Full => Err(MakeFault::Full),
-        CallEnd::OutOfMemory => Err(MakeFault::OutOfMemory),
+        CallEnd::Unmade(fault) => Err(fault),
     }
 }
 

@@ -31,7 +31,7 @@ pub fn begin_start<R: Wait>(
             drop(reply);
             None
         }
-        StartEnd::Full | StartEnd::OutOfMemory => None,
+        StartEnd::Unmade(_) => None,
     }
 }
 

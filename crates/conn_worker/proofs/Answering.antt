@@ -1,5 +1,6 @@
 -- What a pass's requests are told answers them.
-use Rattle.std.proofs.Common.{◌≡◌, ◌∙◌, ◌⊎◌, ℕ, Bool, IsTrue, List, [], Option, None, Some, true, false, inl, inr, refl, sym, subst}
+use Rattle.std.proofs.Common.{◌≡◌, ◌∙◌, ◌⊎◌, ℕ, Bool, Err, IsTrue, List, [], Option, None, Some, true, false, inl, inr, refl, sym, subst}
+use Rattle.std.specs.Prelude.{IsErrOf}
 use Rattle.scm_model.specs.Ranges.{in_range}
 use Rattle.scm_model.specs.declared.calls.Reply.{Reply}
 use Rattle.scm_model.specs.declared.calls.Reply.TheVariants as replies
@@ -22,9 +23,14 @@ use Rattle.scm_answers.proofs.Steps.{gives}
 use Rattle.book_rule.specs.declared.view.Opening.{Opening}
 use Rattle.scm_book.specs.Called.{AnsweredSo, RaiseWants, RaisedSo, WantsMemory, called, is_start, raised_by}
 use Rattle.scm_book.specs.Holds.{Opens}
-use Rattle.scm_book.specs.Passes.{FindsNoRoom, Known, Made, MadeSo, room_behind}
+use Rattle.scm_book.specs.declared.fault.MakeFault.{MakeFault}
+use Rattle.scm_book.specs.declared.fault.MakeFault.TheVariants as makes
+use Rattle.scm_book.specs.Passes.{FindsFault, Known, Made, MadeSo, room_behind}
 use Rattle.conn_desk.specs.declared.asked.DecodedRequest.TheVariants as asks
+use Rattle.conn_desk.specs.declared.desk.HandlerError.{HandlerError}
+use Rattle.conn_desk.specs.declared.desk.HandlerError.TheVariants as lacks
 use Rattle.conn_desk.specs.Desks.{CallAnswered}
+use Rattle.conn_worker.specs.Connecting.{unanswered}
 use Rattle.conn_worker.specs.Serving.{IsServed}
 use Rattle.conn_worker.specs.Waiting.{WaitsAndEnds}
 use Rattle.conn_worker.proofs.Waiting.{waits_caller}
@@ -118,9 +124,13 @@ raised_caller o k k' moment subtype reply (inl raised) = raised.made.made.caller
 raised_caller o k k' moment subtype reply (inr wants) = wants.made.made.caller
 
 -- there is no room for the raise as the pass is now
-pub raise_full : (o : Opening) (k k' : Known) (subtype : List ℕ) → FindsNoRoom o k (raised_by k subtype) k'
+pub raise_full : {T : Type 0} (o : Opening) (k k' : Known) (subtype : List ℕ) (fault : MakeFault)
+    → FindsFault o k (raised_by k subtype) fault k'
+    → (answered : HandlerError) → answered ≡ unanswered fault → IsErrOf {T = T} (Err answered) lacks.Full
     → room_behind o k'.seen (raised_by k' subtype) ≡ false
-raise_full o k k' subtype finds = subst (λ (c : ℕ). room_behind o k'.seen (Raised c subtype) ≡ false) (sym finds.learnt.caller) finds.full
+raise_full o k k' subtype makes.Full finds answered is full =
+    subst (λ (c : ℕ). room_behind o k'.seen (Raised c subtype) ≡ false) (sym finds.learnt.caller) finds.full
+raise_full o k k' subtype makes.OutOfMemory finds answered is full = absurd (cc (is, full))
 
 -- ## The caller stays
 
@@ -136,7 +146,9 @@ ended_caller silent tells o plan k reply k' ends = ends.ends.made.caller ∙ wai
 -- ## Full
 
 -- there is no room for the call as the pass is now
-pub full_now : (o : Opening) (k k' : Known) (asked : Request) → FindsNoRoom o k (called k asked) k'
+pub full_now : {T : Type 0} (o : Opening) (k k' : Known) (asked : Request) (fault : MakeFault) → FindsFault o k (called k asked) fault k'
+    → (answered : HandlerError) → answered ≡ unanswered fault → IsErrOf {T = T} (Err answered) lacks.Full
     → room_behind o k'.seen (called k' asked) ≡ false
-full_now o k k' asked finds = subst (λ (c : ℕ). room_behind o k'.seen (Call c asked appended.NotAsked) ≡ false)
-    (sym finds.learnt.caller) finds.full
+full_now o k k' asked makes.Full finds answered is full =
+    subst (λ (c : ℕ). room_behind o k'.seen (Call c asked appended.NotAsked) ≡ false) (sym finds.learnt.caller) finds.full
+full_now o k k' asked makes.OutOfMemory finds answered is full = absurd (cc (is, full))

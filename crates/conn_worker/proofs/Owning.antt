@@ -30,7 +30,8 @@ use Rattle.conn_worker.specs.Waiting.{FailsLaunch, Turns, Waits, WaitsOnce}
 
 -- ## Places stay
 
-pub stays_at : (o : Opening) (log more : List Entry) (place : ℕ) (one : Told) → StandsAt o log place one → StandsAt o (log ++ more) place one
+pub stays_at : (o : Opening) (log more : List Entry) (place : ℕ) (one : Told) → StandsAt o log place one
+    → StandsAt o (log ++ more) place one
 stays_at o log more place one stands =
     let l = o.limits in
     let f = o.first in

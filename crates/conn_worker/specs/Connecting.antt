@@ -7,8 +7,12 @@ use Rattle.scm_model.specs.declared.steps.Step.TheVariants.{Gone}
 use Rattle.scm_history.specs.Owned.{Made as Told, made_of}
 use Rattle.rpc_session.specs.declared.state.Incoming.{Incoming}
 use Rattle.book_rule.specs.declared.view.Opening.{Opening}
+use Rattle.scm_book.specs.declared.fault.MakeFault.{MakeFault}
+use Rattle.scm_book.specs.declared.fault.MakeFault.TheVariants as makes
 use Rattle.scm_book.specs.Passes.{Known, Learnt, Made, room_behind}
 use Rattle.conn_desk.specs.declared.asked.DecodedRequest.{DecodedRequest}
+use Rattle.conn_desk.specs.declared.desk.HandlerError.{HandlerError}
+use Rattle.conn_desk.specs.declared.desk.HandlerError.TheVariants as lacks
 use Rattle.conn_desk.specs.declared.served.Served.{Served}
 use Rattle.conn_desk.specs.Bodies.{asked}
 use Rattle.conn_desk.specs.Connection.{Reached}
@@ -16,6 +20,11 @@ use Rattle.conn_desk.specs.Desks.{Chain}
 use Rattle.conn_desk.specs.Serves.{Leaves}
 use Rattle.conn_worker.specs.Owning.{Adds, AreOfAll, AreTold, StepsHadRoom, unowed_places}
 use Rattle.conn_worker.specs.Serving.{IsServed, step_for}
+
+-- why a request has no answer whose step isn't made
+abbrev pub unanswered : MakeFault → HandlerError
+unanswered makes.Full = lacks.Full
+unanswered makes.OutOfMemory = lacks.OutOfMemory
 
 -- the limits have no room for a request after what the pass has seen
 abbrev pub HasNoRoomFor : Opening → Known → DecodedRequest → Type 0

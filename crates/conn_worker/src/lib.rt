@@ -2,10 +2,8 @@
 //! pass, and a start that waits is looked after until it is decided.
 #![tactic(auto)]
 
-mod asking;
 mod connection;
 mod desk;
-mod raising;
 mod waiter;
 
 pub use connection::{Ended, serve_connection};

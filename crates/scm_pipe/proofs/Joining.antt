@@ -17,6 +17,7 @@ use Rattle.scm_runs.proofs.Histories.{state_none}
 use Rattle.book_rule.specs.declared.view.Opening.{Opening}
 use Rattle.scm_book.specs.declared.answers.JoinFault.{JoinFault}
 use Rattle.scm_book.specs.declared.answers.JoinFault.TheVariants as joins
+use Rattle.scm_book.specs.declared.fault.MakeFault.TheVariants as makes
 use Rattle.scm_book.specs.Joins.{BecomesCaller, JoinCause, JoinCauseAt}
 use Rattle.scm_book.specs.Passes.{Known, Learnt}
 use Rattle.scm_pipe.specs.Histories.{the_caller}
@@ -51,15 +52,15 @@ can_join o l f bytes faults principal is opens places steps =
 
 -- so memory alone is wanting where it fails
 why : (o : Opening) (log : List Entry) (principal : Principal) (fault : JoinFault) → CanJoin o principal → log ≡ []
-    → JoinCauseAt o log principal fault → fault ≡ joins.OutOfMemory
+    → JoinCauseAt o log principal fault → fault ≡ joins.Unmade makes.OutOfMemory
 why o log principal joins.TooMany can none cause = absurd (false≢true (sym
     (subst (λ (es : List Entry). JoinCauseAt o es principal joins.TooMany) none cause) ∙ can.place))
-why o log principal joins.Full can none cause = absurd (false≢true (sym
-    (subst (λ (es : List Entry). JoinCauseAt o es principal joins.Full) none cause).1 ∙ can.room))
-why o log principal joins.OutOfMemory can none cause = refl
+why o log principal (joins.Unmade makes.Full) can none cause = absurd (false≢true (sym
+    (subst (λ (es : List Entry). JoinCauseAt o es principal (joins.Unmade makes.Full)) none cause).1 ∙ can.room))
+why o log principal (joins.Unmade makes.OutOfMemory) can none cause = refl
 
 pub lacks_memory : (o : Opening) (root k : Known) (principal : Principal) (fault : JoinFault) → CanJoin o principal → IsRoot root
-    → Learnt o root k → JoinCause o k principal fault → fault ≡ joins.OutOfMemory
+    → Learnt o root k → JoinCause o k principal fault → fault ≡ joins.Unmade makes.OutOfMemory
 lacks_memory o root k principal fault can is learnt cause = why o k.seen principal fault can (learnt.alone is.alone ∙ is.seen) cause
 
 -- ## The caller

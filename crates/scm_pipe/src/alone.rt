@@ -7,6 +7,7 @@ ghost use Rattle.conn_desk.specs.Connection.{IsServedFor};
 ghost use Rattle.conn_desk.specs.declared.served.Served.TheVariants as served;
 ghost use Rattle.conn_worker.specs.Complete.{FindsRoom, IsComplete};
 ghost use Rattle.scm_book.specs.declared.answers.JoinFault.TheVariants as joins;
+ghost use Rattle.scm_book.specs.declared.fault.MakeFault.TheVariants as makes;
 ghost use Rattle.scm_book.specs.Passes.{IsOf};
 ghost use Rattle.scm_pipe.specs.Piping.{CanJoin, HasRoomForAll, IsEnd, IsEndAt, IsKept, IsRoot};
 
@@ -14,7 +15,7 @@ use conn_desk::Served;
 use conn_worker::{PipeWaiter, serve_connection};
 use outside::{Clock, Sink, Source};
 use record_journal::{Journal, Keeper};
-use scm_book::{Book, Closed, JoinFault, NotJoined, Opened, Spent};
+use scm_book::{Book, Closed, JoinFault, MakeFault, NotJoined, Opened, Spent};
 use scm_core::Manager;
 use scm_model::Principal;
 use std::alloc::Global;
@@ -29,12 +30,12 @@ pub struct Piped<K: Keeper> {
 
 /// How a connection ends whose caller could not join, although there was a place and room for it.
 fn unjoined(fault: JoinFault) -> Served
-    requires { fault ≡ joins.OutOfMemory }
+    requires { fault ≡ joins.Unmade makes.OutOfMemory }
     ensures { result ≡ served.OutOfMemory }
 {
     match fault {
-        JoinFault::TooMany | JoinFault::Full => unreachable!(),
-        JoinFault::OutOfMemory => Served::OutOfMemory,
+        JoinFault::Unmade(MakeFault::OutOfMemory) => Served::OutOfMemory,
+        _ => unreachable!(),
     }
 }
 

@@ -26,6 +26,7 @@ use Rattle.book_rule.proofs.Places.{has_left}
 use Rattle.book_rule.proofs.Prefixes.{prefix_self, prefix_snoc, prefix_trans}
 use Rattle.scm_book.specs.declared.answers.JoinFault.{JoinFault}
 use Rattle.scm_book.specs.declared.answers.JoinFault.TheVariants as joins
+use Rattle.scm_book.specs.declared.fault.MakeFault.TheVariants as makes
 use Rattle.scm_book.specs.Joins.{JoinCause, Joins, Watches, fresh, has_place}
 use Rattle.scm_book.specs.Passes.{Known, Made, room_behind}
 use Rattle.conn_desk.specs.declared.served.Served.{Served}
@@ -119,9 +120,9 @@ pub refused_by : (tells : ℕ → Type 0) (o : Opening) (principal : Principal) 
     (record { given = given; began = began; past = past; caller = None })
 refused_by tells o principal by by' given began past joins.TooMany watches cause fresh left written reads writes short =
     refused_for o principal by'.seen given began past (inl cause) fresh left written reads writes
-refused_by tells o principal by by' given began past joins.Full watches cause fresh left written reads writes short =
+refused_by tells o principal by by' given began past (joins.Unmade makes.Full) watches cause fresh left written reads writes short =
     refused_for o principal by'.seen given began past (inr cause.1) fresh left written reads writes
-refused_by tells o principal by by' given began past joins.OutOfMemory watches cause fresh left written reads writes short = absurd cc
+refused_by tells o principal by by' given began past (joins.Unmade makes.OutOfMemory) watches cause fresh left written reads writes short = absurd cc
 
 -- ## Served
 

@@ -6,6 +6,7 @@ mod Far
 mod Cases
 mod Serving
 mod Workers
+mod Acceptors
 mod Callers
 pub mod Still
 mod Taken

@@ -7,8 +7,9 @@ use Rattle.scm_rules.specs.Histories.{Legal}
 use Rattle.book_rule.specs.declared.view.Opening.{Opening}
 use Rattle.book_rule.specs.Views.{longer}
 use Rattle.book_rule.proofs.Prefixes.{prefix_length, prefix_self, prefix_snoc, prefix_trans, prefix_whole}
-use Rattle.scm_book.specs.declared.reporting.TickEnd.{TickEnd}
-use Rattle.scm_book.specs.declared.reporting.TickEnd.TheVariants as ticks
+use Rattle.scm_book.specs.declared.fault.MakeFault.TheVariants as makes
+use Rattle.scm_book.specs.declared.processes.TickEnd.{TickEnd}
+use Rattle.scm_book.specs.declared.processes.TickEnd.TheVariants as ticks
 use Rattle.scm_book.specs.Joins.{TakesIn, accompanied, fresh}
 use Rattle.scm_book.specs.Passes.{Known}
 use Rattle.scm_book.specs.Reporting.{TickEnds}
@@ -28,14 +29,14 @@ module _ (tells : ℕ → Type 0) (o : Opening) where
   tick_longer : (k k' : Known) (moment : ℕ) (end : TickEnd) → TickEnds o k moment end k' → IsPrefix k.seen k'.seen
   tick_longer k k' moment ticks.Ticked e = subst (IsPrefix k.seen) (sym e.made.seen) (prefix_snoc k.seen e.made.before _ e.made.longer)
   tick_longer k k' moment ticks.Idle e = e.0.longer
-  tick_longer k k' moment ticks.Full e = e.0.learnt.longer
-  tick_longer k k' moment ticks.OutOfMemory e = e.0.learnt.longer
+  tick_longer k k' moment (ticks.Unmade makes.Full) e = e.0.learnt.longer
+  tick_longer k k' moment (ticks.Unmade makes.OutOfMemory) e = e.0.learnt.longer
 
   tick_legal : (k k' : Known) (moment : ℕ) (end : TickEnd) → TickEnds o k moment end k' → Legal o.limits o.first k'.seen
   tick_legal k k' moment ticks.Ticked e = e.made.legal
   tick_legal k k' moment ticks.Idle e = e.0.legal
-  tick_legal k k' moment ticks.Full e = e.0.learnt.legal
-  tick_legal k k' moment ticks.OutOfMemory e = e.0.learnt.legal
+  tick_legal k k' moment (ticks.Unmade makes.Full) e = e.0.learnt.legal
+  tick_legal k k' moment (ticks.Unmade makes.OutOfMemory) e = e.0.learnt.legal
 
   chain_far : (k k' : Known) (ends : List TickEnd) → Chain tells o k k' ends → SeesLegal o k k'
   chain_far k k' [] c = subst (λ (x : Known). SeesLegal o k x) (sym c) (record { longer = prefix_self k.seen; legal = λ so. so })

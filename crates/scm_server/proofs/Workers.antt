@@ -8,7 +8,7 @@ use Rattle.scm_rules.specs.Opening.{IsOpening}
 use Rattle.book_rule.specs.declared.view.Opening.{Opening}
 use Rattle.book_rule.specs.Seats.{Identity}
 use Rattle.scm_book.specs.Joins.{TakesIn}
-use Rattle.scm_book.specs.Passes.{Known}
+use Rattle.scm_book.specs.Passes.{IsOf, Known}
 use Rattle.conn_desk.specs.declared.served.Served.{Served}
 use Rattle.scm_listener.specs.Connections.{PastConnection, and_last}
 use Rattle.scm_server.specs.Handling.{wants_memory}
@@ -20,41 +20,31 @@ use Rattle.scm_server.specs.Works.{IsDone, Out}
 use Rattle.scm_server.proofs.Lists.{split_out}
 use Rattle.scm_server.proofs.Serving.{serves_none, was_done}
 
-or_more : (a b c : Bool) → ((a || b) || c) ≡ (a || (b || c))
-or_more true b c = refl
-or_more false b c = refl
-
-or_none : (a : Bool) → (a || false) ≡ a
+pub or_none : (a : Bool) → (a || false) ≡ a
 or_none true = refl
 or_none false = refl
 
-or_all : (a : Bool) → (a || true) ≡ true
+pub or_all : (a : Bool) → (a || true) ≡ true
 or_all true = refl
 or_all false = refl
 
 pub only_trans : (a b c : Told) → OnlyNotes a b → OnlyNotes b c → OnlyNotes a c
 only_trans a b c first next = record { same = next.same ∙ ap (λ (t : Told). record t { noted = c.noted }) first.same }
 
--- the listener is then as it was
-pub only_then : (a b c d : Told) → OnlyNotes a b → OnlyNotes b c → d ≡ c → OnlyNotes a d
-only_then a b c d first next same = subst (OnlyNotes a) (sym same) (only_trans a b c first next)
+-- a pass that took another in is still of the book
+pub still_of : (b : Identity) (by spent by' : Known) → IsOf b by → TakesIn by spent by' → IsOf b by'
+still_of b by spent by' is takes = subst (IsOf b) (sym takes.same) (record { table = is.table; opening = is.opening })
 
 module _ (tells : ℕ → Type 0) (o : Opening) where
   pub continue_none : (by : Known) (m : Told) (outs : List Out) → Continues tells o by m outs by m outs false
   continue_none by m outs principal before begins first l serves =
       subst (λ (b : Bool). Serves tells o principal first l (stand by m outs b)) (sym (or_none before)) serves
 
-  pub continue_trans : (a b c : Known) (k l m : Told) (us vs ws : List Out) (one other : Bool) → Continues tells o a k us b l vs one
-      → Continues tells o b l vs c m ws other → Continues tells o a k us c m ws (one || other)
-  continue_trans a b c k l m us vs ws one other first next principal before begins from at serves =
-      subst (λ (s : Bool). Serves tells o principal from at (stand c m ws s)) (or_more before one other)
-      (next principal (before || one) begins from at (first principal before begins from at serves))
-
-  pub continue_then : (a b c : Known) (k l m n : Told) (us vs ws : List Out) (one other : Bool) → Continues tells o a k us b l vs one
-      → Continues tells o b l vs c m ws other → n ≡ m → Continues tells o a k us c n ws (one || other)
-  continue_then a b c k l m n us vs ws one other first next same =
-      subst (λ (t : Told). Continues tells o a k us c t ws (one || other)) (sym same)
-      (continue_trans a b c k l m us vs ws one other first next)
+  -- the same of one acceptor
+  pub to_short : (a b : Known) (k l : Told) (us vs : List Out) (one before now : Bool) → Continues tells o a k us b l vs one
+      → now ≡ (before || one) → (principal : Principal) → GoesOn tells o principal (stand a k us before) (stand b l vs now)
+  to_short a b k l us vs one before now on is principal =
+      subst (λ (s : Bool). GoesOn tells o principal (stand a k us before) (stand b l vs s)) (sym is) (on principal before)
 
   serves_short : (principal : Principal) (from : Known) (at : Told) (by : Known) (m : Told) (outs : List Out) (s : Bool)
       → Serves tells o principal from at (stand by m outs s) → Serves tells o principal from at (stand by m outs true)
@@ -157,21 +147,22 @@ begun_there tells o by m out xs ys x w is same =
 -- ## A port from its first connection to its last
 
 pub port_served : (tells : ℕ → Type 0) (o : Opening) → IsOpening o.limits o.first
-    → (principal : Principal) {W : Type 0} (out : W → Out) (a b c : Known) (k l m : Told) (xs ys zs : List W) (one other : Bool) → xs ≡ []
+    → (principal : Principal) {W : Type 0} (out : W → Out) (a b c : Known) (k l m : Told) (xs ys zs : List W) (one now : Bool) → xs ≡ []
     → zs ≡ []
     → GoesOn tells o principal (stand a k (map out xs) false) (stand b l (map out ys) one)
-    → Continues tells o b l (map out ys) c m (map out zs) other → Serves tells o principal a k (stand c m [] (one || other))
-port_served tells o begins principal {W} out a b c k l m xs ys zs one other none gone first last =
+    → GoesOn tells o principal (stand b l (map out ys) one) (stand c m (map out zs) now)
+    → Serves tells o principal a k (stand c m [] now)
+port_served tells o begins principal {W} out a b c k l m xs ys zs one now none gone first last =
     let begun : Serves tells o principal a k (stand a k (map out xs) false) =
     subst (λ (ws : List W). Serves tells o principal a k (stand a k (map out ws) false)) (sym none)
     (serves_none tells o principal a k) in
-    subst (λ (ws : List W). Serves tells o principal a k (stand c m (map out ws) (one || other))) gone
-    (last principal one begins a k (first begins a k begun))
+    subst (λ (ws : List W). Serves tells o principal a k (stand c m (map out ws) now)) gone
+    (last begins a k (first begins a k begun))
 
 -- want of memory is told as the end
-pub short_end : (failed short s : Bool) (end : ServeEnd) → end ≡ (if short then OutOfMemory else (if failed then ListenFault else Ended))
-    → short ≡ s → s ≡ was_short end
-short_end true true s end is told = sym told ∙ sym (ap was_short is)
-short_end false true s end is told = sym told ∙ sym (ap was_short is)
-short_end true false s end is told = sym told ∙ sym (ap was_short is)
-short_end false false s end is told = sym told ∙ sym (ap was_short is)
+pub short_end : (failed short : Bool) (end : ServeEnd) → end ≡ (if short then OutOfMemory else (if failed then ListenFault else Ended))
+    → short ≡ was_short end
+short_end true true end is = sym (ap was_short is)
+short_end false true end is = sym (ap was_short is)
+short_end true false end is = sym (ap was_short is)
+short_end false false end is = sym (ap was_short is)

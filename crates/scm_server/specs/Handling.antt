@@ -14,6 +14,7 @@ use Rattle.book_rule.specs.declared.view.Opening.{Opening}
 use Rattle.book_rule.specs.Ways.{Has}
 use Rattle.scm_book.specs.declared.answers.JoinFault.{JoinFault}
 use Rattle.scm_book.specs.declared.answers.JoinFault.TheVariants as joins
+use Rattle.scm_book.specs.declared.fault.MakeFault.TheVariants as makes
 use Rattle.scm_book.specs.Joins.{has_place}
 use Rattle.scm_book.specs.Passes.{room_behind}
 use Rattle.conn_desk.specs.declared.asked.DecodedRequest.{DecodedRequest}
@@ -116,7 +117,7 @@ wants_memory served.OutOfMemory = true
 wants_memory how = false
 
 abbrev pub is_without_memory : JoinFault → Bool
-is_without_memory joins.OutOfMemory = true
+is_without_memory (joins.Unmade makes.OutOfMemory) = true
 is_without_memory fault = false
 
 -- ## Either

@@ -5,4 +5,5 @@ pub mod Handling
 pub mod Ports
 pub mod Serving
 pub mod Accepts
+pub mod Acceptors
 pub mod All

@@ -31,54 +31,50 @@ pub struct ServedAll<N, S> {
     pub spawner: S,
 }
 
-/// What the launcher and both listeners left.
+/// What the ticker and the launcher left.
 #[derive(Drop)]
-struct Served<N, S> {
+struct Ran<S> {
+    ticked: Spent,
     launched: Launched<S>,
-    both: Both<N>,
 }
 
-/// Serves both listeners, and launches what is wanted in a thread of its own.
-fn serve_launching<R, K, N, I, O, P, S, L, F, C>(
+/// Does what is due in a thread of its own, and launches what is wanted.
+fn run_services<R, K, S, L, F, C>(
     rt: &R,
     alloc: Global,
     book: &Book<K>,
+    ticks: Pass,
     launches: Pass,
-    serves: Pass,
-    admin: N,
-    user: N,
     spawner: S,
     clock: &C,
-) -> Served<N, S>
+) -> Ran<S>
 where
     R: Threads + Wait + time::Clock + Sync,
     K: Keeper + Send,
-    I: Source + Send + Drop,
-    O: Sink + Send + Drop,
-    P: Send + Drop,
-    N: Listener<In = I, Out = O, Past = P> + Send + Drop,
     L: Link + Send + Drop,
     F: Feed + Send + Drop,
     S: Spawner<Link = L, Feed = F> + Send + Drop,
     C: Clock + Sync,
+    requires ticks { IsOf book.now ticks }
+    requires ticker { ticks.caller ≡ 0 }
     requires launches { IsOf book.now launches }
     requires launcher { launches.caller ≡ 0 }
-    requires serves { IsOf book.now serves }
-    requires server { serves.caller ≡ 0 }
+    ensures ticked_book { IsOf book.now result.ticked }
+    ensures ticks { TicksOn (C.tells clock.now) book.now.opening ticks result.ticked }
     ensures launched_book { IsOf book.now result.launched.spent }
     ensures sees { SeesOn book.now.opening launches result.launched.spent }
-    ensures book { IsOf book.now result.both.pass }
-    ensures goes { GoesFar book.now.opening serves result.both.pass }
-    ensures serves { let tell = told_by N.left N.accepted N.noted N.listened N.faults in
-        ServedFrom (C.tells clock.now) book.now.opening result.both.pass.seen
-        (tell admin) (tell result.both.admin) (tell user) (tell result.both.user)
-        (was_short result.both.end) }
-    ensures ends { let tell = told_by N.left N.accepted N.noted N.listened N.faults in
-        EndsAll result.both.end
-        (tell admin) (tell result.both.admin) (tell user) (tell result.both.user) }
 {
-    let (launched, both) = thread::join(
+    let (ticked, launched) = thread::join(
         rt,
+        move || -> Spent
+            requires { IsSync R.row × IsSend K.row × IsSync C.row
+                × IsOf book.now ticks × (ticks.caller ≡ 0) }
+            ensures book { IsOf book.entry.now result }
+            ensures ticks { TicksOn (C.tells clock.entry.now) book.entry.now.opening ticks result }
+        {
+            let quit = BellQuit::new(book.bell());
+            tick_all(rt, book, ticks, clock, &quit)
+        },
         move || -> Launched<S>
             requires { IsSync R.row × IsSend K.row × IsSend L.row × IsSend F.row × IsSend S.row
                 × IsSync C.row × IsOf book.now launches × (launches.caller ≡ 0) }
@@ -88,21 +84,8 @@ where
             let quit = BellQuit::new(book.bell());
             launch_all(rt, alloc, book, launches, spawner, clock, &quit)
         },
-        move || -> Both<N>
-            requires { IsSync R.row × IsSend K.row × IsSend I.row × IsSend O.row × IsSend P.row
-                × IsSend N.row × IsSync C.row
-                × IsOf book.now serves × (serves.caller ≡ 0) }
-            ensures book { IsOf book.entry.now result.pass }
-            ensures goes { GoesFar book.entry.now.opening serves result.pass }
-            ensures serves { let tell = told_by N.left N.accepted N.noted N.listened N.faults in
-                ServedFrom (C.tells clock.entry.now) book.entry.now.opening result.pass.seen
-                (tell admin) (tell result.admin) (tell user) (tell result.user)
-                (was_short result.end) }
-            ensures ends { let tell = told_by N.left N.accepted N.noted N.listened N.faults in
-                EndsAll result.end (tell admin) (tell result.admin) (tell user) (tell result.user) }
-        { serve_both(rt, alloc, book, serves, admin, user, clock) },
     );
-    Served { launched, both }
+    Ran { ticked, launched }
 }
 
 /// Takes all passes in.
@@ -110,25 +93,25 @@ fn take_all<R: Wait, K: Keeper, N, S, C: Clock>(
     rt: &R,
     book: &Book<K>,
     root: &mut Pass,
-    ticked: Spent,
-    served: Served<N, S>,
+    ran: Ran<S>,
+    both: Both<N>,
     clock: &C,
 ) -> ServedAll<N, S>
 where
     N: Drop,
     S: Drop,
     requires root { IsOf book.now root.old }
-    requires ticked { IsOf book.now ticked }
-    requires launched { IsOf book.now served.launched.spent }
-    requires both { IsOf book.now served.both.pass }
-    requires nobody { served.both.pass.caller ≡ 0 }
+    requires ticked { IsOf book.now ran.ticked }
+    requires launched { IsOf book.now ran.launched.spent }
+    requires both { IsOf book.now both.pass }
+    requires nobody { both.pass.caller ≡ 0 }
     ensures book { IsOf book.now root.new }
-    ensures takes { TakesAll root.old ticked served.launched.spent served.both.pass root.new }
-    ensures admin { result.admin ≡ served.both.admin }
-    ensures user { result.user ≡ served.both.user }
-    ensures end { result.end ≡ served.both.end }
+    ensures takes { TakesAll root.old ran.ticked ran.launched.spent both.pass root.new }
+    ensures admin { result.admin ≡ both.admin }
+    ensures user { result.user ≡ both.user }
+    ensures end { result.end ≡ both.end }
 {
-    let Served { launched, both } = served;
+    let Ran { ticked, launched } = ran;
     book.leave(root, ticked);
     book.leave(root, launched.spent);
     let spent = book.gone(rt, both.pass, clock.now());
@@ -178,36 +161,29 @@ where
     let _how = book.tick(rt, &mut ticks, clock.now());
     let launches = book.join_runner(&mut ticks);
     let serves = book.join_runner(&mut ticks);
-    let (ticked, served) = thread::join(
+    let (ran, both) = thread::join(
         rt,
-        move || -> Spent
-            requires { IsSync R.row × IsSend K.row × IsSync C.row
-                × IsOf book.now ticks × (ticks.caller ≡ 0) }
-            ensures book { IsOf book.entry.now result }
-            ensures ticks { TicksOn (C.tells clock.entry.now) book.entry.now.opening ticks result }
-        {
-            let quit = BellQuit::new(book.bell());
-            tick_all(rt, book, ticks, clock, &quit)
-        },
-        move || -> Served<N, S>
-            requires { IsSync R.row × IsSend K.row × IsSend I.row × IsSend O.row × IsSend P.row
-                × IsSend N.row × IsSync C.row
-                × IsSend L.row × IsSend F.row × IsSend S.row × IsOf book.now launches
-                × (launches.caller ≡ 0) × IsOf book.now serves × (serves.caller ≡ 0) }
+        move || -> Ran<S>
+            requires { IsSync R.row × IsSend K.row × IsSend L.row × IsSend F.row × IsSend S.row
+                × IsSync C.row × IsOf book.now ticks × (ticks.caller ≡ 0)
+                × IsOf book.now launches × (launches.caller ≡ 0) }
+            ensures ticked_book { IsOf book.entry.now result.ticked }
+            ensures ticks { TicksOn (C.tells clock.entry.now) book.entry.now.opening ticks
+                result.ticked }
             ensures launched_book { IsOf book.entry.now result.launched.spent }
             ensures sees { SeesOn book.entry.now.opening launches result.launched.spent }
-            ensures book { IsOf book.entry.now result.both.pass }
-            ensures goes { GoesFar book.entry.now.opening serves result.both.pass }
+        { run_services(rt, alloc, book, ticks, launches, spawner, clock) },
+        move || -> Both<N>
+            requires { IsSync R.row × IsSend K.row × IsSend I.row × IsSend O.row × IsSend P.row
+                × IsSend N.row × IsSync C.row × IsOf book.now serves × (serves.caller ≡ 0) }
+            ensures book { IsOf book.entry.now result.pass }
+            ensures goes { GoesFar book.entry.now.opening serves result.pass }
             ensures both { let tell = told_by N.left N.accepted N.noted N.listened N.faults in
-                ServedFrom (C.tells clock.entry.now) book.entry.now.opening result.both.pass.seen
-                (tell admin) (tell result.both.admin) (tell user) (tell result.both.user)
-                (was_short result.both.end) × EndsAll result.both.end
-                (tell admin) (tell result.both.admin) (tell user) (tell result.both.user) }
-        {
-            serve_launching(
-                rt, alloc, book, launches, serves, admin, user, spawner, clock,
-            )
-        },
+                ServedFrom (C.tells clock.entry.now) book.entry.now.opening result.pass.seen
+                (tell admin) (tell result.admin) (tell user) (tell result.user)
+                (was_short result.end) × EndsAll result.end
+                (tell admin) (tell result.admin) (tell user) (tell result.user) }
+        { serve_both(rt, alloc, book, serves, admin, user, clock) },
     );
-    take_all(rt, book, root, ticked, served, clock)
+    take_all(rt, book, root, ran, both, clock)
 }

@@ -3,11 +3,12 @@ ghost use Rattle.std.specs.Prelude.{◌≡◌, ◌<◌, ◌+◌, ◌||◌, [], I
 ghost use Rattle.scm_book.specs.Joins.{TakesIn};
 ghost use Rattle.scm_book.specs.Passes.{IsOf};
 ghost use Rattle.scm_listener.specs.Connections.{PastConnection, and_last};
+ghost use Rattle.scm_server.specs.Acceptors.{IsAt, TakesBack};
 ghost use Rattle.scm_server.specs.Handling.{wants_memory};
 ghost use Rattle.scm_server.specs.Ports.{told_by};
-ghost use Rattle.scm_server.specs.Serving.{Continues, OnlyNotes};
-ghost use Rattle.scm_server.specs.Workers.{AreOf, outs_of};
+ghost use Rattle.scm_server.specs.Serving.{OnlyNotes};
 
+use crate::acceptor::Acceptor;
 use crate::worker::Worker;
 use crate::working::Worked;
 use conn_desk::Served;
@@ -57,35 +58,6 @@ pub fn take_back<K: Keeper, N: Listener>(
     wants_memory(how)
 }
 
-/// Waits for the thread at this place of the list, and takes its connection back.
-fn join_at<R: Threads, K: Keeper, N: Listener, C: Clock>(
-    rt: &R,
-    book: &Book<K>,
-    by: &mut Pass,
-    listener: &mut N,
-    workers: &mut Vec<Worker<K, N, C>>,
-    clock: &C,
-    at: usize,
-) -> bool
-    requires by { IsOf book.now by.old }
-    requires of { AreOf book.now clock.now workers.old.items }
-    requires at { at < length workers.old.items }
-    ensures by { IsOf book.now by.new }
-    ensures of { AreOf book.now clock.now workers.new.items }
-    ensures fewer { length workers.new.items + 1 ≡ length workers.old.items }
-    ensures only { let tell = told_by N.left N.accepted N.noted N.listened N.faults in
-        OnlyNotes (tell listener.old) (tell listener.new) }
-    ensures goes { let outs = outs_of N.In.left N.Out.held N.In.faults N.Out.faults in
-        let tell = told_by N.left N.accepted N.noted N.listened N.faults in
-        Continues (C.tells clock.now) book.now.opening by.old (tell listener.old)
-        (outs workers.old.items) by.new (tell listener.new) (outs workers.new.items) result }
-{
-    let _ = clock;
-    let Worker { handle, done } = workers.remove(at);
-    drop(done);
-    take_back(book, by, listener, handle.join(rt))
-}
-
 /// Where the first thread stands that is about to end.
 fn first_done<K: Keeper, N: Listener, C: Clock>(workers: &[Worker<K, N, C>]) -> Option<usize>
     ensures { IfSome result (λ at. at < length workers.now) }
@@ -93,35 +65,6 @@ fn first_done<K: Keeper, N: Listener, C: Clock>(workers: &[Worker<K, N, C>]) -> 
     workers
         .iter()
         .position(|worker| worker.done.load(SeqCst) != 0)
-}
-
-/// Takes the connections back whose threads are about to end. Answers whether there was no memory
-/// for one of them.
-pub fn reap<R: Threads, K: Keeper, N: Listener, C: Clock>(
-    rt: &R,
-    book: &Book<K>,
-    by: &mut Pass,
-    listener: &mut N,
-    workers: &mut Vec<Worker<K, N, C>>,
-    clock: &C,
-) -> bool
-    requires by { IsOf book.now by.old }
-    requires of { AreOf book.now clock.now workers.old.items }
-    ensures by { IsOf book.now by.new }
-    ensures of { AreOf book.now clock.now workers.new.items }
-    ensures only { let tell = told_by N.left N.accepted N.noted N.listened N.faults in
-        OnlyNotes (tell listener.old) (tell listener.new) }
-    ensures goes { let outs = outs_of N.In.left N.Out.held N.In.faults N.Out.faults in
-        let tell = told_by N.left N.accepted N.noted N.listened N.faults in
-        Continues (C.tells clock.now) book.now.opening by.old (tell listener.old)
-        (outs workers.old.items) by.new (tell listener.new) (outs workers.new.items) result }
-{
-    let mut is_short = false;
-    while let Some(at) = first_done(workers.as_slice()) {
-        let one = join_at(rt, book, by, listener, workers, clock, at);
-        is_short = is_either(is_short, one);
-    }
-    is_short
 }
 
 /// Waits for the listener's next connection, but not for long, and not at all where no thread is at
@@ -133,62 +76,62 @@ fn is_next<K: Keeper, N: Listener, C: Clock>(listener: &mut N, workers: &[Worker
     workers.is_empty() || listener.wait_briefly()
 }
 
-/// Takes the connections back whose threads are about to end, again and again until the listener's
-/// next connection came. Answers as `reap` does.
-pub fn reap_until_next<R: Threads + Wait, K: Keeper, N: Listener, C: Clock>(
-    rt: &R,
-    book: &Book<K>,
-    by: &mut Pass,
-    listener: &mut N,
-    workers: &mut Vec<Worker<K, N, C>>,
-    clock: &C,
-) -> bool
-    requires by { IsOf book.now by.old }
-    requires of { AreOf book.now clock.now workers.old.items }
-    ensures by { IsOf book.now by.new }
-    ensures of { AreOf book.now clock.now workers.new.items }
-    ensures only { let tell = told_by N.left N.accepted N.noted N.listened N.faults in
-        OnlyNotes (tell listener.old) (tell listener.new) }
-    ensures goes { let outs = outs_of N.In.left N.Out.held N.In.faults N.Out.faults in
-        let tell = told_by N.left N.accepted N.noted N.listened N.faults in
-        Continues (C.tells clock.now) book.now.opening by.old (tell listener.old)
-        (outs workers.old.items) by.new (tell listener.new) (outs workers.new.items) result }
-{
-    let mut is_short = false;
-    for _ in rt.forever() {
-        let one = reap(rt, book, by, listener, workers, clock);
-        is_short = is_either(is_short, one);
-        if is_next(listener, workers.as_slice()) {
-            return is_short;
+impl<K: Keeper, N: Listener, C: Clock> Acceptor<K, N, C> {
+    /// Waits for the thread at this place of the list, and takes its connection back.
+    fn join_at<R: Threads>(&mut self, rt: &R, book: &Book<K>, clock: &C, at: usize)
+        requires stands { IsAt book.now clock.now self.old }
+        requires at { at < length self.old.workers.items }
+        ensures fewer { length self.new.workers.items + 1 ≡ length self.old.workers.items }
+        ensures takes { TakesBack N.left N.accepted N.noted N.listened N.faults
+            N.In.left N.Out.held N.In.faults N.Out.faults
+            (C.tells clock.now) book.now clock.now self.old self.new }
+    {
+        let _ = clock;
+        let Worker { handle, done } = self.workers.remove(at);
+        drop(done);
+        let one = take_back(book, &mut self.by, &mut self.listener, handle.join(rt));
+        self.is_short = is_either(self.is_short, one);
+    }
+
+    /// Takes the connections back whose threads are about to end.
+    pub fn reap<R: Threads>(&mut self, rt: &R, book: &Book<K>, clock: &C)
+        requires { IsAt book.now clock.now self.old }
+        ensures { TakesBack N.left N.accepted N.noted N.listened N.faults
+            N.In.left N.Out.held N.In.faults N.Out.faults
+            (C.tells clock.now) book.now clock.now self.old self.new }
+    {
+        while let Some(at) = first_done(self.workers.as_slice()) {
+            self.join_at(rt, book, clock, at);
         }
     }
-    unreachable!()
-}
 
-/// Waits for all threads, and takes their connections back. Answers as `reap` does.
-pub fn join_all<R: Threads, K: Keeper, N: Listener, C: Clock>(
-    rt: &R,
-    book: &Book<K>,
-    by: &mut Pass,
-    listener: &mut N,
-    workers: &mut Vec<Worker<K, N, C>>,
-    clock: &C,
-) -> bool
-    requires by { IsOf book.now by.old }
-    requires of { AreOf book.now clock.now workers.old.items }
-    ensures by { IsOf book.now by.new }
-    ensures none { workers.new.items ≡ [] }
-    ensures only { let tell = told_by N.left N.accepted N.noted N.listened N.faults in
-        OnlyNotes (tell listener.old) (tell listener.new) }
-    ensures goes { let outs = outs_of N.In.left N.Out.held N.In.faults N.Out.faults in
-        let tell = told_by N.left N.accepted N.noted N.listened N.faults in
-        Continues (C.tells clock.now) book.now.opening by.old (tell listener.old)
-        (outs workers.old.items) by.new (tell listener.new) (outs workers.new.items) result }
-{
-    let mut is_short = false;
-    while workers.len() != 0 {
-        let one = join_at(rt, book, by, listener, workers, clock, 0);
-        is_short = is_either(is_short, one);
+    /// Takes the connections back whose threads are about to end, again and again until the
+    /// listener's next connection came.
+    pub fn reap_until_next<R: Threads + Wait>(&mut self, rt: &R, book: &Book<K>, clock: &C)
+        requires { IsAt book.now clock.now self.old }
+        ensures { TakesBack N.left N.accepted N.noted N.listened N.faults
+            N.In.left N.Out.held N.In.faults N.Out.faults
+            (C.tells clock.now) book.now clock.now self.old self.new }
+    {
+        for _ in rt.forever() {
+            self.reap(rt, book, clock);
+            if is_next(&mut self.listener, self.workers.as_slice()) {
+                return;
+            }
+        }
+        unreachable!()
     }
-    is_short
+
+    /// Waits for all threads, and takes their connections back.
+    pub fn join_all<R: Threads>(&mut self, rt: &R, book: &Book<K>, clock: &C)
+        requires { IsAt book.now clock.now self.old }
+        ensures none { self.new.workers.items ≡ [] }
+        ensures takes { TakesBack N.left N.accepted N.noted N.listened N.faults
+            N.In.left N.Out.held N.In.faults N.Out.faults
+            (C.tells clock.now) book.now clock.now self.old self.new }
+    {
+        while self.workers.len() != 0 {
+            self.join_at(rt, book, clock, 0);
+        }
+    }
 }

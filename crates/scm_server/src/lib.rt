@@ -2,8 +2,8 @@
 #![tactic(auto)]
 
 mod accepting;
+mod acceptor;
 mod all;
-mod beginning;
 mod both;
 mod ending;
 mod joining;

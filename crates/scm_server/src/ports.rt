@@ -5,9 +5,8 @@ ghost use Rattle.scm_book.specs.Passes.{IsOf};
 ghost use Rattle.scm_server.specs.declared.ending.ServeEnd.TheVariants as ends;
 ghost use Rattle.scm_server.specs.Ports.{EndsFor, GoesFar, ServesPort, told_by, was_short};
 
-use crate::accepting::{Over, accept_all};
+use crate::acceptor::{Acceptor, Host};
 use crate::ending::ServeEnd;
-use crate::joining::{is_either, join_all};
 use outside::{Clock, Sink, Source};
 use record_journal::Keeper;
 use scm_book::{Book, Pass};
@@ -66,29 +65,32 @@ where
         EndsFor result.end (tell listener) (tell result.listener) }
 {
     book.opens();
-    let mut pass = pass;
-    let mut listener = listener;
-    let mut workers = Vec::new(alloc);
-    let Over {
-        is_failed,
-        is_short,
-    } = accept_all(
-        scope,
+    let host = Host {
         rt,
         alloc,
         book,
-        &mut pass,
-        &mut listener,
-        &mut workers,
-        principal,
         clock,
-    );
-    let last = join_all(rt, book, &mut pass, &mut listener, &mut workers, clock);
+        principal,
+    };
+    let mut acceptor = Acceptor {
+        by: pass,
+        listener,
+        workers: Vec::new(alloc),
+        is_short: false,
+    };
+    let is_failed = acceptor.accept_all(scope, &host);
+    acceptor.join_all(rt, book, clock);
+    let Acceptor {
+        by,
+        listener,
+        workers,
+        is_short,
+    } = acceptor;
     drop(workers);
     Port {
         listener,
-        pass,
-        end: end_of(is_failed, is_either(is_short, last)),
+        pass: by,
+        end: end_of(is_failed, is_short),
     }
 }
 
