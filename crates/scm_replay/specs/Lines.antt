@@ -1,5 +1,6 @@
 -- What a line says: at which moment which step is to be made.
-use Rattle.std.specs.Prelude.{ℕ, ◌≡◌, ◌^◌, Bool, true, false, List, [], ◌∷◌, Option, None, Some, option_map, bytes_eq, codes, if◌then◌else◌}
+use Rattle.std.specs.Prelude.{ℕ, ◌≡◌, ◌^◌, ◌==◌, Bool, true, false, List, [], ◌∷◌, length, Option, None, Some, option_map, bytes_eq, codes}
+use Rattle.std.specs.Prelude.{if◌then◌else◌}
 use Rattle.std.specs.Result.{result_ok}
 use Rattle.scm_model.specs.declared.flat.Principal.TheVariants.{Admin, User}
 use Rattle.scm_model.specs.declared.flat.Status.{Status}
@@ -70,8 +71,8 @@ unlaunched_at process code = do
   Some (LaunchFailed number told)
 
 -- a status, by its seven numbers of 32 bits
-unfoldable pub status_in_words : List ℕ → List ℕ → List ℕ → List ℕ → List ℕ → List ℕ → List ℕ → Option Status
-status_in_words kind state accepted win32 specific checkpoint hint = do
+unfoldable pub status_at : List ℕ → List ℕ → List ℕ → List ℕ → List ℕ → List ℕ → List ℕ → Option Status
+status_at kind state accepted win32 specific checkpoint hint = do
   a ← number_below (2 ^ 32) kind
   b ← number_below (2 ^ 32) state
   c ← number_below (2 ^ 32) accepted
@@ -81,12 +82,30 @@ status_in_words kind state accepted win32 specific checkpoint hint = do
   g ← number_below (2 ^ 32) hint
   Some (record { kind = a; state = b; accepted = c; win32 = d; specific = e; checkpoint = f; hint = g })
 
--- a process, and the status that it reports
-unfoldable pub report_at : List ℕ → Option Status → Option Step
-report_at process status = do
+-- the status whose numbers these words are, and no words more
+abbrev pub status_in_words : List (List ℕ) → Option Status
+status_in_words (kind ∷ state ∷ accepted ∷ win32 ∷ specific ∷ checkpoint ∷ hint ∷ []) =
+    status_at kind state accepted win32 specific checkpoint hint
+status_in_words words = None
+
+-- a process, the service that it names, and the status that it reports
+unfoldable pub report_at : List ℕ → Option ℕ → Option Status → Option Step
+report_at process service status = do
   number ← decimal_number process
+  named ← service
   told ← status
-  Some (Report number 0 told)
+  Some (Report number named told)
+
+-- a process, the number of a service and the seven numbers of its status
+abbrev pub naming_in_words : List ℕ → List (List ℕ) → Option Step
+naming_in_words process [] = None
+naming_in_words process (service ∷ words) = report_at process (decimal_number service) (status_in_words words)
+
+-- a process and the seven numbers of a status, before which the number of a service may stand; without it, it is 0
+abbrev pub report_in_words : List (List ℕ) → Option Step
+report_in_words [] = None
+report_in_words (process ∷ words) =
+    if length words == 8 then naming_in_words process words else report_at process (Some 0) (status_in_words words)
 
 -- a caller, and the subtype of triggers that it raises
 unfoldable pub raise_in_words : List ℕ → List ℕ → Option Step
@@ -96,15 +115,13 @@ raise_in_words who subtype = do
   raised ← result_ok (raise_at bytes)
   Some (Raised caller raised)
 
--- the step of a verb and the words after it, except for steps that have bytes in hexadecimal
+-- the step of a verb and the words after it, except for reports and steps that have bytes in hexadecimal
 abbrev pub plain_at : Verb → List (List ℕ) → Option Step
 plain_at verb.Join (name ∷ []) = joined_at name
 plain_at verb.End (who ∷ plan ∷ []) = end_at who plan
 plain_at verb.Take [] = Some LaunchTaken
 plain_at verb.Launched (process ∷ pid ∷ []) = launched_at process pid
 plain_at verb.Unlaunched (process ∷ code ∷ []) = unlaunched_at process code
-plain_at verb.Report (process ∷ kind ∷ state ∷ accepted ∷ win32 ∷ specific ∷ checkpoint ∷ hint ∷ []) =
-    report_at process (status_in_words kind state accepted win32 specific checkpoint hint)
 plain_at verb.Ended (process ∷ []) = option_map Ended (decimal_number process)
 plain_at verb.Control (process ∷ []) = option_map ControlTaken (decimal_number process)
 plain_at verb.Tick [] = Some Tick
@@ -117,6 +134,7 @@ abbrev pub step_at : Verb → List (List ℕ) → Option Step
 step_at verb.Call (who ∷ opnum ∷ body ∷ []) = call_in_words who opnum body
 step_at verb.FailCall (who ∷ opnum ∷ body ∷ []) = call_in_words who opnum body
 step_at verb.Raise (who ∷ subtype ∷ []) = raise_in_words who subtype
+step_at verb.Report words = report_in_words words
 step_at other words = plain_at other words
 
 -- ## Whole lines

@@ -4,12 +4,15 @@ use Rattle.std.specs.Prelude.{if◌then◌else◌}
 use Rattle.std.specs.List.{list_any}
 use Rattle.scm_model.specs.declared.flat.Flat.{Flat}
 use Rattle.scm_model.specs.declared.flat.Limits.{Limits}
+use Rattle.scm_model.specs.declared.steps.Answer.{Answer}
+use Rattle.scm_model.specs.declared.steps.Answer.TheVariants as answers
 use Rattle.scm_model.specs.declared.steps.Kept.{Kept}
 use Rattle.scm_model.specs.declared.steps.Kept.TheVariants as appended
 use Rattle.scm_model.specs.declared.steps.Step.{Step}
 use Rattle.scm_model.specs.declared.steps.Step.TheVariants.{Joined, EndStart, LaunchTaken, ControlTaken, Tick}
 use Rattle.scm_model.specs.Entries.{with_kept}
 use Rattle.scm_model.specs.Outcomes.{StepResult}
+use Rattle.scm_model.specs.Processes.{is_shared, process_of}
 use Rattle.scm_model.specs.Texts.{text_of}
 use Rattle.start_plan.specs.Decided.{plan_caller, code_of}
 use Rattle.scm_rules.specs.Controls.{waiting}
@@ -22,7 +25,7 @@ use Rattle.scm_replay.specs.declared.line.Line.{Line}
 use Rattle.scm_replay.specs.declared.missed.Missed.{Missed}
 use Rattle.scm_replay.specs.declared.missed.Missed.TheVariants.{Again, Empty, Over, Idle}
 use Rattle.scm_replay.specs.declared.outcome.Outcome.{Outcome}
-use Rattle.scm_replay.specs.declared.outcome.Outcome.TheVariants.{Answered, InVain, TooMany, Full, Bad}
+use Rattle.scm_replay.specs.declared.outcome.Outcome.TheVariants.{Answered, Handed, InVain, TooMany, Full, Bad}
 use Rattle.scm_replay.specs.Lines.{line_at}
 
 -- where a manager stands: its state, how many steps were made, and how much text they had
@@ -43,7 +46,7 @@ is_awaited f plan = is_some (plan_caller f.plans plan) && is_none (code_of f.pla
 abbrev pub when : Bool → Missed → Option Missed
 when lacking missed = if lacking then Some missed else None
 
--- no control is taken of a process that isn't listed, or for which none waits
+-- nothing is taken of a process that isn't listed, or to which nothing is sent
 abbrev pub missed_control : Option ℕ → Option Missed
 missed_control None = Some Over
 missed_control (Some most) = when (most == 0) Empty
@@ -77,9 +80,22 @@ unmet step = Bad
 abbrev pub finds_room : Limits → Standing → Step → Bool
 finds_room l s step = is_owed step || has_room l s.flat s.steps s.text step
 
+-- whether the process whose order a step takes is shared
+abbrev pub is_shared_by : Flat → Step → Bool
+is_shared_by f (ControlTaken process) = is_shared (process_of f process)
+is_shared_by f step = false
+
+-- an order comes with whether its process is shared
+abbrev pub outcome_by : Bool → Answer → Outcome
+outcome_by shared (answers.Control order) = Handed order shared
+outcome_by shared answer = Answered answer
+
 -- the step was made
 abbrev pub step_made : Standing → Step → StepResult → Outcome × Standing
-step_made s step done = (Answered done.answer, record { flat = done.flat; steps = s.steps + 1; text = s.text + text_of step })
+step_made s step done = (
+  outcome_by (is_shared_by s.flat step) done.answer,
+  record { flat = done.flat; steps = s.steps + 1; text = s.text + text_of step },
+)
 
 -- what the step of a line results in that isn't a look in vain, and where the manager stands after it
 unfoldable pub outcome_made : Limits → Standing → Line → Outcome × Standing

@@ -1,12 +1,12 @@
-ghost use Rattle.std.specs.Prelude.{◌≡◌, IfOk, OnOk, decimal, string_bytes};
+ghost use Rattle.std.specs.Prelude.{◌≡◌, IfOk, OnOk, decimal, string_bytes, true};
 ghost use Rattle.hex.specs.Hex.{encode_lower};
 ghost use Rattle.scm_bodies.specs.Replies.{reply_bytes};
 ghost use Rattle.scm_model.specs.declared.steps.Answer.TheVariants as answers;
-ghost use Rattle.scm_replay.specs.Answers.{answer_line, line_with, told_line};
+ghost use Rattle.scm_replay.specs.Answers.{answer_line, line_with, order_line, told_line};
 
 use super::outcome::Outcome;
 use scm_bodies::write_reply;
-use scm_model::{Answer, Reply};
+use scm_model::{Answer, Order, Reply};
 use scm_text::{Buffer, OutOfMemory};
 use std::alloc::{AllocError, Global};
 
@@ -38,6 +38,31 @@ fn put_number(line: &mut Vec<u8>, front: &str, number: u64) -> Result<(), OutOfM
     ensures { OnOk result (line.new.items ≡ line_with front.now (decimal number)) }
 {
     put_line(line, front, itoa::Buffer::new().format(number).as_bytes())
+}
+
+/// Puts the number of a service and a control for it into a line.
+fn put_both(line: &mut Vec<u8>, order: &Order) -> Result<(), AllocError>
+    ensures { OnOk result (line.new.items ≡ order_line order.now true) }
+{
+    line.clear();
+    line.extend_from_slice(b"control ")?;
+    line.extend_from_slice(itoa::Buffer::new().format(order.service).as_bytes())?;
+    line.extend_from_slice(b" ")?;
+    line.extend_from_slice(itoa::Buffer::new().format(order.code).as_bytes())?;
+    line.extend_from_slice(b"\n")
+}
+
+/// Puts what tells an order into a line, by whether its process is shared.
+fn put_order(line: &mut Vec<u8>, order: &Order, shared: bool) -> Result<(), OutOfMemory>
+    ensures { OnOk result (line.new.items ≡ order_line order.now shared) }
+{
+    if !shared {
+        return put_number(line, "control ", u64::from(order.code));
+    }
+    match put_both(line, order) {
+        Ok(()) => Ok(()),
+        Err(_) => Err(OutOfMemory),
+    }
 }
 
 /// The body of a reply.
@@ -77,7 +102,7 @@ fn put_told(alloc: Global, line: &mut Vec<u8>, answer: &Answer) -> Result<(), Ou
         Answer::Reply(reply) => put_reply(alloc, line, reply),
         Answer::Begun(plan) => put_number(line, "plan ", *plan),
         Answer::Launch(process) => put_number(line, "launch ", *process),
-        Answer::Control(order) => put_number(line, "control ", u64::from(order.code)),
+        Answer::Control(order) => put_order(line, order, false),
         Answer::Refused(code) => put_number(line, "refused ", u64::from(*code)),
         Answer::Stale => put_line(line, "stale", b""),
         Answer::Done => put_line(line, "done", b""),
@@ -96,6 +121,7 @@ pub fn put_answer(
 {
     match outcome {
         Outcome::Answered(answer) => put_told(alloc, line, answer),
+        Outcome::Handed { order, shared } => put_order(line, order, *shared),
         Outcome::InVain(missed) => put_line(line, missed.word(), b""),
         Outcome::TooMany => put_line(line, "toomany", b""),
         Outcome::Full => put_line(line, "full", b""),

@@ -19,8 +19,8 @@ fn when(lacking: bool, missed: Missed) -> Option<Missed>
     if lacking { Some(missed) } else { None }
 }
 
-/// What is missed of the controls that wait for a process.
-fn missed_control(waiting: Option<u32>) -> Option<Missed>
+/// What is missed of what is sent to a process, by how much that is.
+fn missed_control(waiting: Option<usize>) -> Option<Missed>
     ensures { result ≡ missed_control waiting }
 {
     match waiting {

@@ -2,15 +2,15 @@ ghost use Rattle.std.specs.Prelude.{◌≡◌, ◌+◌, ◌<◌, ◌^◌, IsTrue
 ghost use Rattle.scm_model.specs.Entries.{unkept, with_kept};
 ghost use Rattle.scm_model.specs.Texts.{text_of};
 ghost use Rattle.scm_replay.specs.Along.{IsFit, Keeps};
-ghost use Rattle.scm_replay.specs.Outcomes.{finds_room, kept_as, outcome_made, outcome_at};
-ghost use Rattle.scm_replay.specs.Outcomes.{outcome_in, standing, unmet};
+ghost use Rattle.scm_replay.specs.Outcomes.{finds_room, is_shared_by, kept_as, outcome_at};
+ghost use Rattle.scm_replay.specs.Outcomes.{outcome_by, outcome_in, outcome_made, standing, unmet};
 
 use super::line::Line;
 use super::looking::missed_by;
 use super::outcome::Outcome;
 use super::reading::read_line;
 use scm_core::{Manager, is_owed};
-use scm_model::{Kept, Step};
+use scm_model::{Answer, Kept, Step};
 use scm_shapes::Values;
 use scm_text::OutOfMemory;
 use std::alloc::Global;
@@ -67,6 +67,26 @@ fn keep_as(step: &mut Step, now: Kept)
     }
 }
 
+/// Whether the process whose order a step takes is shared.
+fn is_shared_by(manager: &Manager, step: &Step) -> bool
+    ensures { result ≡ is_shared_by manager.now.flat step.now }
+{
+    match step {
+        Step::ControlTaken { process } => manager.shares(*process),
+        _ => false,
+    }
+}
+
+/// What a step that was answered so results in.
+fn outcome_by_answer(shared: bool, answer: Answer) -> Outcome
+    ensures { result ≡ outcome_by shared answer }
+{
+    match answer {
+        Answer::Control(order) => Outcome::Handed { order, shared },
+        other => Outcome::Answered(other),
+    }
+}
+
 /// Puts an outcome in place of another.
 #[inline(always)]
 fn put(outcome: &mut Outcome, now: Outcome)
@@ -97,10 +117,11 @@ fn made_in(manager: &mut Manager, line: &mut Line, outcome: &mut Outcome) -> Res
     if !makes_room(manager, &line.step) {
         return Err(OutOfMemory);
     }
+    let shared = is_shared_by(manager, &line.step);
     let kept = kept_as(manager.makes_change(&line.step), line.fails);
     keep_as(&mut line.step, kept);
     let answer = manager.step_at(line.moment, &mut line.step);
-    put(outcome, Outcome::Answered(answer));
+    put(outcome, outcome_by_answer(shared, answer));
     Ok(())
 }
 

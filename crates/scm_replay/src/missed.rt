@@ -6,7 +6,7 @@ ghost use Rattle.scm_replay.specs.Answers.{missed_word};
 pub enum Missed {
     /// The start is undecided.
     Again,
-    /// No launch is wanted, or no control waits.
+    /// No launch is wanted, or nothing is sent to the process.
     Empty,
     /// The process isn't listed.
     Over,

@@ -2,12 +2,14 @@ ghost use Rattle.std.specs.Prelude.{◌≡◌};
 ghost use Rattle.scm_replay.specs.Outcomes.{goes_on};
 
 use super::missed::Missed;
-use scm_model::Answer;
+use scm_model::{Answer, Order};
 
 /// What a line results in.
 pub enum Outcome {
-    /// Its step was made.
+    /// Its step was made, and took no order.
     Answered(Answer),
+    /// Its step took an order of a process that was shared or not.
+    Handed { order: Order, shared: bool },
     /// Its step only looks, and didn't find this. No step was made.
     InVain(Missed),
     /// As many callers are there as may be. No step was made.
@@ -24,6 +26,10 @@ impl Drop for Outcome {
     fn drop(self) {
         match self {
             Outcome::Answered(answer) => drop(answer),
+            Outcome::Handed {
+                order: _,
+                shared: _,
+            } => {}
             Outcome::InVain(_) | Outcome::TooMany | Outcome::Full | Outcome::Bad => {}
         }
     }
@@ -35,7 +41,11 @@ impl Outcome {
         ensures { result ≡ goes_on self.now }
     {
         match self {
-            Outcome::Answered(_) | Outcome::InVain(_) | Outcome::TooMany | Outcome::Full => true,
+            Outcome::Answered(_)
+            | Outcome::Handed { .. }
+            | Outcome::InVain(_)
+            | Outcome::TooMany
+            | Outcome::Full => true,
             Outcome::Bad => false,
         }
     }

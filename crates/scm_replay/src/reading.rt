@@ -8,9 +8,10 @@ ghost use Rattle.ndr_body.specs.declared.fault.BodyFault.{BodyFault};
 ghost use Rattle.ndr_body.specs.Reading.{Gives};
 ghost use Rattle.scm_replay.specs.Lines.{LeavesFound, call_in_words, end_at, joined_at};
 ghost use Rattle.scm_replay.specs.Lines.{launched_at};
-ghost use Rattle.scm_replay.specs.Lines.{line_at, line_in, line_in_words};
-ghost use Rattle.scm_replay.specs.Lines.{plain_at, raise_in_words, report_at, request_in};
-ghost use Rattle.scm_replay.specs.Lines.{status_in_words, step_at, unlaunched_at};
+ghost use Rattle.scm_replay.specs.Lines.{line_at, line_in, line_in_words, naming_in_words};
+ghost use Rattle.scm_replay.specs.Lines.{plain_at, raise_in_words, report_at, report_in_words};
+ghost use Rattle.scm_replay.specs.Lines.{request_in};
+ghost use Rattle.scm_replay.specs.Lines.{status_at, status_in_words, step_at, unlaunched_at};
 
 use super::line::Line;
 use super::verb::{Verb, verb_at};
@@ -170,7 +171,7 @@ fn unlaunched_at(process: &[u8], code: &[u8]) -> Option<Step>
 }
 
 /// A status, by its seven numbers.
-#[tactic(auto, unfolding(crate::specs::Lines::status_in_words))]
+#[tactic(auto, unfolding(crate::specs::Lines::status_at))]
 fn status_at(
     kind: &[u8],
     state: &[u8],
@@ -180,7 +181,7 @@ fn status_at(
     checkpoint: &[u8],
     hint: &[u8],
 ) -> Option<Status>
-    ensures { result ≡ status_in_words kind.now state.now accepted.now
+    ensures { result ≡ status_at kind.now state.now accepted.now
         win32.now specific.now checkpoint.now hint.now }
 {
     Some(Status {
@@ -194,18 +195,58 @@ fn status_at(
     })
 }
 
-/// A report, by its process and the status that was read.
+/// The status whose numbers these words are, and no words more.
+fn status_in(words: &[&[u8]]) -> Option<Status>
+    ensures { result ≡ status_in_words (map (λ word. word.now) words.now) }
+{
+    match words {
+        [kind, state, accepted, win32, specific, checkpoint, hint] => status_at(
+            kind, state, accepted, win32, specific, checkpoint, hint,
+        ),
+        _ => None,
+    }
+}
+
+/// A report, by its process, and the service and the status that were read.
 #[tactic(auto, unfolding(crate::specs::Lines::report_at))]
-fn report_at(process: &[u8], status: Option<Status>) -> Option<Step>
-    ensures { result ≡ report_at process.now status }
+fn report_at(process: &[u8], service: Option<u64>, status: Option<Status>) -> Option<Step>
+    ensures { result ≡ report_at process.now service status }
 {
     let process = number_at(process)?;
+    let service = service?;
     let status = status?;
     Some(Step::Report {
         process,
-        service: 0,
+        service,
         status,
     })
+}
+
+/// A report that names its service, by its process and the words after that.
+fn naming_in(process: &[u8], words: &[&[u8]]) -> Option<Step>
+    ensures { result ≡ naming_in_words process.now (map (λ word. word.now) words.now) }
+{
+    match words {
+        [service, words @ ..] => report_at(process, number_at(service), status_in(words)),
+        [] => None,
+    }
+}
+
+/// A report, by the words after its verb: the process, and the seven numbers of a status, before
+/// which the number of the service may stand.
+fn report_in(words: &[&[u8]]) -> Option<Step>
+    ensures { result ≡ report_in_words (map (λ word. word.now) words.now) }
+{
+    match words {
+        [process, words @ ..] => {
+            if words.len() == 8 {
+                naming_in(process, words)
+            } else {
+                report_at(process, Some(0), status_in(words))
+            }
+        }
+        [] => None,
+    }
 }
 
 /// The end of a process, by the word after its verb.
@@ -257,7 +298,8 @@ fn no_memory_at(who: &[u8]) -> Option<Step>
     Some(Step::NoMemory { caller })
 }
 
-/// The step of a verb and the words after it, except for steps that have bytes in hexadecimal.
+/// The step of a verb and the words after it, except for reports and steps that have bytes in
+/// hexadecimal.
 fn plain_at(verb: Verb, words: &[&[u8]]) -> Option<Step>
     ensures { result ≡ plain_at verb (map (λ word. word.now) words.now) }
 {
@@ -267,22 +309,6 @@ fn plain_at(verb: Verb, words: &[&[u8]]) -> Option<Step>
         (Verb::Take, []) => Some(Step::LaunchTaken),
         (Verb::Launched, [process, pid]) => launched_at(process, pid),
         (Verb::Unlaunched, [process, code]) => unlaunched_at(process, code),
-        (
-            Verb::Report,
-            [
-                process,
-                kind,
-                state,
-                accepted,
-                win32,
-                specific,
-                checkpoint,
-                hint,
-            ],
-        ) => report_at(
-            process,
-            status_at(kind, state, accepted, win32, specific, checkpoint, hint),
-        ),
         (Verb::Ended, [process]) => ended_at(process),
         (Verb::Control, [process]) => control_at(process),
         (Verb::Tick, []) => Some(Step::Tick),
@@ -308,6 +334,7 @@ fn read_step(
             read_call(alloc, who, opnum, body, values, step)
         }
         (Verb::Raise, [who, subtype]) => Ok(put_found(step, raise_at(alloc, who, subtype)?)),
+        (Verb::Report, words) => Ok(put_found(step, report_in(words))),
         _ => Ok(put_found(step, plain_at(verb, words))),
     }
 }

@@ -14,7 +14,7 @@ pub fn is(word: &[u8], name: &str) -> bool
 }
 
 /// How many words a line has at most that says something: those of a report.
-const MOST_WORDS: usize = 10;
+const MOST_WORDS: usize = 11;
 
 fn split<'a>(alloc: Global, line: &'a [u8]) -> Result<Vec<&'a [u8]>, AllocError>
     ensures { IfOk result (λ words. map (λ word. word.now) words.items ≡ line_words line.now) }

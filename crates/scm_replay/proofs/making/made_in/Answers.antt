@@ -3,8 +3,7 @@ use Rattle.scm_model.specs.Texts.{text_of}
 use Rattle.scm_rules.specs.Steps.{step_of}
 use Rattle.scm_replay.proofs.Admitted.{may_at, same_text}
 use Rattle.scm_replay.proofs.Standings.{made_there, stands_behind, told_over}
-use Rattle.scm_replay.specs.Outcomes.{standing, step_in}
-use Rattle.scm_replay.specs.declared.outcome.Outcome.TheVariants.{Answered}
+use Rattle.scm_replay.specs.Outcomes.{is_shared_by, outcome_by, standing, step_in}
 use Rattle.scm_replay.proofs.making.made_in.Goals as goal
 
 pub step_at-answer-requires-clause-may : goal.step_at-answer-requires-clause-may
@@ -20,10 +19,12 @@ returns-clause-outcome c =
     let line = c.args.line.now in
     let made = made_there old.limits (standing old) line (sym c.may.ensures ∙ c.if-not-may.false) (sym c.finds_room.ensures
     ∙ c.if-not-finds_room.false) in
+    let shared = c.is_shared_by-shared.ensures ∙ ap (λ f. is_shared_by f line.step) c.makes_room.ensures.flat in
     let told = told_over old.limits c.makes_room.new.manager.limits old.flat c.makes_room.new.manager.flat line c.makes_change.result
     c.kept_as-kept.result c.keep_as.new.step
     c.makes_room.ensures.limits c.makes_room.ensures.flat c.makes_change.ensures c.kept_as-kept.ensures c.keep_as.ensures in
-    c.put-2.ensures ∙ ap Answered (c.step_at-answer.ensures.answer ∙ ap (λ t. t.answer) told) ∙ sym (ap (λ o. o.0) made)
+    c.put-2.ensures ∙ c.outcome_by_answer.ensures
+    ∙ (λ i. outcome_by (shared i) ((c.step_at-answer.ensures.answer ∙ ap (λ t. t.answer) told) i)) ∙ sym (ap (λ o. o.0) made)
 
 pub returns-clause-standing : goal.returns-clause-standing
 returns-clause-standing c =
