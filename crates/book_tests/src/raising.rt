@@ -5,7 +5,7 @@ ghost use Rattle.scm_book.specs.Called.{is_start};
 ghost use Rattle.scm_book.specs.Passes.{IsOf};
 
 use crate::rows::come;
-use crate::starts::{Sight, is_seen, launch, report, service, take};
+use crate::starts::{Sight, is_seen, launch, look, report, service, take};
 use book_calls::{Site, Told, call, raise};
 use record_journal::MemoryKeeper;
 use scm_book::{Book, ControlLook, Pass, ReportEnd};
@@ -104,13 +104,17 @@ fn obeys<R: Wait>(at: &Site<'_, R>, pass: &mut Pass, other: &mut Pass) -> bool
     let runs = [(SERVICE_RUNNING, ReportEnd::Taken)];
     let is_running = report(at.rt, at.book, other, process, &runs);
     let is_stopped = is_told(at.rt, at.book, pass, STOPS, 0);
-    let control = at.book.take_control(at.rt, other, 0, process);
+    let control = look(at.rt, at.alloc, at.book, other, process);
     is_nothing
         && is_idle
         && is_raised
         && is_running
         && is_stopped
-        && control == ControlLook::Control(STOP)
+        && control
+            == ControlLook::Control {
+                order: STOP,
+                shared: false,
+            }
 }
 
 /// Whether a user may not raise what it has.

@@ -1,10 +1,11 @@
-// Which bells ring as calls are made, and as a process is launched, sent a control and ends.
+// Which bells ring as calls are made, and as a process is launched, reports, is sent a control and
+// ends.
 ghost use Rattle.std.specs.Prelude.{◌≢◌, IfSome};
 ghost use Rattle.scm_model.specs.declared.flat.Phase.TheVariants as phases;
 ghost use Rattle.scm_book.specs.Passes.{HoldsProcess, IsOf};
 
 use crate::rows::{Row, come, told};
-use crate::starts::{Sight, is_seen, launch, report};
+use crate::starts::{Sight, is_seen, launch, look, report};
 use book_calls::{Asked, Site, begin_start};
 use record_journal::MemoryKeeper;
 use scm_book::{Book, ControlLook, EndedEnd, Pass, ReportEnd};
@@ -143,25 +144,64 @@ fn starts<R: Wait>(at: &Site<'_, R>, pass: &mut Pass, other: &mut Pass) -> Optio
     }
 }
 
-/// Whether a process that was sent a control takes it and ends, and rings so.
-fn ends<R: Wait>(rt: &R, book: &Book<MemoryKeeper>, other: &mut Pass, process: u64) -> bool
+/// Whether a process that was sent a control takes it, stops its service and ends, and rings so.
+fn ends<R: Wait>(
+    rt: &R,
+    alloc: Global,
+    book: &Book<MemoryKeeper>,
+    other: &mut Pass,
+    process: u64,
+) -> bool
     requires book { IsOf book.now other.old }
     requires process { HoldsProcess book.now.opening other.old process phases.Launched }
     ensures book { IsOf book.now other.new }
 {
     let before = counted(book);
-    let control = book.take_control(rt, other, 0, process);
+    let control = look(rt, alloc, book, other, process);
     let taken = rung_since(book, before);
+    let is_stopped = reports(
+        rt,
+        book,
+        other,
+        process,
+        SERVICE_STOPPED,
+        Rung::CommonAndFirst,
+    );
     let before = counted(book);
     let end = book.ended(rt, other, 0, process);
     let ended = rung_since(book, before);
-    control == ControlLook::Control(STOP)
+    control
+        == ControlLook::Control {
+            order: STOP,
+            shared: false,
+        }
         && taken == Some(Rung::First)
-        && end == EndedEnd::Taken
+        && is_stopped
+        && end == EndedEnd::Stale
         && ended == Some(Rung::CommonAndFirst)
 }
 
-/// Whether a process reports, is sent a control, takes it and ends, and rings so.
+/// Whether the report of a state is taken, and rings so.
+fn reports<R: Wait>(
+    rt: &R,
+    book: &Book<MemoryKeeper>,
+    other: &mut Pass,
+    process: u64,
+    state: u32,
+    rung: Rung,
+) -> bool
+    requires book { IsOf book.now other.old }
+    requires process { HoldsProcess book.now.opening other.old process phases.Launched }
+    ensures book { IsOf book.now other.new }
+    ensures process { HoldsProcess book.now.opening other.new process phases.Launched }
+{
+    let before = counted(book);
+    let is_taken = report(rt, book, other, process, &[(state, ReportEnd::Taken)]);
+    is_taken && rung_since(book, before) == Some(rung)
+}
+
+/// Whether a process reports, is sent a control, takes it, stops its service and ends, and rings
+/// so.
 fn lives<R: Wait>(at: &Site<'_, R>, pass: &mut Pass, other: &mut Pass, process: u64) -> bool
     requires book { IsOf at.now.book.now pass.old }
     requires caller { pass.old.caller ≢ 0 }
@@ -169,14 +209,15 @@ fn lives<R: Wait>(at: &Site<'_, R>, pass: &mut Pass, other: &mut Pass, process: 
     requires process { HoldsProcess at.now.book.now.opening other.old process phases.Launched }
     ensures { IsOf at.now.book.now other.new }
 {
-    let before = counted(at.book);
-    let runs = [(SERVICE_RUNNING, ReportEnd::Taken)];
-    let is_running = report(at.rt, at.book, other, process, &runs);
-    let reported = rung_since(at.book, before);
-    is_running
-        && reported == Some(Rung::Common)
-        && ring(at, pass, &stopped())
-        && ends(at.rt, at.book, other, process)
+    reports(
+        at.rt,
+        at.book,
+        other,
+        process,
+        SERVICE_RUNNING,
+        Rung::Common,
+    ) && ring(at, pass, &stopped())
+        && ends(at.rt, at.alloc, at.book, other, process)
 }
 
 /// Whether all that a caller does rings so.

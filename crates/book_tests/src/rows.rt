@@ -61,7 +61,7 @@ fn fill_four<R: Wait>(at: &Site<'_, R>, root: &mut Pass, rows: &[Row]) -> bool
     let seen = at.book.bell().count();
     let are_right = come(at, &mut pass, rows);
     let is_quiet = at.book.bell().count() == seen;
-    let is_full = guest(at.rt, at.book, root, 0).err() == Some(JoinFault::Full);
+    let is_full = guest(at.rt, at.book, root, 0).err() == Some(JoinFault::Unmade(MakeFault::Full));
     leaves(at.rt, at.book, root, pass, 0);
     are_right && is_quiet && is_full
 }

@@ -1,7 +1,7 @@
 // Starts, with the launches that they want, and what processes report and are sent.
 ghost use Rattle.std.specs.Prelude.{◌≢◌, ◌≤◌, IfSome};
 ghost use Rattle.scm_model.specs.declared.flat.Phase.TheVariants as phases;
-ghost use Rattle.scm_book.specs.Passes.{HasPlan, HoldsProcess, IsOf};
+ghost use Rattle.scm_book.specs.Passes.{HasPlan, HoldsProcess, IsOf, KeepsAll};
 
 use crate::raising::raises;
 use crate::ringing::rings;
@@ -9,7 +9,8 @@ use crate::rows::{Row, come, entry_at, full, history_of, told};
 use book_calls::{Asked, Site, begin_start, end_start, guest, leaves, limits, new_book, runner};
 use record_journal::MemoryKeeper;
 use scm_book::{
-    Book, ControlLook, EndedEnd, LaunchLook, LaunchRoom, Opened, Pass, ReportEnd, TickEnd,
+    Book, ControlLook, ControlRoom, EndedEnd, LaunchLook, LaunchRoom, MakeFault, Opened, Pass,
+    ReportEnd, TickEnd,
 };
 use scm_model::codes::{
     ERROR_INVALID_DATA, ERROR_SERVICE_NO_THREAD, ERROR_SERVICE_REQUEST_TIMEOUT,
@@ -26,6 +27,12 @@ use std::test::Fail;
 const STOP: Order = Order {
     service: 1,
     code: SERVICE_CONTROL_STOP,
+};
+
+/// The same, as it is taken for its process.
+const STOPS: ControlLook = ControlLook::Control {
+    order: STOP,
+    shared: false,
 };
 
 /// Takes the launch of `/a`, and leaves its line in `room`.
@@ -113,11 +120,31 @@ pub fn report<R: Wait>(
     ensures process { HoldsProcess book.now.opening pass.new process phases.Launched }
 {
     for (state, want) in reports {
-        if book.report(rt, pass, 0, process, &standing(*state)) != *want {
+        if book.report(rt, pass, 0, process, 0, &standing(*state)) != *want {
             return false;
         }
     }
     true
+}
+
+/// What a look for a control finds.
+pub fn look<R: Wait>(
+    rt: &R,
+    alloc: Global,
+    book: &Book<MemoryKeeper>,
+    pass: &mut Pass,
+    process: u64,
+) -> ControlLook
+    requires book { IsOf book.now pass.old }
+    ensures book { IsOf book.now pass.new }
+    ensures keeps { KeepsAll book.now.opening pass.old pass.new }
+{
+    let Ok(mut room) = ControlRoom::new(alloc) else {
+        return ControlLook::Unmade(MakeFault::OutOfMemory);
+    };
+    let look = book.take_control(rt, pass, 0, process, &mut room);
+    drop(room);
+    look
 }
 
 /// As many queries as find room in a book of twenty steps after the start of the service and its
@@ -402,21 +429,21 @@ fn obeys<R: Wait>(at: &Site<'_, R>, pass: &mut Pass, other: &mut Pass, process: 
         ),
     ];
     let is_running = report(at.rt, at.book, other, process, &runs);
-    let none = at.book.take_control(at.rt, other, 0, process);
+    let none = look(at.rt, at.alloc, at.book, other, process);
     let stops = [told(Asked::Stops { handle: 2 }, 0, u64::from(SERVICE_RUNNING))];
     let is_asked = come(at, pass, &stops);
-    let control = at.book.take_control(at.rt, other, 0, process);
+    let control = look(at.rt, at.alloc, at.book, other, process);
     let ends = [
         (SERVICE_STOPPED, ReportEnd::Taken),
         (SERVICE_STOPPED, ReportEnd::Stale),
     ];
     let is_stopped = report(at.rt, at.book, other, process, &ends);
     let end = at.book.ended(at.rt, other, 0, process);
-    let over = at.book.take_control(at.rt, other, 0, process);
+    let over = look(at.rt, at.alloc, at.book, other, process);
     is_running
         && none == ControlLook::Empty
         && is_asked
-        && control == ControlLook::Control(STOP)
+        && control == STOPS
         && is_stopped
         && end == EndedEnd::Stale
         && over == ControlLook::Over

@@ -6,7 +6,7 @@ ghost use Rattle.scm_model.specs.Refused.{zero_status};
 ghost use Rattle.scm_model.specs.Rows.{named};
 ghost use Rattle.scm_text.specs.Fold.{same_text};
 ghost use Rattle.start_plan.specs.Asleep.{ArePending};
-ghost use Rattle.start_plan.specs.Entered.{started_if, HasNumbers};
+ghost use Rattle.start_plan.specs.Entered.{is_shared_by, started_if, HasNumbers};
 ghost use Rattle.start_plan.specs.Moves.{cause_at, entering_at};
 ghost use Rattle.scm_model.specs.Ready.{is_fulfilled, is_ready, is_running, is_up};
 
@@ -23,6 +23,8 @@ const START_PENDING: u32 = 2;
 const RUNNING: u32 = 4;
 
 const DISABLED: u32 = 4;
+
+const SHARE_PROCESS: u32 = 0x20;
 
 /// Services, their processes and the lock.
 #[derive(Drop)]
@@ -110,6 +112,17 @@ fn start_row(row: &mut Service, number: u64, process: u64)
     if row.number == number && row.status.state == STOPPED {
         row.status = status(row.status.kind, START_PENDING);
         row.process = process;
+        row.asked = row.config.kind == SHARE_PROCESS;
+    }
+}
+
+/// Whether the process of a service, if it is there, is sent which service to start.
+fn is_sharing(service: Option<&Service>) -> bool
+    ensures { result ≡ is_shared_by (option_copied service.entry) }
+{
+    match service {
+        Some(row) => row.config.kind == SHARE_PROCESS,
+        None => false,
     }
 }
 
@@ -256,11 +269,12 @@ impl Field for Bench {
 
     fn enter(&mut self, service: u64, words: Items<WText>) {
         let number = self.next;
+        let shared = is_sharing(row_with(self.services.as_slice(), service));
         start_in(&mut self.services, service, number);
         self.processes.push_reserved(Process {
             number,
             service,
-            shared: false,
+            shared,
             phase: Phase::Wanted,
             pid: 0,
             controls: Items::new(self.alloc),

@@ -79,6 +79,8 @@ pub enum Ask<'a> {
     OpensManager,
     /// Creates a service of this name and path, which needs the services that these bytes name.
     Creates(&'a str, &'a str, &'a [u8]),
+    /// Creates a service of this name and path that may share its process.
+    Shares(&'a str, &'a str),
     Starts(u64),
     /// Reports RUNNING, in which the service takes STOP.
     Runs(u64),
@@ -101,8 +103,8 @@ fn text(alloc: Global, text: &str) -> Option<WText> {
     }
 }
 
-/// Creates a service by the first handle.
-fn created(name: WText, path: WText, needs: Items<u8>) -> Request
+/// Creates a service of a type by the first handle.
+fn created(kind: u32, name: WText, path: WText, needs: Items<u8>) -> Request
     ensures { (is_start result ≡ false) × IsTrue (in_range result) }
 {
     Request::Create(NewService {
@@ -110,7 +112,7 @@ fn created(name: WText, path: WText, needs: Items<u8>) -> Request
         name,
         display: None,
         access: 0xF81FF,
-        kind: 0x10,
+        kind,
         start: 3,
         error: 1,
         path,
@@ -121,8 +123,8 @@ fn created(name: WText, path: WText, needs: Items<u8>) -> Request
     })
 }
 
-/// Creates a service with a name.
-fn named(alloc: Global, name: WText, path: &str, needs: &[u8]) -> Option<Request>
+/// Creates a service of a type with a name.
+fn named(alloc: Global, kind: u32, name: WText, path: &str, needs: &[u8]) -> Option<Request>
     ensures { IfSome result (λ asked. (is_start asked ≡ false) × IsTrue (in_range asked)) }
 {
     let Some(path) = text(alloc, path) else {
@@ -130,7 +132,7 @@ fn named(alloc: Global, name: WText, path: &str, needs: &[u8]) -> Option<Request
         return None;
     };
     match Items::from_slice(alloc, needs) {
-        Ok(needs) => Some(created(name, path, needs)),
+        Ok(needs) => Some(created(kind, name, path, needs)),
         Err(_) => {
             drop(path);
             drop(name);
@@ -161,7 +163,11 @@ fn request_of(alloc: Global, asked: Ask<'_>) -> Option<Request>
             access: 0xF003F,
         }),
         Ask::Creates(name, path, needs) => match text(alloc, name) {
-            Some(name) => named(alloc, name, path, needs),
+            Some(name) => named(alloc, 0x10, name, path, needs),
+            None => None,
+        },
+        Ask::Shares(name, path) => match text(alloc, name) {
+            Some(name) => named(alloc, 0x20, name, path, NOTHING),
             None => None,
         },
         Ask::Runs(handle) => Some(Request::SetStatus {

@@ -270,7 +270,9 @@ pub fn ends_late<R: Wait>(at: &Site<'_, R>, caller: &mut Pass, spawner: &mut Mem
         drop(first);
         return false;
     };
-    let stopped = at.book.report(at.rt, &mut first, 0, former, &status(1, 0));
+    let stopped = at
+        .book
+        .report(at.rt, &mut first, 0, former, 0, &status(1, 0));
     let starts = tells(at, caller, &[(Ask::Starts(2), 0)]);
     let mut second = runner(at.book, caller);
     let later = launch(at, &mut second, spawner);

@@ -7,7 +7,7 @@ use crate::launches::launch;
 use crate::plays::{Play, is_played};
 use crate::quits::AfterLooks;
 use book_calls::Site;
-use child_runner::{BellQuit, ControlsEnded, ControlsSent, send_controls, write_controls};
+use child_runner::{BellQuit, ControlsEnded, ControlsSent, Sender, send_controls};
 use outside::MemorySink;
 use process_runner::{MemorySpawner, NoQuit, Quit};
 use scm_book::{EndedEnd, Pass};
@@ -65,7 +65,16 @@ fn writes<R: Wait>(
     ensures { IsOf at.now.book.now pass.new }
 {
     let quit = AfterLooks::new(looks);
-    let ended = write_controls(at.rt, at.alloc, at.book, pass, process, feed, &CLOCK, &quit);
+    let sender = Sender {
+        rt: at.rt,
+        alloc: at.alloc,
+        book: at.book,
+        process,
+        clock: &CLOCK,
+        quit: &quit,
+    };
+    let ended = sender.write_controls(pass, feed);
+    drop(sender);
     drop(quit);
     ended == how && feed.bytes() == written.as_bytes()
 }

@@ -5,11 +5,11 @@ ghost use Rattle.scm_book.specs.Passes.{HoldsProcess, IsOf};
 use crate::books::{Ask, CLOCK, NOTHING, Stage, begin, runner, tells};
 use crate::quits::AfterLooks;
 use book_calls::Site;
-use child_link::{Link, PipeFeed, PipeLink, read_line_step};
-use child_runner::{ControlsEnded, ControlsSent, LaunchEnd, launch_one, send_controls};
+use child_link::{Link, PipeFeed, PipeLink, Reported, read_line_step};
+use child_runner::{ControlsEnded, ControlsSent, LaunchEnd, Sender, launch_one, send_controls};
 use process_runner::{ProcessSpawner, Spawner};
 use scm_book::{EndedEnd, LaunchRoom, Pass, ReportEnd};
-use scm_model::{Status, Step};
+use scm_model::Step;
 use std::alloc::Global;
 use std::env;
 use std::rt::Env;
@@ -19,6 +19,19 @@ use std::test::Fail;
 /// A shell that reports, obeys STOP and nothing else, and reports again.
 const SHELL: &str = "/bin/sh -c \"echo STATUS 16 4 1 0 0 0 0; read word code; \
     [ $word$code = CONTROL1 ] && echo STATUS 16 1 0 0 0 0 0\"";
+
+/// A shell that does so for service 1, `Sh`, once it is told that this is to start.
+const SHARED_SHELL: &str = "/bin/sh -c \"read word number name; \
+    [ $word$number$name = START1Sh ] && echo STATUS 1 32 4 1 0 0 0 0; read word number code; \
+    [ $word$number$code = CONTROL11 ] && echo STATUS 1 32 1 0 0 0 0 0\"";
+
+/// A program that is started: what creates its service, and how many lines it is sent before it
+/// reports.
+#[derive(Clone, Copy)]
+struct Program<'a> {
+    creates: Ask<'a>,
+    lines: u64,
+}
 
 /// The command line of the program that is started: that which the variable SERVICE has, or the
 /// shell's.
@@ -48,29 +61,38 @@ fn read_line<L: Link>(link: &mut L, line: &mut Vec<u8>) -> bool {
     true
 }
 
-/// The status that a step reports, if it is a report.
-fn status_of(step: &Option<Step>) -> Option<Status> {
+/// What a step reports, if it is a report.
+fn report_of(step: &Option<Step>) -> Option<Reported> {
     match step {
-        Some(Step::Report { status, .. }) => Some(*status),
+        Some(
+            Step::Report {
+                service,
+                status,
+                ..
+            },
+        ) => Some(Reported {
+            service: *service,
+            status: *status,
+        }),
         _ => None,
     }
 }
 
-/// The status that a line reports.
-fn status_in(line: &[u8], process: u64) -> Option<Status> {
+/// What a line reports.
+fn report_in(line: &[u8], process: u64) -> Option<Reported> {
     let step = read_line_step(line, process);
-    let status = status_of(&step);
+    let report = report_of(&step);
     drop(step);
-    status
+    report
 }
 
-/// The status that a child's next line reports.
-fn next_status<L: Link>(alloc: Global, link: &mut L, process: u64) -> Option<Status> {
+/// What a child's next line reports.
+fn next_report<L: Link>(alloc: Global, link: &mut L, process: u64) -> Option<Reported> {
     let mut line = Vec::new(alloc);
     let is_read = read_line(link, &mut line);
-    let status = status_in(line.as_slice(), process);
+    let report = report_in(line.as_slice(), process);
     drop(line);
-    if is_read { status } else { None }
+    if is_read { report } else { None }
 }
 
 /// Makes the report of a child's next line, and tells its state where that was taken.
@@ -85,11 +107,39 @@ fn report_next<R: Wait, L: Link>(
     ensures book { IsOf at.now.book.now runner.new }
     ensures process { HoldsProcess at.now.book.now.opening runner.new process phases.Launched }
 {
-    let status = next_status(at.alloc, link, process)?;
-    match at.book.report(at.rt, runner, 0, process, &status) {
+    let Reported { service, status } = next_report(at.alloc, link, process)?;
+    match at.book.report(at.rt, runner, 0, process, service, &status) {
         ReportEnd::Taken => Some(status.state),
         _ => None,
     }
+}
+
+/// Whether a process is sent as many lines.
+fn is_sent<R: Wait>(
+    at: &Site<'_, R>,
+    caller: &mut Pass,
+    process: u64,
+    feed: &mut PipeFeed,
+    lines: u64,
+) -> bool
+    requires { IsOf at.now.book.now caller.old × (caller.old.caller ≢ 0) }
+    ensures { IsOf at.now.book.now caller.new × (caller.new.caller ≢ 0) }
+{
+    let mut pass = runner(at.book, caller);
+    let quit = AfterLooks::new(lines);
+    let sender = Sender {
+        rt: at.rt,
+        alloc: at.alloc,
+        book: at.book,
+        process,
+        clock: &CLOCK,
+        quit: &quit,
+    };
+    let how = sender.write_controls(&mut pass, feed);
+    drop(sender);
+    drop(quit);
+    drop(pass);
+    how == ControlsSent::Shut
 }
 
 /// Whether a child reports RUNNING, is sent a STOP, reports STOPPED and ends.
@@ -131,7 +181,7 @@ fn starts<R: Wait, P: Spawner<Link = PipeLink, Feed = PipeFeed>>(
     caller: &mut Pass,
     room: &mut LaunchRoom,
     spawner: &mut P,
-    path: &str,
+    program: Program<'_>,
 ) -> bool
     requires caller { IsOf at.now.book.now caller.old × (caller.old.caller ≢ 0) }
     requires path { 2048 ≤ room.old.path.room }
@@ -139,7 +189,7 @@ fn starts<R: Wait, P: Spawner<Link = PipeLink, Feed = PipeFeed>>(
     let mut by = runner(at.book, caller);
     let begins = [
         (Ask::OpensManager, 0),
-        (Ask::Creates("A", path, NOTHING), 0),
+        (program.creates, 0),
         (Ask::Starts(2), 0),
     ];
     let made = tells(at, caller, &begins);
@@ -147,12 +197,13 @@ fn starts<R: Wait, P: Spawner<Link = PipeLink, Feed = PipeFeed>>(
         LaunchEnd::Started {
             process,
             mut link,
-            feed,
+            mut feed,
         } => {
+            let sent = is_sent(at, caller, process, &mut feed, program.lines);
             let obeyed = obeys(at, caller, &mut by, process, &mut link, feed);
             drop(link);
             drop(by);
-            made && obeyed
+            made && sent && obeyed
         }
         LaunchEnd::Failed { .. } | LaunchEnd::Empty => {
             drop(by);
@@ -167,7 +218,7 @@ fn starts_in<R: Wait, P: Spawner<Link = PipeLink, Feed = PipeFeed>>(
     alloc: Global,
     room: &mut LaunchRoom,
     spawner: &mut P,
-    path: &str,
+    program: Program<'_>,
 ) -> bool
     requires { 2048 ≤ room.old.path.room }
 {
@@ -178,7 +229,7 @@ fn starts_in<R: Wait, P: Spawner<Link = PipeLink, Feed = PipeFeed>>(
                 alloc,
                 book: &book,
             };
-            let starts = starts(&at, &mut caller, room, spawner, path);
+            let starts = starts(&at, &mut caller, room, spawner, program);
             drop(at);
             drop(caller);
             drop(book);
@@ -193,11 +244,11 @@ fn starts_by<R: Wait, P: Spawner<Link = PipeLink, Feed = PipeFeed>>(
     rt: &R,
     alloc: Global,
     spawner: &mut P,
-    path: &str,
+    program: Program<'_>,
 ) -> bool {
     match LaunchRoom::new(alloc) {
         Ok(mut room) => {
-            let starts = starts_in(rt, alloc, &mut room, spawner, path);
+            let starts = starts_in(rt, alloc, &mut room, spawner, program);
             drop(room);
             starts
         }
@@ -208,10 +259,27 @@ fn starts_by<R: Wait, P: Spawner<Link = PipeLink, Feed = PipeFeed>>(
 #[test]
 fn a_program_that_is_started_obeys_a_stop(rt: HostRuntime) -> Result<(), Fail> {
     let path = command(&rt).ok_or("memory")?;
+    let program = Program {
+        creates: Ask::Creates("A", path.as_str(), NOTHING),
+        lines: 0,
+    };
     let mut spawner = ProcessSpawner::new(&rt, rt.alloc());
-    let starts = starts_by(&rt, rt.alloc(), &mut spawner, path.as_str());
+    let starts = starts_by(&rt, rt.alloc(), &mut spawner, program);
     drop(spawner);
     drop(path);
+    assert!(rt; starts);
+    Ok(())
+}
+
+#[test]
+fn a_program_is_told_which_service_is_to_start(rt: HostRuntime) -> Result<(), Fail> {
+    let program = Program {
+        creates: Ask::Shares("Sh", SHARED_SHELL),
+        lines: 1,
+    };
+    let mut spawner = ProcessSpawner::new(&rt, rt.alloc());
+    let starts = starts_by(&rt, rt.alloc(), &mut spawner, program);
+    drop(spawner);
     assert!(rt; starts);
     Ok(())
 }

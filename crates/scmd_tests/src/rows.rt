@@ -589,6 +589,25 @@ so many wait   | 16 times call 1 control h2 4 | reply 16 4 1 0 0 0 0 0
 and no more    | call 1 control h2 4          | reply 16 4 1 0 0 0 0 1061
 they are taken | 16 times control 1           | control 4
 and no more    | control 1                    | empty
+= 0 replay: a process of a service that may share it
+administrator
+with type 0x20           | call 1 create h1 'Sh' - #F01FF 32 3 1 '/bin/sh' plain | reply - h2 0
+it is started            | call 1 start h2 0 -                                   | plan 1
+its process is launched  | take; launched 1 101; end 1 1                         | launch 1; done; reply 0
+it is told which service | control 1; control 1                                  | control 1 0; empty
+the service reports      | report 1 1 32 4 1 0 0 0 0                             | done
+it runs                  | call 1 status h2                                      | reply 32 4 1 0 0 0 0 0
+there is no service 2    | report 1 2 32 4 1 0 0 0 0                             | stale
+= 0 replay: a stop of a service that may share its process
+administrator
+with type 0x20           | call 1 create h1 'Sh' - #F01FF 32 3 1 '/bin/sh' plain | reply - h2 0
+                         | call 1 start h2 0 -                                   | plan 1
+                         | take; launched 1 101; end 1 1                         | launch 1; done; reply 0
+by no number             | report 1 32 4 1 0 0 0 0                               | done
+it is stopped            | call 1 control h2 1                                   | reply 32 4 1 0 0 0 0 0
+its start comes first    | control 1; control 1; control 1                       | control 1 0; control 1 1; empty
+a stop waits             | call 1 control h2 1                                   | reply 32 4 1 0 0 0 0 0
+until it has stopped     | report 1 1 32 1 0 0 0 0 0; control 1                  | done; empty
 = 0 replay: no stop of a service that is needed
 administrator
                        | call 1 create h1 'B' - own '/bin/b' plain     | reply - h2 0
@@ -955,6 +974,8 @@ pub const JOBS: &str = "
 | join admin; ended 9; join admin | caller 1; bad line 2
 = 11 replay: a raise of a caller that is not there
 | join admin; raise 2 aaaaaaaaaaaaaaaaaaaaaaaaaaaaaaaa | caller 1; bad line 2
+= 11 replay: a report of nine numbers
+| join admin; report 1 1 32 4 1 0 0 0 0 0 | caller 1; bad line 2
 = 11 replay: a raise of fifteen bytes
 | join admin; raise 1 aaaaaaaaaaaaaaaaaaaaaaaaaaaaaa | caller 1; bad line 2
 = 11 replay: a raise of seventeen
