@@ -92,15 +92,15 @@ impl NumberPairs {
         run_of(self.list.as_slice(), key)
     }
 
-    /// Makes room for one pair more. An `Err` changes nothing.
-    pub fn reserve(&mut self) -> Result<(), OutOfMemory>
+    /// Makes room for so many pairs more. An `Err` changes nothing.
+    pub fn reserve(&mut self, additional: usize) -> Result<(), OutOfMemory>
         ensures items { self.new.items ≡ self.old.items }
-        ensures ok { OnOk result (1 ≤ self.new.room) }
+        ensures ok { OnOk result (additional ≤ self.new.room) }
         ensures err { OnErr result (self.new ≡ self.old) }
         ensures room { self.old.room ≤ self.new.room }
-        ensures enough { 1 ≤ self.old.room → IsOk result }
+        ensures enough { additional ≤ self.old.room → IsOk result }
     {
-        match self.list.reserve(1) {
+        match self.list.reserve(additional) {
             Ok(()) => Ok(()),
             Err(_) => Err(OutOfMemory),
         }

@@ -187,7 +187,8 @@ same_at p (row ∷ rows) old n change passes same rising found =
       | inr other ↦
           let next : find (has_number n) rows ≡ Some old = sym (ap (λ b. cond b (Some row) (find (has_number n) rows)) other) ∙ found in
           let rest = same_at p rows old n change passes same rising.1 next in
-          rw other (elim (p row) as (λ b. map number_of (cond b (row ∷ filter p (map (λ (r : Service). cond (has_number n r) (change r) r) rows))
+          rw other (elim (p row) as (λ b. map number_of (cond b (row ∷ filter p
+          (map (λ (r : Service). cond (has_number n r) (change r) r) rows))
           (filter p (map (λ (r : Service). cond (has_number n r) (change r) r) rows)))
           ≡ map number_of (cond b (row ∷ filter p rows) (filter p rows))) [
             | true ↦ ap (λ ns. row.number ∷ ns) rest

@@ -1,5 +1,5 @@
 -- Lists under texts, as services come, go and change.
-use Rattle.std.proofs.Common.{ℕ, ◌≡◌, ◌<◌, ◌≤◌, ◌∙◌, Bool, true, false, not, cond, List, [], ◌∷◌, ◌++◌, Some, refl, sym, ap, find, filter}
+use Rattle.std.proofs.Common.{ℕ, ◌≡◌, ◌+◌, ◌<◌, ◌≤◌, ◌∙◌, Bool, true, false, not, cond, List, [], ◌∷◌, ◌++◌, Some, refl, sym, ap, find, filter}
 use Rattle.std.proofs.Common.{map, eqb, Option, None, arith}
 use Rattle.std.specs.List.{AllByRecursion}
 use Rattle.scm_text.specs.Fold.{same_text}
@@ -14,7 +14,7 @@ use Rattle.row_slab.specs.Rowed.{Rowed, AreRisingBy, altered_at}
 use Rattle.record_table.specs.declared.texts.KeptTexts.{KeptTexts}
 use Rattle.record_table.specs.declared.texts.Spare.{Spare}
 use Rattle.record_table.specs.declared.table.RecordTable.TheInside.{Inside}
-use Rattle.record_table.specs.Kept.{AreOf, ChangeEach, HasRoom, HasTexts, KeepEach, KeepRooms, MoveEach, Moves, Indexes, relisted}
+use Rattle.record_table.specs.Kept.{AreOf, ChangeEach, HasRoom, HasTexts, KeepEach, KeepRooms, MoveEach, Moves, Indexes, idle, relisted}
 use Rattle.record_table.specs.Recorded.{number_of, has_number, spare_of, with_config}
 use Rattle.record_table.proofs.Groups as groups
 use Rattle.record_table.proofs.Groups.{numbers_if}
@@ -140,10 +140,12 @@ still_of old new rows same lists = record {
 }
 
 -- there is room for a row as long as there was
-pub still_room : (spare : Option Spare) (table : Inside) (rows : Rowed Service) → rows.room ≡ table.rows.room → IfSome spare (HasRoom table)
+pub still_room : (spare : Option Spare) (table : Inside) (rows : Rowed Service) → rows.room ≡ table.rows.room
+    → idle rows.items ≡ idle table.rows.items → IfSome spare (HasRoom table)
     → IfSome spare (HasRoom (record table { rows = rows }))
-still_room None table rows same had = tt
-still_room (Some row) table rows same had = record { rows = rw same had.rows; processes = had.processes; texts = had.texts }
+still_room None table rows same idles had = tt
+still_room (Some row) table rows same idles had =
+    record { rows = rw same had.rows; processes = rw idles had.processes; texts = had.texts }
 
 -- there is room under the texts of a row as long as no text loses room
 pub still_texts : (spare : Option Spare) (old new : KeptTexts) → KeepRooms old new → IfSome spare (HasTexts old)
@@ -155,9 +157,9 @@ still_texts (Some row) old new rooms had = record {
   group = omega (arith, had.group, rooms.groups row.group);
 }
 
--- there is room for a row where there is no less, and under its texts
+-- there is room for a row where there is no less, and under its texts; and where no more services without a process come than room
 pub more_room : (spare : Option Spare) (table : Inside) (rows : Rowed Service) (texts : KeptTexts) (processes : Roomed Pair)
-    → table.rows.room ≤ rows.room → table.processes.room ≤ processes.room
+    → table.rows.room ≤ rows.room → table.processes.room + idle rows.items ≤ processes.room + idle table.rows.items
     → (IfSome spare (HasTexts table.texts) → IfSome spare (HasTexts texts)) → IfSome spare (HasRoom table)
     → IfSome spare (HasRoom (record table { rows = rows; texts = texts; processes = processes }))
 more_room None table rows texts processes more too kept had = tt

@@ -1,5 +1,7 @@
 -- Services under their processes, as they come, go and change.
-use Rattle.std.proofs.Common.{ℕ, ◌≡◌, ◌≢◌, ◌<◌, ◌&&◌, ◌||◌, ◌∙◌, Bool, true, false, not, cond, List, [], ◌∷◌, ◌++◌, Option, Some, None, refl, sym, ap}
+use Rattle.std.proofs.Common.{ℕ, ◌≡◌, ◌≢◌, ◌<◌, ◌||◌, ◌∙◌, ◌+◌, ◌≤◌, Bool, true, false, not, cond, length, suc}
+use Rattle.std.proofs.Common.{List, [], ◌∷◌, ◌++◌, Option, Some, None, subst}
+use Rattle.std.proofs.Common.{refl, sym, ap}
 use Rattle.std.proofs.Common.{eqb, filter, find, map, arith, inl, inr}
 use Rattle.std.specs.List.{AllByRecursion, list_any}
 use Rattle.std.specs.Prelude.{option_map, slice_get}
@@ -8,12 +10,13 @@ use Rattle.std.proofs.lemmas.Bool.Decides.{nat_tests}
 use Rattle.std.proofs.lemmas.Bool.{eq-eqb, eqb-true, ne_eqb, cases_Bool}
 use Rattle.number_lists.specs.Rising.{with_number, without_number}
 use Rattle.number_pairs.specs.declared.pairs.Pair.{Pair}
-use Rattle.number_pairs.specs.Keyed.{has_key, has_pair, numbers_under, pair_cmp}
+use Rattle.number_pairs.specs.Keyed.{has_pair, numbers_under, pair_cmp}
+use Rattle.scm_model.specs.Processes.{is_by}
 use Rattle.scm_model.specs.declared.flat.Config.{Config}
 use Rattle.scm_model.specs.declared.flat.Service.{Service}
 use Rattle.row_slab.specs.Rowed.{AreRisingBy, altered_at}
-use Rattle.record_table.specs.Kept.{AreByProcess, MovesUnder, moved_under}
-use Rattle.record_table.specs.Recorded.{has_number, has_process, number_of, process_in, with_config}
+use Rattle.record_table.specs.Kept.{AreByProcess, ChangesOf, MovesUnder, idle, idle_at, is_under, moved_under}
+use Rattle.record_table.specs.Recorded.{has_number, number_of, process_in, with_config}
 use Rattle.record_table.proofs.Finding.{none_changes}
 use Rattle.record_table.proofs.Groups as groups
 use Rattle.record_table.proofs.Groups.{numbers_if}
@@ -68,10 +71,11 @@ found_is_listed p number (other ∷ rows) row found passes =
 
 -- the pair of a service that was found is there
 pub has_its_pair : (pairs : List Pair) (rows : List Service) (number : ℕ) (row : Service) → AreByProcess pairs rows
-    → find (has_number number) rows ≡ Some row → has_pair pairs (pair_of row.process number) ≡ true
-has_its_pair pairs rows number row are found =
+    → find (has_number number) rows ≡ Some row → row.process ≢ 0 → has_pair pairs (pair_of row.process number) ≡ true
+has_its_pair pairs rows number row are found some =
     pair_is_there pairs row.process number (ap (list_any (λ m. eqb m number)) (are row.process)
-    ∙ found_is_listed (has_process row.process) number rows row found (eq-eqb row.process row.process refl))
+    ∙ found_is_listed (is_by row.process) number rows row found
+    (rw (ne_eqb row.process 0 some) (eq-eqb row.process row.process refl)))
 
 -- the number of the first pair is the first of the numbers
 pub first_number : (pairs : List Pair) → option_map (λ (pair : Pair). pair.number) (slice_get pairs 0)
@@ -83,32 +87,32 @@ first_number (pair ∷ pairs) = refl
 
 pub entered : (old new : List Pair) (rows : List Service) (row : Service) → AreByProcess old rows
     → AllByRecursion (λ (other : Service). other.number < row.number) rows
-    → ((process : ℕ) → numbers_under process new ≡ cond (eqb row.process process)
+    → ((process : ℕ) → numbers_under process new ≡ cond (is_under process row.process)
     (with_number (numbers_under process old) row.number) (numbers_under process old)) → AreByProcess new (rows ++ row ∷ [])
 entered old new rows row are above changes process =
     changes process
-    ∙ ap (λ ns. cond (eqb row.process process) (with_number ns row.number) ns) (are process)
-    ∙ sym (groups.pushed (has_process process) rows row above)
+    ∙ ap (λ ns. cond (is_under process row.process) (with_number ns row.number) ns) (are process)
+    ∙ sym (groups.pushed (is_by process) rows row above)
 
 -- a number leaves those under its process, and so all
 less : (rows : List Service) (row : Service) (number : ℕ) → AreRisingBy number_of rows → find (has_number number) rows ≡ Some row
-    → (process : ℕ) → cond (eqb row.process process) (without_number (numbers_if (has_process process) rows) number)
-    (numbers_if (has_process process) rows) ≡ without_number (numbers_if (has_process process) rows) number
-less rows row number rising found process = elim (cases_Bool (eqb row.process process)) [
+    → (process : ℕ) → cond (is_under process row.process) (without_number (numbers_if (is_by process) rows) number)
+    (numbers_if (is_by process) rows) ≡ without_number (numbers_if (is_by process) rows) number
+less rows row number rising found process = elim (cases_Bool (is_under process row.process)) [
   | inl is ↦ rw is refl
-  | inr other ↦ rw other (sym (groups.unlisted (has_process process) rows row number rising found other))
+  | inr other ↦ rw other (sym (groups.unlisted (is_by process) rows row number rising found other))
 ]
 
 pub gone : (old new : List Pair) (rows : List Service) (row : Service) (number : ℕ) → AreByProcess old rows → AreRisingBy number_of rows
     → find (has_number number) rows ≡ Some row
-    → ((process : ℕ) → numbers_under process new ≡ cond (eqb row.process process)
+    → ((process : ℕ) → numbers_under process new ≡ cond (is_under process row.process)
     (without_number (numbers_under process old) number) (numbers_under process old))
     → AreByProcess new (filter (λ (other : Service). not (has_number number other)) rows)
 gone old new rows row number are rising found changes process =
     changes process
-    ∙ ap (λ ns. cond (eqb row.process process) (without_number ns number) ns) (are process)
+    ∙ ap (λ ns. cond (is_under process row.process) (without_number ns number) ns) (are process)
     ∙ less rows row number rising found process
-    ∙ sym (groups.removed (has_process process) rows number)
+    ∙ sym (groups.removed (is_by process) rows number)
 
 -- ## A service changes
 
@@ -145,7 +149,7 @@ altered old new rows number before after change numbers are rising was becomes m
         let stays : before ≡ after =
         was ∙ ap process_in (ap (find (has_number number)) (sym same)) ∙ sym becomes in
         moves process ∙ rw (eq-eqb before after stays) (are process)
-        ∙ ap (numbers_if (has_process process)) (sym same)
+        ∙ ap (numbers_if (is_by process)) (sym same)
     by (Some row) found process =
         let left : before ≡ row.process = was ∙ ap process_in found in
         let entered_now : after ≡ (change row).process = becomes ∙ ap process_in (found_changed number change numbers rows row found) in
@@ -153,12 +157,12 @@ altered old new rows number before after change numbers are rising was becomes m
         ∙ elim (cases_Bool (eqb before after)) [
           | inl stays ↦
               let same : (change row).process ≡ row.process = sym entered_now ∙ sym (eqb-true before after stays) ∙ left in
-              rw stays (sym (groups.same_at (has_process process) rows row number change
-              (ap (λ n. eqb n process) same) (numbers row) rising found))
+              rw stays (sym (groups.same_at (is_by process) rows row number change
+              (ap (is_under process) same) (numbers row) rising found))
           | inr apart ↦
-              rw apart (rw (left, entered_now) (ap (λ ns. cond (eqb (change row).process process) (with_number ns number) ns)
+              rw apart (rw (left, entered_now) (ap (λ ns. cond (is_under process (change row).process) (with_number ns number) ns)
               (less rows row number rising found process)
-              ∙ sym (groups.replaced (has_process process) rows row number change (eqb (change row).process process)
+              ∙ sym (groups.replaced (is_by process) rows row number change (is_under process (change row).process)
               refl (numbers row) rising found)))
         ]
 
@@ -166,36 +170,137 @@ altered old new rows number before after change numbers are rising was becomes m
 pub its_pair : (pairs : List Pair) (rows : List Service) (number before after : ℕ) (change : Service → Service) → AreByProcess pairs rows
     → before ≡ process_in (find (has_number number) rows)
     → after ≡ process_in (find (has_number number) (map (altered_at number_of number change) rows))
-    → before ≢ after → has_pair pairs (pair_of before number) ≡ true
-its_pair pairs rows number before after change are was becomes apart = by (find (has_number number) rows) refl
+    → before ≢ after → before ≢ 0 → has_pair pairs (pair_of before number) ≡ true
+its_pair pairs rows number before after change are was becomes apart some = by (find (has_number number) rows) refl
   where
     by : (found : Option Service) → find (has_number number) rows ≡ found → has_pair pairs (pair_of before number) ≡ true
     by None none = absurd (apart (was ∙ ap process_in (ap (find (has_number number)) (sym (none_changes number change rows none)))
         ∙ sym becomes))
-    by (Some row) found = rw (was ∙ ap process_in found) (has_its_pair pairs rows number row are found)
+    by (Some row) found =
+        let is : before ≡ row.process = was ∙ ap process_in found in
+        rw is (has_its_pair pairs rows number row are found (rw is at some))
 
 -- another configuration leaves the process
 pub configured : (pairs : List Pair) (rows : List Service) (number : ℕ) (config : Config) → AreByProcess pairs rows
     → AreByProcess pairs (map (altered_at number_of number (with_config config)) rows)
 configured pairs rows number config are process =
-    are process ∙ sym (groups.same_members (has_process process) (altered_at number_of number (with_config config)) rows
+    are process ∙ sym (groups.same_members (is_by process) (altered_at number_of number (with_config config)) rows
     same_numbers same_processes)
   where
     same_numbers : (row : Service) → (altered_at number_of number (with_config config) row).number ≡ row.number
     same_numbers row = elim (eqb row.number number) as (λ b. (cond b (with_config config row) row).number ≡ row.number)
         [ true ↦ refl | false ↦ refl ]
 
-    same_processes : (row : Service) → has_process process (altered_at number_of number (with_config config) row) ≡ has_process process row
+    same_processes : (row : Service) → is_by process (altered_at number_of number (with_config config) row) ≡ is_by process row
     same_processes row = elim (eqb row.number number)
-        as (λ b. has_process process (cond b (with_config config row) row) ≡ has_process process row) [ true ↦ refl | false ↦ refl ]
+        as (λ b. is_by process (cond b (with_config config row) row) ≡ is_by process row) [ true ↦ refl | false ↦ refl ]
 
 -- ## A number moves
 
 pub moved : (old middle new : List Pair) (before after number : ℕ) → eqb before after ≡ false
-    → ((process : ℕ) → numbers_under process middle ≡ cond (eqb before process)
-    (without_number (numbers_under process old) number) (numbers_under process old))
-    → ((process : ℕ) → numbers_under process new ≡ cond (eqb after process)
-    (with_number (numbers_under process middle) number) (numbers_under process middle))
-    → MovesUnder old new before after number
+    → ChangesOf before old middle (λ numbers. without_number numbers number)
+    → ChangesOf after middle new (λ numbers. with_number numbers number) → MovesUnder old new before after number
 moved old middle new before after number apart leaves comes process =
-    rw apart (comes process ∙ ap (λ ns. cond (eqb after process) (with_number ns number) ns) (leaves process))
+    rw apart (comes process ∙ ap (λ ns. cond (is_under process after) (with_number ns number) ns) (leaves process))
+
+-- ## Services without a process
+
+pub idle_entered : (rows : List Service) (row : Service) → idle (rows ++ row ∷ []) ≡ idle rows + idle_at row.process
+idle_entered [] row = omega arith
+idle_entered (other ∷ rows) row = omega (arith, idle_entered rows row)
+
+-- as many at most as there are
+pub idle_within : (rows : List Service) → idle rows ≤ length rows
+idle_within [] = omega arith
+idle_within (row ∷ rows) =
+    elim (eqb row.process 0) as (λ b. cond b 1 0 + idle rows ≤ suc (length rows)) [
+      | true ↦ omega (arith, idle_within rows)
+      | false ↦ omega (arith, idle_within rows)
+    ]
+
+-- those that stay are no more than all
+pub idle_filtered : (p : Service → Bool) (rows : List Service) → idle (filter p rows) ≤ idle rows
+idle_filtered p [] = omega arith
+idle_filtered p (row ∷ rows) =
+    elim (p row) as (λ b. idle (cond b (row ∷ filter p rows) (filter p rows)) ≤ idle_at row.process + idle rows) [
+      | true ↦ omega (arith, idle_filtered p rows)
+      | false ↦ omega (arith, idle_filtered p rows)
+    ]
+
+-- one that leaves takes its part with it
+pub idle_without : (rows : List Service) (row : Service) (number : ℕ) → find (has_number number) rows ≡ Some row
+    → idle (filter (λ (other : Service). not (has_number number other)) rows) + idle_at row.process ≤ idle rows
+idle_without [] row number found = absurd (cc found)
+idle_without (other ∷ rows) row number found =
+    elim (cases_Bool (has_number number other)) [
+      | inl is ↦
+          let here : other ≡ row = cc (sym (ap (λ b. cond b (Some other) (find (has_number number) rows)) is) ∙ found) in
+          rw is (rw here (omega (arith, idle_filtered (λ (r : Service). not (has_number number r)) rows)))
+      | inr apart ↦
+          let next : find (has_number number) rows ≡ Some row =
+          sym (ap (λ b. cond b (Some other) (find (has_number number) rows)) apart) ∙ found in
+          rw apart (omega (arith, idle_without rows row number next))
+    ]
+
+-- a change of each service that leaves its process
+pub idle_mapped : (change : Service → Service) (rows : List Service) → ((row : Service) → (change row).process ≡ row.process)
+    → idle (map change rows) ≡ idle rows
+idle_mapped change [] same = refl
+idle_mapped change (row ∷ rows) same = rw (same row) (ap (λ n. idle_at row.process + n) (idle_mapped change rows same))
+
+pub idle_configured : (rows : List Service) (number : ℕ) (config : Config)
+    → idle (map (altered_at number_of number (with_config config)) rows) ≡ idle rows
+idle_configured rows number config = idle_mapped (altered_at number_of number (with_config config)) rows
+    (λ row. elim (eqb row.number number) as (λ b. (cond b (with_config config row) row).process ≡ row.process)
+    [ true ↦ refl | false ↦ refl ])
+
+-- where a service changes, so does what it counts
+pub idle_altered : (rows : List Service) (number before after : ℕ) (change : Service → Service)
+    → ((row : Service) → (change row).number ≡ row.number) → AreRisingBy number_of rows
+    → before ≡ process_in (find (has_number number) rows)
+    → after ≡ process_in (find (has_number number) (map (altered_at number_of number change) rows))
+    → idle (map (altered_at number_of number change) rows) + idle_at before ≡ idle rows + idle_at after
+idle_altered [] number before after change numbers rising was becomes = rw (was, becomes) refl
+idle_altered (row ∷ rows) number before after change numbers rising was becomes =
+    elim (cases_Bool (has_number number row)) [
+      | inl is ↦
+          let later = subst (λ m. AllByRecursion (λ (other : Service). m < other.number) rows) (eqb-true row.number number is) rising.0 in
+          let kept : has_number number (change row) ≡ true = ap (λ n. eqb n number) (numbers row) ∙ is in
+          let left : before ≡ row.process = rw is at was in
+          let entered_now : after ≡ (change row).process = rw (is, kept) at becomes in
+          rw (is, groups.unmapped number change rows later, left, entered_now) (omega arith)
+      | inr apart ↦
+          rw apart (omega (
+            arith,
+            idle_altered rows number before after change numbers rising.1 (rw apart at was)
+                (rw (apart, apart) at becomes),
+          ))
+    ]
+
+-- one of another process comes in where one without a process was
+pub idle_is : (rows : List Service) (number : ℕ) (row : Service) → find (has_number number) rows ≡ Some row → row.process ≡ 0
+    → 1 ≤ idle rows
+idle_is [] number row found none = absurd (cc found)
+idle_is (other ∷ rows) number row found none =
+    elim (cases_Bool (has_number number other)) [
+      | inl is ↦
+          let here : other ≡ row = cc (sym (ap (λ b. cond b (Some other) (find (has_number number) rows)) is) ∙ found) in
+          rw (here, none) (omega arith)
+      | inr apart ↦
+          let next : find (has_number number) rows ≡ Some row =
+          sym (ap (λ b. cond b (Some other) (find (has_number number) rows)) apart) ∙ found in
+          omega (arith, idle_is rows number row next none)
+    ]
+
+-- there is room for the pair of a service that gets a process
+pub room_for : (rows : List Service) (number before after room : ℕ) (change : Service → Service) → idle rows ≤ room
+    → before ≡ process_in (find (has_number number) rows)
+    → after ≡ process_in (find (has_number number) (map (altered_at number_of number change) rows))
+    → before ≢ after → before ≡ 0 → 1 ≤ room
+room_for rows number before after room change fits was becomes apart none = by (find (has_number number) rows) refl
+  where
+    by : (found : Option Service) → find (has_number number) rows ≡ found → 1 ≤ room
+    by None lacks = absurd (apart (was ∙ ap process_in (ap (find (has_number number)) (sym (none_changes number change rows lacks)))
+        ∙ sym becomes))
+    by (Some row) found =
+        omega (arith, fits, idle_is rows number row found (sym (ap process_in found) ∙ sym was ∙ none))

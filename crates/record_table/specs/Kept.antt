@@ -1,16 +1,17 @@
 -- The numbers that are kept under each text, and what is always true of a table's fields.
-use Rattle.std.specs.Prelude.{ℕ, ◌≡◌, ◌≤◌, ◌==◌, Bool, List, IfSome, if◌then◌else◌}
+use Rattle.std.specs.Prelude.{ℕ, ◌≡◌, ◌+◌, ◌≤◌, ◌==◌, ◌&&◌, not, Bool, List, [], ◌∷◌, IfSome, if◌then◌else◌}
 use Rattle.scm_text.specs.Fold.{same_text}
 use Rattle.number_lists.specs.Rising.{with_number, without_number}
 use Rattle.number_lists.specs.UnderName.{UnderName, Changes, at, room}
 use Rattle.number_pairs.specs.declared.pairs.Pair.{Pair}
 use Rattle.number_pairs.specs.Keyed.{numbers_under}
+use Rattle.scm_model.specs.Processes.{currents_in}
 use Rattle.scm_model.specs.declared.flat.Service.{Service}
 use Rattle.record_table.specs.declared.texts.KeptTexts.{KeptTexts}
 use Rattle.record_table.specs.declared.texts.Spare.{Spare}
 use Rattle.record_table.specs.declared.table.RecordTable.TheInside.{Inside}
 use Rattle.row_slab.specs.Rowed.{AreRisingBy}
-use Rattle.record_table.specs.Recorded.{Recorded, has_process, is_displayed, is_member, is_named, number_of, numbers_with}
+use Rattle.record_table.specs.Recorded.{Recorded, is_displayed, is_member, is_named, number_of, numbers_with}
 
 -- ## Lists under texts
 
@@ -76,32 +77,50 @@ pub record HasTexts (texts : KeptTexts) (row : Spare) : Type 0 where
 
 -- ## Services under their processes
 
--- the numbers under each process are those of the services that have it
+-- the numbers under each process are those of the services whose current process it is
 abbrev pub AreByProcess : List Pair → List Service → Type 0
-AreByProcess pairs rows = (process : ℕ) → numbers_under process pairs ≡ numbers_with (has_process process) rows
+AreByProcess pairs rows = (process : ℕ) → numbers_under process pairs ≡ currents_in process rows
 
--- a number leaves those under one process and comes to those under another, unless that is the same
+-- whether a service with a process is listed under a process; 0 is none
+abbrev pub is_under : ℕ → ℕ → Bool
+is_under process own = not (process == 0) && own == process
+
+-- the numbers under the own process of a service change, and those under each other process stay
+abbrev pub ChangesOf : ℕ → List Pair → List Pair → (List ℕ → List ℕ) → Type 0
+ChangesOf own old new change = (process : ℕ) → numbers_under process new ≡
+    (if is_under process own then change (numbers_under process old) else numbers_under process old)
+
+-- a number moves from those under one process to those under another, unless both are the same process
 abbrev pub moved_under : ℕ → ℕ → ℕ → ℕ → List ℕ → List ℕ
 moved_under before after number process numbers =
     if before == after then numbers else
-    let less = if before == process then without_number numbers number else numbers in
-    if after == process then with_number less number else less
+    let less = if is_under process before then without_number numbers number else numbers in
+    if is_under process after then with_number less number else less
 
 abbrev pub MovesUnder : List Pair → List Pair → ℕ → ℕ → ℕ → Type 0
 MovesUnder old new before after number =
     (process : ℕ) → numbers_under process new ≡ moved_under before after number process (numbers_under process old)
 
+-- how many services have no process, each of which may be listed under one without memory
+abbrev pub idle_at : ℕ → ℕ
+idle_at process = if process == 0 then 1 else 0
+
+abbrev pub idle : List Service → ℕ
+idle [] = 0
+idle (row ∷ rows) = idle_at row.process + idle rows
+
 -- ## A table
 
 pub record HasRoom (table : Inside) (row : Spare) : Type 0 where
   pub rows : 1 ≤ table.rows.room
-  pub processes : 1 ≤ table.processes.room
+  pub processes : 1 + idle table.rows.items ≤ table.processes.room
   pub texts : HasTexts table.texts row
 
 pub record IsKept (table : Inside) : Type 0 where
   pub rising : AreRisingBy number_of table.rows.items
   pub texts : AreOf table.texts table.rows.items
   pub processes : AreByProcess table.processes.items table.rows.items
+  pub room : idle table.rows.items ≤ table.processes.room
   pub spare : IfSome table.spare (HasRoom table)
 
 abbrev pub recorded : Inside → Recorded

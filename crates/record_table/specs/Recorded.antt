@@ -21,9 +21,6 @@ number_of row = row.number
 abbrev pub has_number : ℕ → Service → Bool
 has_number number row = row.number == number
 
-abbrev pub has_process : ℕ → Service → Bool
-has_process process row = row.process == process
-
 abbrev pub is_named : List ℕ → Service → Bool
 is_named name row = same_text row.config.name name
 

@@ -1,14 +1,15 @@
-ghost use Rattle.std.specs.Prelude.{◌≡◌, ◌≢◌, ◌≤◌, ◌<◌, ◌^◌, find, length, map, option_copied};
+ghost use Rattle.std.specs.Prelude.{◌≡◌, ◌≢◌, ◌+◌, ◌≤◌, ◌<◌, ◌^◌, find, length, map, option_copied};
 ghost use Rattle.std.specs.Prelude.{slice_get, is_some, true, Ok, OnOk, OnErr, Some};
 ghost use Rattle.std.specs.List.{AllByRecursion};
-ghost use Rattle.number_lists.specs.Rising.{AreRising};
+ghost use Rattle.number_lists.specs.Rising.{AreRising, with_number, without_number};
 ghost use Rattle.number_pairs.specs.declared.pairs.Pair.{Pair};
 ghost use Rattle.number_pairs.specs.Keyed.{has_pair};
 ghost use Rattle.row_slab.specs.Rowed.{AreRisingBy, is_above};
+ghost use Rattle.scm_model.specs.Processes.{currents_in, is_by};
 ghost use Rattle.scm_model.specs.declared.flat.Service.{Service};
-ghost use Rattle.record_table.specs.Kept.{MovesUnder};
+ghost use Rattle.record_table.specs.Kept.{ChangesOf, MovesUnder, idle_at};
 ghost use Rattle.record_table.specs.Recorded.{altered, change_at, config_of_number, empty};
-ghost use Rattle.record_table.specs.Recorded.{first_with, has_number, has_process, inserted};
+ghost use Rattle.record_table.specs.Recorded.{first_with, has_number, inserted};
 ghost use Rattle.record_table.specs.Recorded.{is_displayed, is_member, is_named, lived, number_of};
 ghost use Rattle.record_table.specs.Recorded.{numbers_with, process_in, removed, replaced};
 ghost use Rattle.record_table.specs.Recorded.{reserved};
@@ -78,21 +79,49 @@ fn process_of(rows: &Rows<Service>, number: u64) -> u64
     }
 }
 
-/// Moves a number from those under one process to those under another.
-fn move_under(processes: &mut NumberPairs, before: u64, after: u64, number: u64)
-    requires { before ≢ after → has_pair processes.old.items
-        (record { key = before; number = number }) ≡ true }
-    ensures under { MovesUnder processes.old.items processes.new.items before after number }
-    ensures room { processes.old.room ≤ processes.new.room }
+/// Puts a number under a process; 0 is none. It takes no memory.
+fn enter_under(processes: &mut NumberPairs, process: u64, number: u64)
+    requires { process ≢ 0 → 1 ≤ processes.old.room }
+    ensures under { ChangesOf process processes.old.items processes.new.items
+        (λ numbers. with_number numbers number) }
+    ensures room { processes.old.room + idle_at process ≤ processes.new.room + 1 }
 {
-    if before == after {
-        return;
+    if process != 0 {
+        processes.add(Pair {
+            key: process,
+            number,
+        });
     }
-    processes.remove(Pair {
-        key: before,
-        number,
-    });
-    processes.add(Pair { key: after, number });
+}
+
+/// Takes a number from those under a process, where it is; 0 is none.
+fn leave_under(processes: &mut NumberPairs, process: u64, number: u64)
+    requires { process ≢ 0 → has_pair processes.old.items
+        (record { key = process; number = number }) ≡ true }
+    ensures under { ChangesOf process processes.old.items processes.new.items
+        (λ numbers. without_number numbers number) }
+    ensures room { processes.old.room + 1 ≤ processes.new.room + idle_at process }
+{
+    if process != 0 {
+        processes.remove(Pair {
+            key: process,
+            number,
+        });
+    }
+}
+
+/// Moves a number from those under one process to those under another. It takes no memory.
+fn move_under(processes: &mut NumberPairs, before: u64, after: u64, number: u64)
+    requires there { before ≢ after → before ≢ 0 → has_pair processes.old.items
+        (record { key = before; number = number }) ≡ true }
+    requires room { before ≢ after → before ≡ 0 → 1 ≤ processes.old.room }
+    ensures under { MovesUnder processes.old.items processes.new.items before after number }
+    ensures room { processes.old.room + idle_at after ≤ processes.new.room + idle_at before }
+{
+    if before != after {
+        leave_under(processes, before, number);
+        enter_under(processes, after, number);
+    }
 }
 
 impl RecordTable {
@@ -117,7 +146,7 @@ impl RecordTable {
     {
         let alloc = self.alloc;
         self.rows.reserve()?;
-        self.processes.reserve()?;
+        self.processes.reserve(self.rows.len() + 1)?;
         let spare = Spare::of(config, alloc)?;
         if reserve_texts(&mut self.texts, alloc, &spare, &self.spare).is_err() {
             drop(spare);
@@ -145,10 +174,7 @@ impl RecordTable {
             return;
         };
         enter_texts(&mut self.texts, &spare, service.number);
-        self.processes.add(Pair {
-            key: service.process,
-            number: service.number,
-        });
+        enter_under(&mut self.processes, service.process, service.number);
         self.rows.push(service);
     }
 
@@ -177,10 +203,7 @@ impl RecordTable {
         let row = self.rows.remove(number)?;
         forget_room(&mut self.texts, self.spare.take());
         leave_texts(&mut self.texts, &row.config, number);
-        self.processes.remove(Pair {
-            key: row.process,
-            number,
-        });
+        leave_under(&mut self.processes, row.process, number);
         Some(row)
     }
 
@@ -285,19 +308,19 @@ impl RecordTable {
         self.texts.groups.at(group)
     }
 
-    /// The services with a process, which may be 0, each as a pair of the process and its number.
+    /// The services whose current process this is, each as a pair of the process and its number.
     pub fn of_process(&self, process: u64) -> &[Pair]
         ensures { map (λ (pair : Pair). pair.number) result.now
-            ≡ numbers_with (has_process process) self.now.services }
+            ≡ currents_in process self.now.services }
     {
         self.processes.at(process)
     }
 
-    /// The number of the first service with a process, which may be 0.
+    /// The number of the first service whose current process this is.
     pub fn first_of_process(&self, process: u64) -> Option<u64>
-        ensures number { result ≡ first_with (has_process process) self.now.services }
+        ensures number { result ≡ first_with (is_by process) self.now.services }
         ensures row { service_at self.now.services result ≡ find
-            (has_process process) self.now.services }
+            (is_by process) self.now.services }
     {
         match self.processes.at(process).first() {
             Some(pair) => Some(pair.number),

@@ -7,7 +7,6 @@ use Rattle.std.proofs.lemmas.Bool.{cases_Bool, ne_eqb}
 use Rattle.std.proofs.lemmas.List.Elements.{All-head, All-tail}
 use Rattle.std.proofs.lemmas.Option.{slice_get-map}
 use Rattle.number_pairs.specs.declared.pairs.Pair.{Pair}
-use Rattle.record_table.specs.Recorded.{has_process}
 use Rattle.scm_model.specs.declared.flat.Service.{Service}
 use Rattle.scm_model.specs.Processes.{currents, currents_in, is_by}
 use Rattle.scm_rules.specs.Controls.{is_asked_by}
@@ -15,35 +14,6 @@ use Rattle.scm_tables.specs.Asked.{asked_in}
 use Rattle.scm_tables.proofs.Falling.{Rises, rises}
 use Rattle.scm_tables.proofs.Numbered.{IsFound, active_rows, count_of, each_found, number_of, passing_found, with_number}
 use Rattle.scm_tables.proofs.Wording.{found_has}
-
--- ## By process
-
-nothing_passes : (rows : List Service) → filter (λ (row : Service). false) rows ≡ []
-nothing_passes [] = refl
-nothing_passes (row ∷ rows) = nothing_passes rows
-
-nothing_found : (rows : List Service) → find (λ (row : Service). false) rows ≡ None
-nothing_found [] = refl
-nothing_found (row ∷ rows) = nothing_found rows
-
--- 0 is no service's process
-pub none_by : (process : ℕ) (rows : List Service) → process ≡ 0 → currents process rows ≡ []
-none_by process rows none =
-    ap (λ b. filter (λ (row : Service). not b && row.process == process) rows) (eq-eqb process 0 none) ∙ nothing_passes rows
-
-pub none_found_by : (process : ℕ) (rows : List Service) → process ≡ 0 → find (is_by process) rows ≡ None
-none_found_by process rows none =
-    ap (λ b. find (λ (row : Service). not b && row.process == process) rows) (eq-eqb process 0 none) ∙ nothing_found rows
-
--- any other one is the process of the services that have it
-pub found_by : (process : ℕ) (rows : List Service) → process ≢ 0 → find (has_process process) rows ≡ find (is_by process) rows
-found_by process rows some =
-    ap (λ b. find (λ (row : Service). not b && row.process == process) rows) (sym (ne_eqb process 0 some))
-
-pub currents_by : (process : ℕ) (rows : List Service) → process ≢ 0
-    → map number_of (filter (has_process process) rows) ≡ currents_in process rows
-currents_by process rows some =
-    ap (λ b. map number_of (filter (λ (row : Service). not b && row.process == process) rows)) (sym (ne_eqb process 0 some))
 
 -- ## By number and process
 
@@ -91,7 +61,8 @@ abbrev pub paired : List Service → Option Pair → Option Service
 paired rows found = option_and_then (with_number rows) (option_map pair_number found)
 
 find_of : (q : Option Service → Bool) (all some : List Service) → All (IsFound all) some
-    → option_and_then (with_number all) (find (λ n. q (with_number all n)) (map number_of some)) ≡ find (λ (row : Service). q (Some row)) some
+    → option_and_then (with_number all) (find (λ n. q (with_number all n)) (map number_of some)) ≡ find
+    (λ (row : Service). q (Some row)) some
 find_of q all [] found = refl
 find_of q all (row ∷ some) found =
     let here : with_number all row.number ≡ Some row = All-head (IsFound all) row some found in

@@ -17,7 +17,7 @@ ghost use Rattle.scm_tables.specs.Failed.{with_one_fallen};
 
 use super::noticing::{note_fall, note_report};
 use super::processes::Processes;
-use super::service_rows::{count_in, current_in, current_with, fall_in, pairs_of, report_in};
+use super::service_rows::{count_in, current_with, fall_in, report_in};
 use super::tables::Tables;
 use failure_actions::{due_action, on_failure};
 use scm_model::codes::{ERROR_PROCESS_ABORTED, SERVICE_STOPPED};
@@ -154,7 +154,7 @@ impl Tables {
             (slice_get (currents process self.old.flat.services) place) self.old.flat }
         ensures limits { self.new.limits ≡ self.old.limits }
     {
-        let Some(pair) = pairs_of(&self.services, process).get(place) else {
+        let Some(pair) = self.services.of_process(process).get(place) else {
             return;
         };
         let failed = failure_of(self.services.get(pair.number), self.moment);
@@ -168,7 +168,7 @@ impl Tables {
             ≡ all_failed (currents process self.old.flat.services) self.old.flat }
         ensures limits { self.new.limits ≡ self.old.limits }
     {
-        for place in 0..pairs_of(&self.services, process).len() {
+        for place in 0..self.services.of_process(process).len() {
             self.fail_at(process, place);
         }
     }
@@ -193,10 +193,7 @@ impl Tables {
             (find (is_by process) self.now.flat.services) }
         ensures rising { AllPairs (λ a b. a.number < b.number) self.now.flat.services }
     {
-        match current_in(&self.services, process) {
-            Some(row) => Some(row.number),
-            None => None,
-        }
+        self.services.first_of_process(process)
     }
 
     /// Each service falls whose current process this is; its registrations are notified.

@@ -23,7 +23,6 @@ ghost use Rattle.scm_tables.specs.Listed.{wanted_of, without_words};
 ghost use Rattle.scm_tables.specs.Promised.{KeepsRooms};
 
 use super::process_rows::ProcessRow;
-use super::service_rows::pairs_of;
 use super::tables::Tables;
 use number_pairs::Pair;
 use scm_model::{DueKind, Plan, Service};
@@ -174,7 +173,7 @@ impl Tables {
         ensures flat { self.new.flat ≡ with_decided_for self.old.flat process code }
         ensures limits { self.new.limits ≡ self.old.limits }
     {
-        decide_each(&mut self.plans, pairs_of(&self.services, process), code);
+        decide_each(&mut self.plans, self.services.of_process(process), code);
     }
 
     /// The code of a plan; none where it is undecided or absent.

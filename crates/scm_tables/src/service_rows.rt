@@ -5,7 +5,7 @@ ghost use Rattle.record_table.specs.Recorded.{is_displayed, is_named, spare_of};
 ghost use Rattle.scm_model.specs.Changes.{configured_if, marked_if};
 ghost use Rattle.scm_model.specs.Purge.{leaves};
 ghost use Rattle.number_pairs.specs.declared.pairs.Pair.{Pair};
-ghost use Rattle.scm_model.specs.Processes.{currents_in, is_by};
+ghost use Rattle.scm_model.specs.Processes.{is_by};
 ghost use Rattle.scm_rules.specs.Controls.{is_asked_by, unasked_if};
 ghost use Rattle.scm_rules.specs.Failures.{counted_if};
 ghost use Rattle.scm_rules.specs.Reports.{reported_if};
@@ -166,9 +166,6 @@ fn is_by(row: &Service, process: u64) -> bool
 pub fn current_in(rows: &RecordTable, process: u64) -> Option<&Service>
     ensures { option_copied result ≡ find (is_by process) rows.now.services }
 {
-    if process == 0 {
-        return None;
-    }
     rows.get(rows.first_of_process(process)?)
 }
 
@@ -180,18 +177,6 @@ pub fn current_with(rows: &RecordTable, number: u64, process: u64) -> Option<&Se
 {
     let row = rows.get(number)?;
     if is_by(row, process) { Some(row) } else { None }
-}
-
-/// The services with a process, or none if there is no process.
-pub fn pairs_of(rows: &RecordTable, process: u64) -> &[Pair]
-    ensures { map (λ (pair : Pair). pair.number) result.now
-        ≡ currents_in process rows.now.services }
-{
-    if process == 0 {
-        &[]
-    } else {
-        rows.of_process(process)
-    }
 }
 
 /// Whether the service with a number is asked to start.
@@ -229,7 +214,7 @@ pub fn first_asked_in(rows: &RecordTable, process: u64) -> Option<&Service>
     requires { AllPairs (λ a b. a.number < b.number) rows.now.services }
     ensures { option_copied result ≡ find (is_asked_by process) rows.now.services }
 {
-    let pair = first_asked_of(rows, pairs_of(rows, process))?;
+    let pair = first_asked_of(rows, rows.of_process(process))?;
     rows.get(pair.number)
 }
 
@@ -239,7 +224,7 @@ pub fn count_asked_in(rows: &RecordTable, process: u64) -> usize
     ensures count { result ≡ length (filter (is_asked_by process) rows.now.services) }
     ensures small { result < 2 ^ 63 }
 {
-    count_asked_of(rows, pairs_of(rows, process))
+    count_asked_of(rows, rows.of_process(process))
 }
 
 /// A failure at a moment is counted with the service with a number.

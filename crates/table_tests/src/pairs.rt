@@ -14,7 +14,7 @@ enum Change {
 fn apply(pairs: &mut NumberPairs, change: Change) -> Result<(), OutOfMemory> {
     match change {
         Change::Comes(key, number) => {
-            pairs.reserve()?;
+            pairs.reserve(1)?;
             pairs.add(Pair { key, number });
         }
         Change::Leaves(key, number) => pairs.remove(Pair { key, number }),

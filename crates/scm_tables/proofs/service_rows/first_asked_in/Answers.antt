@@ -5,10 +5,10 @@ use Rattle.scm_tables.proofs.service_rows.first_asked_in.Goals as goal
 pub returns-in_err-pair : goal.returns-in_err-pair
 returns-in_err-pair c =
     rw c.from_residual.ensures
-    (first_asked c.args.rows.now.services c.requires c.args.process c.pairs_of.result.now c.pairs_of.ensures None c.in_err-pair.ensures)
+    (first_asked c.args.rows.now.services c.requires c.args.process c.of_process.result.now c.of_process.ensures None c.in_err-pair.ensures)
 
 pub returns : goal.returns
 returns c =
     c.get.ensures
-    ∙ first_asked c.args.rows.now.services c.requires c.args.process c.pairs_of.result.now c.pairs_of.ensures
+    ∙ first_asked c.args.rows.now.services c.requires c.args.process c.of_process.result.now c.of_process.ensures
     (Some c.in_ok-pair.pair.now) c.in_ok-pair.ensures

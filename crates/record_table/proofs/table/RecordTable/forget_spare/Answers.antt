@@ -6,5 +6,6 @@ invariant_of-self c = record {
   rising = c.self.invariant.rising;
   texts = still_of _ _ _ c.forget_room.ensures c.self.invariant.texts;
   processes = c.self.invariant.processes;
+  room = c.self.invariant.room;
   spare = rw c.take.ensures.after tt;
 }

@@ -1,4 +1,4 @@
-use Rattle.std.proofs.Common.{◌∙◌, arith, not, sym}
+use Rattle.std.proofs.Common.{◌∙◌, arith, not, refl, sym}
 use Rattle.record_table.specs.Recorded.{has_number}
 use Rattle.scm_model.specs.declared.flat.Service.{Service}
 use Rattle.record_table.proofs.Finding.{none_leaves}
@@ -14,9 +14,14 @@ invariant_of-self c =
       rising = rw same c.self.invariant.rising;
       texts = rw same c.self.invariant.texts;
       processes = rw same c.self.invariant.processes;
+      room = rw same c.self.invariant.room;
       spare = more_room c.self.inside.spare c.self.inside c.remove.new.self c.self.inside.texts c.self.inside.processes
-          c.remove.ensures.room (omega arith) (λ had. had) c.self.invariant.spare;
+          c.remove.ensures.room (rw same (omega arith)) (λ had. had) c.self.invariant.spare;
     }
+
+pub leave_under-requires : goal.leave_under-requires
+leave_under-requires c = processes.has_its_pair c.self.inside.processes.items c.self.inside.rows.items c.args.number c.in_ok-row.row
+    c.self.invariant.processes (sym c.in_ok-row.ensures.row)
 
 pub invariant_of-self-2 : goal.invariant_of-self-2
 invariant_of-self-2 c =
@@ -25,7 +30,19 @@ invariant_of-self-2 c =
       texts = gone_from c.forget_room.new.texts c.leave_texts.new.texts c.self.inside.rows.items c.in_ok-row.row c.args.number
           (still_of _ _ _ c.forget_room.ensures c.self.invariant.texts) c.self.invariant.rising
           (sym c.in_ok-row.ensures.row) c.leave_texts.ensures;
-      processes = processes.gone c.self.inside.processes.items c.remove-2.new.self.items c.self.inside.rows.items c.in_ok-row.row
-          c.args.number c.self.invariant.processes c.self.invariant.rising (sym c.in_ok-row.ensures.row) c.remove-2.ensures.under;
+      processes = processes.gone c.self.inside.processes.items c.leave_under.new.processes.items c.self.inside.rows.items c.in_ok-row.row
+          c.args.number c.self.invariant.processes c.self.invariant.rising (sym c.in_ok-row.ensures.row) c.leave_under.ensures.under;
+      room = omega (
+        arith,
+        processes.idle_without c.self.inside.rows.items c.in_ok-row.row c.args.number (sym c.in_ok-row.ensures.row),
+        c.leave_under.ensures.room,
+        c.self.invariant.room,
+      );
       spare = tt;
     })
+
+pub returns-clause-service : goal.returns-clause-service
+returns-clause-service c = rw (← c.self.view_is) c.in_ok-row.ensures.row
+
+pub returns-clause-table : goal.returns-clause-table
+returns-clause-table c = rw (← c.self.view_is, c.remove.ensures.items, c.take.ensures.after, ← c.in_ok-row.ensures.row) refl

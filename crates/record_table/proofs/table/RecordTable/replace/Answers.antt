@@ -1,5 +1,6 @@
-use Rattle.std.proofs.Common.{◌≡◌, ◌∙◌, refl, find}
+use Rattle.std.proofs.Common.{◌≡◌, ◌∙◌, ap, refl, find}
 use Rattle.std.proofs.lemmas.Option.{same_Some}
+use Rattle.record_table.specs.Kept.{idle}
 use Rattle.record_table.specs.Recorded.{spare_of, has_number, number_of, with_config}
 use Rattle.record_table.proofs.Finding.{none_changes, none_configured, some_configured}
 use Rattle.record_table.proofs.Moving.{exchanged_each, still_room}
@@ -18,7 +19,9 @@ invariant_of-self c =
       rising = rw same c.self.invariant.rising;
       texts = rw same c.self.invariant.texts;
       processes = rw same c.self.invariant.processes;
-      spare = still_room c.self.inside.spare c.self.inside c.exchange.new.rows c.exchange.ensures.room c.self.invariant.spare;
+      room = rw same c.self.invariant.room;
+      spare = still_room c.self.inside.spare c.self.inside c.exchange.new.rows c.exchange.ensures.room (ap idle same)
+          c.self.invariant.spare;
     }
 
 pub invariant_of-self-2 : goal.invariant_of-self-2
@@ -34,5 +37,6 @@ invariant_of-self-2 c =
       texts = exchanged_each c.self.inside.texts c.move_texts.new.texts rows got.0 n config c.self.invariant.texts c.self.invariant.rising
           got.1 (rw (← got.2, made) at c.move_texts.ensures);
       processes = processes.configured c.self.inside.processes.items rows n config c.self.invariant.processes;
+      room = rw (processes.idle_configured rows n config) c.self.invariant.room;
       spare = rw c.in-Some.ensures.after tt;
     })

@@ -21,9 +21,9 @@ fail-requires-clause-service c =
 pub returns-clause-flat : goal.returns-clause-flat
 returns-clause-flat c =
     let f = c.args.self.now.flat in
-    let pairs = c.pairs_of.result.now in
+    let pairs = c.of_process.result.now in
     let numbers = subst (λ (t : Tabled). map (λ (pair : Pair). pair.number) pairs ≡ currents_in c.args.process t.flat.services)
-    c.self.view_is c.pairs_of.ensures in
+    c.self.view_is c.of_process.ensures in
     let failed = c.failure_of-failed.ensures ∙ ap (λ (o : Option Service). option_map (failed_at c.self.inside.moment) o) c.get-2.ensures
     ∙ ap (λ (t : Tabled). option_map (failed_at t.flat.moment) (with_number t.flat.services c.in-Some.pair.now.number)) c.self.view_is in
     c.fail.ensures.flat
@@ -33,8 +33,8 @@ returns-clause-flat c =
 
 pub returns-in_default-clause-flat : goal.returns-in_default-clause-flat
 returns-in_default-clause-flat c =
-    let pairs = c.pairs_of.result.now in
+    let pairs = c.of_process.result.now in
     let numbers = subst (λ (t : Tabled). map (λ (pair : Pair). pair.number) pairs ≡ currents_in c.args.process t.flat.services)
-    c.self.view_is c.pairs_of.ensures in
+    c.self.view_is c.of_process.ensures in
     failed_there c.args.self.now.flat (in_order c.self.invariant c.self.view_is) c.args.process c.args.place pairs numbers None
     (sym (slice_get_past pairs c.args.place c.in_default.ensures.lookup.3))

@@ -14,9 +14,9 @@ pub fail_at-requires : goal.fail_at-requires
 fail_at-requires c =
     let old = c.args.self.now.flat in
     let process = c.args.process in
-    let pairs = c.pairs_of-place-end.result.now in
+    let pairs = c.of_process-place-end.result.now in
     let numbers = subst (λ (t : Tabled). map (λ (pair : Pair). pair.number) pairs ≡ currents_in process t.flat.services)
-    c.self.view_is c.pairs_of-place-end.ensures in
+    c.self.view_is c.of_process-place-end.ensures in
     let count = pairs_count process old.services pairs numbers in
     due_fits process c.loop-place.place old c.loop-place.self.flat (omega (arith, count))
     c.loop-place.invariant.fails
@@ -26,9 +26,9 @@ loop-place-preserved c =
     let old = c.args.self.now.flat in
     let process = c.args.process in
     let place = c.loop-place.place in
-    let pairs = c.pairs_of-place-end.result.now in
+    let pairs = c.of_process-place-end.result.now in
     let numbers = subst (λ (t : Tabled). map (λ (pair : Pair). pair.number) pairs ≡ currents_in process t.flat.services)
-    c.self.view_is c.pairs_of-place-end.ensures in
+    c.self.view_is c.of_process-place-end.ensures in
     let count = pairs_count process old.services pairs numbers in
     let rising = rising_currents process old.services (in_order c.self.invariant c.self.view_is) in
     record {
@@ -42,9 +42,9 @@ pub returns-clause-flat : goal.returns-clause-flat
 returns-clause-flat c =
     let old = c.args.self.now.flat in
     let process = c.args.process in
-    let pairs = c.pairs_of-place-end.result.now in
+    let pairs = c.of_process-place-end.result.now in
     let numbers = subst (λ (t : Tabled). map (λ (pair : Pair). pair.number) pairs ≡ currents_in process t.flat.services)
-    c.self.view_is c.pairs_of-place-end.ensures in
+    c.self.view_is c.of_process-place-end.ensures in
     let count = pairs_count process old.services pairs numbers in
     all_done process c.loop-place.place old c.loop-place.self.flat (omega (arith, count))
     c.loop-place.invariant.fails

@@ -21,7 +21,8 @@ loop-number-smaller c =
     let f = c.loop-number.self.flat in
     let process = c.args.process in
     let next = falls_next f process c.args.code c.in-Some.number c.in-Some.ensures.rising c.in-Some.ensures.number in
-    subst (λ (g : Flat). length (currents process g.services) < length (currents process f.services)) (sym c.fall_one.ensures.flat) next.fewer
+    subst (λ (g : Flat). length (currents process g.services) < length (currents process f.services))
+    (sym c.fall_one.ensures.flat) next.fewer
 
 pub returns-clause-flat : goal.returns-clause-flat
 returns-clause-flat c =
