@@ -128,8 +128,8 @@ fn starts<R: Wait>(at: &Site<'_, R>, pass: &mut Pass, other: &mut Pass) -> Optio
     ensures book { IsOf at.now.book.now pass.new }
     ensures caller { pass.new.caller ≢ 0 }
     ensures other { IsOf at.now.book.now other.new }
-    ensures process { IfSome result (λ process. HoldsProcess at.now.book.now.opening other.new process
-        phases.Launched) }
+    ensures process { IfSome result (λ process.
+        HoldsProcess at.now.book.now.opening other.new process phases.Launched) }
 {
     let before = counted(at.book);
     let is_begun = begin_start(at.rt, at.alloc, at.book, pass, 2).is_some();
@@ -159,14 +159,7 @@ fn ends<R: Wait>(
     let before = counted(book);
     let control = look(rt, alloc, book, other, process);
     let taken = rung_since(book, before);
-    let is_stopped = reports(
-        rt,
-        book,
-        other,
-        process,
-        SERVICE_STOPPED,
-        Rung::CommonAndFirst,
-    );
+    let is_stopped = reports(rt, book, other, process, SERVICE_STOPPED, Rung::Common);
     let before = counted(book);
     let end = book.ended(rt, other, 0, process);
     let ended = rung_since(book, before);

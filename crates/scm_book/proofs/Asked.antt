@@ -2,7 +2,7 @@
 use Rattle.std.proofs.Common.{ℕ, ◌≡◌, ◌∙◌, ◌<◌, ◌≤◌, ◌==◌, ◌&&◌, Bool, true, false, not, cond, List, [], ◌∷◌, ◌++◌, Option, Some, filter}
 use Rattle.std.proofs.Common.{find}
 use Rattle.std.proofs.Common.{map, get_or, ap, sym, refl, subst, arith, eq-eqb, eqb-true}
-use Rattle.std.proofs.lemmas.Bool.{and_left, and_parts}
+use Rattle.std.proofs.lemmas.Bool.{and_left, and_parts, and_right}
 use Rattle.std.proofs.lemmas.List.Elements.{All-head, All-map, All-push, All-tail, All-weaker}
 use Rattle.std.specs.Prelude.{All, AllPairs, option_map}
 use Rattle.scm_model.specs.declared.calls.Request.{Request}
@@ -19,6 +19,7 @@ use Rattle.scm_model.specs.declared.steps.Step.{Step}
 use Rattle.scm_model.specs.declared.steps.Step.TheVariants.{Call, LaunchFailed, Report, Ended, ControlTaken, Tick, Raised}
 use Rattle.scm_model.specs.Changes.{configured_if, marked_if, with_moment}
 use Rattle.scm_model.specs.Entries.{with_kept}
+use Rattle.scm_model.specs.Processes.{is_shared}
 use Rattle.scm_model.specs.Purge.{leaves}
 use Rattle.scm_model.specs.Rows.{held_service}
 use Rattle.scm_model.proofs.Found.{found_keeps}
@@ -31,10 +32,10 @@ use Rattle.scm_rules.specs.Change.{new_config}
 use Rattle.scm_rules.specs.Change2.{level_config}
 use Rattle.scm_rules.specs.Controls.{first_asked, is_asked_by, unasked_if}
 use Rattle.scm_rules.specs.Failures.{counted_if, failed_by}
-use Rattle.scm_rules.specs.Launches.{currents, fallen, fallen_if, is_by, with_fallen}
+use Rattle.scm_rules.specs.Launches.{currents, fallen, fallen_if, is_by, process_of, with_fallen}
 use Rattle.scm_rules.specs.Reports.{is_reporter, reported_if, reported_in, reporting, with_report_of}
 use Rattle.scm_rules.specs.Steps.{at_moment, effect_of, finished_step, step_of}
-use Rattle.scm_rules.specs.Valid.{IsValid}
+use Rattle.scm_rules.specs.Valid.{IsAskedRight, IsValid}
 use Rattle.scm_rules.specs.Verdicts.{call_of, done_of, told_refused, verdict}
 use Rattle.scm_runs.proofs.Calls.{by_verdict}
 use Rattle.scm_runs.proofs.Effects.{process_up}
@@ -48,7 +49,7 @@ use Rattle.scm_runs.proofs.Sound.{reporting_by}
 use Rattle.scm_runs.proofs.Unasked.{ticked_apart}
 use Rattle.scm_rules.proofs.Held.{held_is}
 use Rattle.scm_book.specs.declared.bells.Children.{Children}
-use Rattle.scm_book.specs.Ringing.{AsksNoOther, asked_of, children_rung, controls_rung, if_stopped, is_rung, one_or_nobody}
+use Rattle.scm_book.specs.Ringing.{AsksNoOther, asked_of, children_rung, controls_rung, if_stopped, is_rung, shared_or_nobody}
 use Rattle.scm_book.proofs.Unstirred.{rung_kept, stops_another}
 
 -- ## Services in order
@@ -168,23 +169,40 @@ fell process numbers one code rows other asks = changed process numbers (fallen_
     (λ by. others process row (fallen code row) refl (of_another process one row (by_parts one row by).1 other) (no_current process))
     (same process row))) asks
 
--- a service takes a report that doesn't stop it, or that is of another process
-reported : (process : ℕ) (numbers : List ℕ) (number one : ℕ) (report : Status) (rows : List Service)
-    → ((report.state == SERVICE_STOPPED) ≡ true → (process == one) ≡ false)
-    → All (λ (row : Service). row.number ≡ number → row.process ≡ one) rows → Asks process numbers rows
-    → Asks process numbers (map (reported_if number report) rows)
-reported process numbers number one report rows other lives asks = changed process numbers (reported_if number report) rows
-    (λ k d lt. by (get_or rows k d) (lives k d lt)) asks
+-- a service is STOPPED that the process wasn't to be sent
+stopped : (process : ℕ) (report : Status) (row : Service) → (row.asked ≡ true → is_by process row ≡ false)
+    → IsAlike process row (record row { status = report; process = 0; asked = row.asked && false })
+stopped process report row unsent = record {
+  number = refl;
+  asked = and_left _ (row.asked && false) (no_current process) ∙ sym unlisted;
+  up = λ up by. absurd (let no : false ≡ true = sym (no_current process) ∙ by in cc);
+}
   where
-    by : (row : Service) → (row.number ≡ number → row.process ≡ one) → IsAlike process row (reported_if number report row)
-    by row lives = reported_or (IsAlike process row) number report row (λ e t. elim (report.state == SERVICE_STOPPED) as
+    unlisted : is_asked_by process row ≡ false
+    unlisted = elim row.asked as (λ b. row.asked ≡ b → (is_by process row && b) ≡ false) [
+      | true ↦ λ e. and_left (is_by process row) true (unsent e)
+      | false ↦ λ e. and_right (is_by process row) false refl
+    ] refl
+
+-- a service takes a report that doesn't stop it, that is of another process, or of one that isn't shared
+reported : (f : Flat) (process : ℕ) (numbers : List ℕ) (number one : ℕ) (report : Status)
+    → is_rung (if_stopped report (shared_or_nobody f (Some one))) process ≡ false → All (IsAskedRight f.processes) f.services
+    → All (λ (row : Service). row.number ≡ number → row.process ≡ one) f.services → Asks process numbers f.services
+    → Asks process numbers (map (reported_if number report) f.services)
+reported f process numbers number one report quiet right lives asks = changed process numbers (reported_if number report) f.services
+    (λ k d lt. by (get_or f.services k d) (right k d lt) (lives k d lt)) asks
+  where
+    by : (row : Service) → IsAskedRight f.processes row → (row.number ≡ number → row.process ≡ one)
+        → IsAlike process row (reported_if number report row)
+    by row right lives = reported_or (IsAlike process row) number report row (λ e t. elim (report.state == SERVICE_STOPPED) as
         (λ b. (report.state == SERVICE_STOPPED) ≡ b → IsAlike process row (record row {
           status = report;
           process = cond b 0 row.process;
           asked = row.asked && not b;
         })) [
-          | true ↦ λ stops. others process row _ refl
-              (of_another process one row (lives (eqb-true row.number number e)) (other stops)) (no_current process)
+          | true ↦ λ stops. stopped process report row (λ asked. (let lives = lives (eqb-true row.number number e) in
+              of_another process one row lives (stops_another f report process one quiet stops
+              (subst (λ n. is_shared (process_of f n) ≡ true) lives (right asked)))))
           | false ↦ λ runs. record {
             number = refl;
             asked = elim row.asked as (λ b. (is_by process row && (b && true)) ≡ (is_by process row && b)) [ true ↦ refl | false ↦ refl ];
@@ -260,79 +278,83 @@ lives_so rows p one rising is =
 
 -- the service that was found takes a report
 report_asks : (process : ℕ) (numbers : List ℕ) (f : Flat) (found : Option Service) (report : Status)
-    → ((row : Service) → found ≡ Some row → (report.state == SERVICE_STOPPED) ≡ true → (process == row.process) ≡ false)
+    → ((row : Service) → found ≡ Some row → is_rung (if_stopped report (shared_or_nobody f (Some row.process))) process ≡ false)
+    → All (IsAskedRight f.processes) f.services
     → ((row : Service) → found ≡ Some row → All (λ (r : Service). r.number ≡ row.number → r.process ≡ row.process) f.services)
     → Asks process numbers f.services → Asks process numbers (with_report_of f found report).services
-report_asks process numbers f found report others lives asks =
+report_asks process numbers f found report quiet right lives asks =
     let taken : Asks process numbers (reported_in report found f.services) =
     found_keeps (Asks process numbers) (λ (row : Service). map (reported_if row.number report)) found f.services asks
-    (λ row is. reported process numbers row.number row.process report f.services (others row is) (lives row is) asks) in
+    (λ row is. reported f process numbers row.number row.process report (quiet row is) right (lives row is) asks) in
     failing_keeps (λ (g : Flat). Asks process numbers g.services) (failed_by report found) _ taken
     (λ row is. counted process numbers row.number f.moment (reported_in report found f.services) taken)
     (λ service g moment kind is asks. asks)
 
 done_asks : (l : Limits) (f : Flat) (caller : ℕ) (asked : Request) (process : ℕ) (numbers : List ℕ)
-    → AllPairs (λ (a b : Service). a.number < b.number) f.services → is_rung (controls_rung f caller asked) process ≡ false
+    → AllPairs (λ (a b : Service). a.number < b.number) f.services
+    → All (IsAskedRight f.processes) f.services → is_rung (controls_rung f caller asked) process ≡ false
     → Asks process numbers f.services → Asks process numbers (done_of l f caller asked).flat.services
-done_asks l f caller (request.Delete handle) process numbers rising quiet asks =
+done_asks l f caller (request.Delete handle) process numbers rising right quiet asks =
     found_keeps (Asks process numbers) (λ (row : Service). map (marked_if row.number)) (held_service f caller handle) f.services asks
     (λ row is. marked process numbers row.number f.services asks)
-done_asks l f caller (request.SetStatus handle status) process numbers rising quiet asks =
+done_asks l f caller (request.SetStatus handle status) process numbers rising right quiet asks =
     report_asks process numbers f (held_service f caller handle) status
-    (λ row is. stops_another status process row.process (subst (λ (found : Option Service).
-    is_rung (if_stopped status (one_or_nobody (option_map (λ (r : Service). r.process) found))) process ≡ false) is quiet))
+    (λ row is. subst (λ (found : Option Service).
+    is_rung (if_stopped status (shared_or_nobody f (option_map (λ (r : Service). r.process) found))) process ≡ false) is quiet) right
     (λ row is. lives_so f.services (λ (r : Service). r.number == row.number) row rising (held_is f caller handle row is)) asks
-done_asks l f caller (request.Change change) process numbers rising quiet asks =
+done_asks l f caller (request.Change change) process numbers rising right quiet asks =
     found_keeps (Asks process numbers) (λ (row : Service). map (configured_if row.number (new_config f change row)))
     (held_service f caller change.handle) f.services asks
     (λ row is. configured process numbers row.number (new_config f change row) f.services asks)
-done_asks l f caller (request.Change2 handle asked) process numbers rising quiet asks =
+done_asks l f caller (request.Change2 handle asked) process numbers rising right quiet asks =
     found_keeps (Asks process numbers) (λ (row : Service). map (configured_if row.number (level_config asked row)))
     (held_service f caller handle) f.services asks
     (λ row is. configured process numbers row.number (level_config asked row) f.services asks)
-done_asks l f caller (request.OpenService handle name access) process numbers rising quiet asks =
+done_asks l f caller (request.OpenService handle name access) process numbers rising right quiet asks =
     opened_keeps (λ (g : Flat). Asks process numbers g.services) f caller name access asks (λ row is. asks)
-done_asks l f caller (request.Start handle words) process numbers rising quiet asks =
+done_asks l f caller (request.Start handle words) process numbers rising right quiet asks =
     started_keeps (λ (g : Flat). Asks process numbers g.services) f caller handle words asks (λ row is. asks)
-done_asks l f caller (request.Create new) process numbers rising quiet asks = more process numbers f.services _ refl asks
-done_asks l f caller (request.Notify handle mask) process numbers rising quiet asks =
+done_asks l f caller (request.Create new) process numbers rising right quiet asks = more process numbers f.services _ refl asks
+done_asks l f caller (request.Notify handle mask) process numbers rising right quiet asks =
     notify_apart (λ (g : Flat). Asks process numbers g.services) f caller handle mask (λ rows next. asks)
-done_asks l f caller asked process numbers rising quiet asks = asks
+done_asks l f caller asked process numbers rising right quiet asks = asks
 
 call_asks : (l : Limits) (f : Flat) (caller : ℕ) (asked : Request) (append : Kept) (process : ℕ) (numbers : List ℕ)
-    → AllPairs (λ (a b : Service). a.number < b.number) f.services → is_rung (controls_rung f caller asked) process ≡ false
+    → AllPairs (λ (a b : Service). a.number < b.number) f.services
+    → All (IsAskedRight f.processes) f.services → is_rung (controls_rung f caller asked) process ≡ false
     → Asks process numbers f.services → Asks process numbers (call_of l f caller asked append).flat.services
-call_asks l f caller asked append process numbers rising quiet asks =
+call_asks l f caller asked append process numbers rising right quiet asks =
     by_verdict (λ r. Asks process numbers r.flat.services) (verdict l f caller asked append)
     (told_refused f caller asked (verdict l f caller asked append)) f (done_of l f caller asked)
-    (λ e. done_asks l f caller asked process numbers rising quiet asks) (λ e. asks)
+    (λ e. done_asks l f caller asked process numbers rising right quiet asks) (λ e. asks)
 
 -- ## Steps
 
 effect_asks : (l : Limits) (f : Flat) (moment : ℕ) (step : Step) (process : ℕ) (numbers : List ℕ)
-    → AllPairs (λ (a b : Service). a.number < b.number) f.services → is_rung (children_rung f step) process ≡ false
+    → AllPairs (λ (a b : Service). a.number < b.number) f.services
+    → All (IsAskedRight f.processes) f.services → is_rung (children_rung f step) process ≡ false
     → Asks process numbers f.services → Asks process numbers (effect_of l (at_moment f moment step) step).flat.services
-effect_asks l f moment (Call caller asked append) process numbers rising quiet asks =
-    call_asks l (with_moment f moment) caller asked append process numbers rising quiet asks
-effect_asks l f moment (LaunchFailed one code) process numbers rising quiet asks = fell process numbers one code f.services quiet asks
-effect_asks l f moment (Report one service status) process numbers rising quiet asks =
+effect_asks l f moment (Call caller asked append) process numbers rising right quiet asks =
+    call_asks l (with_moment f moment) caller asked append process numbers rising right quiet asks
+effect_asks l f moment (LaunchFailed one code) process numbers rising right quiet asks = fell process numbers one code f.services quiet asks
+effect_asks l f moment (Report one service status) process numbers rising right quiet asks =
     report_asks process numbers (with_moment f moment) (reporting f one service) status
-    (λ row is stops. ap (λ n. process == n) (by_parts one row (reporting_by f one service row is).1).1
-    ∙ stops_another status process one quiet stops)
+    (λ row is. subst (λ n. is_rung (if_stopped status (shared_or_nobody f (Some n))) process ≡ false)
+    (sym (by_parts one row (reporting_by f one service row is).1).1) quiet) right
     (λ row is. lives_so f.services (is_reporter f one service) row rising is) asks
-effect_asks l f moment (Ended one) process numbers rising quiet asks =
+effect_asks l f moment (Ended one) process numbers rising right quiet asks =
     any_failing_keeps (λ (g : Flat). Asks process numbers g.services) (currents one f.services)
     (with_fallen (with_moment f moment) one ERROR_PROCESS_ABORTED) (fell process numbers one ERROR_PROCESS_ABORTED f.services quiet asks)
     (λ row g asks. counted process numbers row.number g.moment g.services asks) (λ service g moment kind is asks. asks)
-effect_asks l f moment (ControlTaken one) process numbers rising quiet asks =
+effect_asks l f moment (ControlTaken one) process numbers rising right quiet asks =
     found_keeps (Asks process numbers) (λ (row : Service). map (unasked_if row.number)) (first_asked f one) f.services asks
     (λ row is. (let of : row.process ≡ one = (by_parts one row (and_parts _ _ (found_passes (is_asked_by one) row f.services is)).0).1 in
     unasked process numbers row.number row.process f.services (ap (λ n. process == n) of ∙ quiet)
     (lives_so f.services (is_asked_by one) row rising is) asks))
-effect_asks l f moment Tick process numbers rising quiet asks =
+effect_asks l f moment Tick process numbers rising right quiet asks =
     ticked_apart (λ (g : Flat). Asks process numbers g.services) l (with_moment f moment) asks
-effect_asks l f moment (Raised caller subtype) process numbers rising quiet asks = absurd cc
-effect_asks l f moment step process numbers rising quiet asks = asks
+effect_asks l f moment (Raised caller subtype) process numbers rising right quiet asks = absurd cc
+effect_asks l f moment step process numbers rising right quiet asks = asks
 
 -- a state that gave no number below the bound anew
 record AsksStill (bound process : ℕ) (numbers : List ℕ) (g : Flat) : Type 0 where
@@ -363,7 +385,7 @@ step_asks l f moment step process valid low quiet =
     let kept = (keeps_all l (AsksStill f.next.process process numbers) (λ plan. Unit {0}) (asks_still l f.next.process process numbers low)
     done.flat done.flat.plans (record {
       up = process_up l f moment step;
-      asks = effect_asks l f moment step process numbers valid.services.rising quiet begins;
+      asks = effect_asks l f moment step process numbers valid.services.rising valid.asked quiet begins;
     }) (all_units done.flat.plans)).flat in
     let finished : Asks process numbers (finished_step l f moment step).flat.services =
     finished_keeps (λ (g : Flat). Asks process numbers g.services) (λ g plans asks. asks) (settled l done.flat) done.answer kept.asks in

@@ -1,7 +1,7 @@
 -- A step leaves the controls of each process whose bell it doesn't ring, and lists it as it was.
 use Rattle.std.proofs.Common.{ℕ, ◌≡◌, ◌∙◌, ◌<◌, ◌==◌, Bool, true, false, not, cond, List, Option, None, Some, find, filter, map, ap, sym}
-use Rattle.std.proofs.Common.{refl, subst}
-use Rattle.std.proofs.lemmas.Bool.{and_parts}
+use Rattle.std.proofs.Common.{refl, subst, eqb-true}
+use Rattle.std.proofs.lemmas.Bool.{and_parts, and_right}
 use Rattle.std.specs.Prelude.{option_map}
 use Rattle.scm_model.specs.declared.calls.Request.{Request}
 use Rattle.scm_model.specs.declared.calls.Request.TheVariants as request
@@ -20,11 +20,12 @@ use Rattle.scm_model.specs.declared.steps.Step.TheVariants.{Call, LaunchTaken, L
 use Rattle.scm_model.specs.declared.steps.Step.TheVariants.{Raised}
 use Rattle.scm_model.specs.Changes.{with_moment}
 use Rattle.scm_model.specs.Entries.{with_kept}
+use Rattle.scm_model.specs.Processes.{is_shared}
 use Rattle.scm_model.specs.Rows.{held_service}
 use Rattle.scm_model.proofs.Found.{found_keeps}
 use Rattle.scm_rules.specs.Controls.{controlled_if, controlled_in, dequeued_if, dequeued_in, first_asked, order_to}
 use Rattle.scm_rules.specs.Failures.{failed_by}
-use Rattle.scm_rules.specs.Launches.{currents, first_wanted, launched_if, taken_if, with_fallen, without_process}
+use Rattle.scm_rules.specs.Launches.{currents, first_wanted, launched_if, process_of, taken_if, with_fallen, without_process}
 use Rattle.scm_rules.specs.Reports.{is_stopped_by, released_by, released_if, reporting}
 use Rattle.scm_rules.specs.Steps.{at_moment, effect_of}
 use Rattle.scm_rules.specs.Verdicts.{call_of, done_of, told_refused, verdict}
@@ -38,7 +39,7 @@ use Rattle.scm_history.proofs.Finds.{found_map}
 use Rattle.scm_history.proofs.Processes.{IsOf, after_effect, apart, has, launches, others_changed, takes, ticked_still}
 use Rattle.scm_book.specs.declared.bells.Children.{Children}
 use Rattle.scm_book.specs.declared.bells.Children.TheVariants as children
-use Rattle.scm_book.specs.Ringing.{StirsNoOther, children_rung, controls_rung, if_stopped, is_rung, one_or_nobody}
+use Rattle.scm_book.specs.Ringing.{StirsNoOther, children_rung, controls_rung, if_stopped, is_rung, one_or_nobody, shared_or_nobody}
 
 -- the controls of a process, if it is among these
 abbrev listed : ℕ → List Process → Option (List Order)
@@ -88,23 +89,49 @@ releases one service = record {
   others = λ row e. rw e refl;
 }
 
--- a report that stops a service and rings not this process is of another
-pub stops_another : (report : Status) (number one : ℕ) → is_rung (if_stopped report (children.One one)) number ≡ false
-    → (report.state == SERVICE_STOPPED) ≡ true → (number == one) ≡ false
-stops_another report number one quiet stops =
-    subst (λ b. is_rung (cond b (children.One one) children.Nobody) number ≡ false) stops quiet
+-- a report that stops a service of a shared process and rings not this process is of another
+pub stops_another : (f : Flat) (report : Status) (number one : ℕ)
+    → is_rung (if_stopped report (shared_or_nobody f (Some one))) number ≡ false
+    → (report.state == SERVICE_STOPPED) ≡ true → is_shared (process_of f one) ≡ true → (number == one) ≡ false
+stops_another f report number one quiet stops shared =
+    subst (λ b. is_rung (cond b (children.One one) children.Nobody) number ≡ false) shared
+    (subst (λ b. is_rung (cond b (shared_or_nobody f (Some one)) children.Nobody) number ≡ false) stops quiet)
 
--- a report changes no process but that of a service that it stops
-released_unstirred : (number : ℕ) (report : Status) (row : Service)
-    → ((report.state == SERVICE_STOPPED) ≡ true → (number == row.process) ≡ false) → (rows : List Process)
-    → listed number (released_by report row rows) ≡ listed number rows
-released_unstirred number report row other rows =
+-- the orders of a service stay in a process that isn't shared
+unshared_same : (number one service : ℕ) (rows : List Process) → is_shared (find (has one) rows) ≡ false
+    → listed number (map (released_if one service) rows) ≡ listed number rows
+unshared_same number one service rows alone =
+    elim (number == one) as (λ b. (number == one) ≡ b → listed number (map (released_if one service) rows) ≡ listed number rows) [
+      | true ↦ λ e. subst (λ n. listed n (map (released_if one service) rows) ≡ listed n rows) (sym (eqb-true number one e))
+          (ap (option_map (λ (row : Process). row.controls)) (found_map (has one) (released_if one service)
+          (λ row. ap (λ n. n == one) ((releases one service).number_same row)) rows) ∙ still (find (has one) rows) alone)
+      | false ↦ λ e. others_same number one (released_if one service) (releases one service) e rows
+    ] refl
+  where
+    still : (found : Option Process) → is_shared found ≡ false → option_map (λ (row : Process). row.controls)
+        (option_map (released_if one service) found) ≡ option_map (λ (row : Process). row.controls) found
+    still None alone = refl
+    still (Some row) alone = rw (and_right (row.number == one) row.shared alone) refl
+
+-- a report takes orders from no process but a shared one of a service that it stops
+released_unstirred : (f : Flat) (number : ℕ) (report : Status) (row : Service)
+    → is_rung (if_stopped report (shared_or_nobody f (Some row.process))) number ≡ false
+    → listed number (released_by report row f.processes) ≡ listed number f.processes
+released_unstirred f number report row quiet =
     elim (is_stopped_by report row) as (λ b. is_stopped_by report row ≡ b
-    → listed number (cond b (map (released_if row.process row.number) rows) rows) ≡ listed number rows) [
-      | true ↦ λ stops. others_same number row.process (released_if row.process row.number) (releases row.process row.number)
-          (other (and_parts _ (report.state == SERVICE_STOPPED) stops).1) rows
+    → listed number (cond b (map (released_if row.process row.number) f.processes) f.processes) ≡ listed number f.processes) [
+      | true ↦ λ stops. released (and_parts _ (report.state == SERVICE_STOPPED) stops).1
       | false ↦ λ runs. refl
     ] refl
+  where
+    released : (report.state == SERVICE_STOPPED) ≡ true
+        → listed number (map (released_if row.process row.number) f.processes) ≡ listed number f.processes
+    released stops = elim (is_shared (process_of f row.process)) as (λ b. is_shared (process_of f row.process) ≡ b
+        → listed number (map (released_if row.process row.number) f.processes) ≡ listed number f.processes) [
+          | true ↦ λ shared. others_same number row.process (released_if row.process row.number) (releases row.process row.number)
+              (stops_another f report number row.process quiet stops shared) f.processes
+          | false ↦ λ alone. unshared_same number row.process row.number f.processes alone
+        ] refl
 
 taken_same : (one : ℕ) (row : Process) → (taken_if one row).controls ≡ row.controls
 taken_same one row = elim (row.number == one) as (λ b. (cond b (record row { phase = phases.Taken }) row).controls ≡ row.controls)
@@ -152,11 +179,10 @@ control_unstirred l f control number (Some row) quiet =
     f.processes
 
 held_released : (f : Flat) (number : ℕ) (report : Status) (found : Option Service)
-    → is_rung (if_stopped report (one_or_nobody (option_map (λ (row : Service). row.process) found))) number ≡ false
+    → is_rung (if_stopped report (shared_or_nobody f (option_map (λ (row : Service). row.process) found))) number ≡ false
     → listed number (if_found (released_by report) found f.processes) ≡ listed number f.processes
 held_released f number report None quiet = refl
-held_released f number report (Some row) quiet = released_unstirred number report row (stops_another report number row.process quiet)
-    f.processes
+held_released f number report (Some row) quiet = released_unstirred f number report row quiet
 
 call_unstirred : (l : Limits) (f : Flat) (moment caller : ℕ) (asked : Request) (append : Kept) (number : ℕ)
     → is_rung (controls_rung f caller asked) number ≡ false
@@ -194,9 +220,9 @@ effect_unstirred l f moment (Report process service status) number low quiet =
     failing_apart (λ (g : Flat). listed number g.processes ≡ listed number f.processes) (failed_by status (reporting f process service)) _
     (found_keeps (λ (rows : List Process). listed number rows ≡ listed number f.processes) (released_by status)
     (reporting f process service) f.processes refl
-    (λ row is. released_unstirred number status row (λ stops.
-    ap (λ n. number == n) (by_parts process row (reporting_by f process service row is).1).1
-    ∙ stops_another status number process quiet stops) f.processes))
+    (λ row is. released_unstirred f number status row
+    (subst (λ n. is_rung (if_stopped status (shared_or_nobody f (Some n))) number ≡ false)
+    (sym (by_parts process row (reporting_by f process service row is).1).1) quiet)))
 effect_unstirred l f moment (Ended process) number low quiet =
     all_failing_apart (λ (g : Flat). listed number (without_process g process).processes ≡ listed number f.processes)
     (currents process f.services) (with_fallen (with_moment f moment) process ERROR_PROCESS_ABORTED) (others_left number process quiet

@@ -15,6 +15,7 @@ use Rattle.scm_model.specs.declared.steps.Step.{Step}
 use Rattle.scm_model.specs.declared.steps.Step.TheVariants.{Joined, Call, EndStart, LaunchTaken, LaunchFailed, Report, Ended, ControlTaken}
 use Rattle.scm_model.specs.declared.steps.Step.TheVariants.{Raised, NoMemory}
 use Rattle.scm_model.specs.Entries.{Entry, with_kept}
+use Rattle.scm_model.specs.Processes.{is_shared}
 use Rattle.start_plan.specs.Decided.{code_of}
 use Rattle.scm_rules.specs.Controls.{is_asked_by}
 use Rattle.scm_rules.specs.Histories.{state}
@@ -96,21 +97,26 @@ abbrev pub one_or_nobody : Option ℕ → Children
 one_or_nobody None = children.Nobody
 one_or_nobody (Some process) = children.One process
 
+-- a process that other services may live in too: the orders of a service that is STOPPED leave no other
+abbrev pub shared_or_nobody : Flat → Option ℕ → Children
+shared_or_nobody f None = children.Nobody
+shared_or_nobody f (Some process) = if is_shared (process_of f process) then children.One process else children.Nobody
+
 -- a report by which its service is STOPPED may take orders away; another takes none
 abbrev pub if_stopped : Status → Children → Children
 if_stopped status rung = if status.state == SERVICE_STOPPED then rung else children.Nobody
 
--- of calls only a control rings one, and a report that stops a service, that of the service's process
+-- of calls only a control rings one, that of the service's process, and a report that stops a service, where it is shared
 abbrev pub controls_rung : Flat → ℕ → Request → Children
 controls_rung f caller (request.Control handle control) = one_or_nobody (process_held f caller handle)
-controls_rung f caller (request.SetStatus handle status) = if_stopped status (one_or_nobody (process_held f caller handle))
+controls_rung f caller (request.SetStatus handle status) = if_stopped status (shared_or_nobody f (process_held f caller handle))
 controls_rung f caller asked = children.Nobody
 
 -- the processes whose bells a step rings in a state
 abbrev pub children_rung : Flat → Step → Children
 children_rung f (Call caller asked append) = controls_rung f caller asked
 children_rung f (LaunchFailed process code) = children.One process
-children_rung f (Report process service status) = if_stopped status (children.One process)
+children_rung f (Report process service status) = if_stopped status (shared_or_nobody f (Some process))
 children_rung f (Ended process) = children.One process
 children_rung f (ControlTaken process) = children.One process
 children_rung f (Raised caller subtype) = children.All

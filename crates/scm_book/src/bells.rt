@@ -2,14 +2,14 @@
 ghost use Rattle.std.specs.Prelude.{◌≡◌, false};
 ghost use Rattle.scm_model.specs.declared.flat.Flat.{Flat};
 ghost use Rattle.scm_book.specs.Ringing.{AsksNoOther, StirsNoOther, StirsNobody};
-ghost use Rattle.scm_book.specs.Ringing.{children_rung, controls_rung, if_stopped, is_quiet};
-ghost use Rattle.scm_book.specs.Ringing.{one_or_nobody, ring_of, rings_common};
+ghost use Rattle.scm_book.specs.Ringing.{children_rung, controls_rung, is_quiet};
+ghost use Rattle.scm_book.specs.Ringing.{one_or_nobody, ring_of, rings_common, shared_or_nobody};
 ghost use Rattle.scm_book.specs.Steps.{owed_step};
 
 use crate::held::Owed;
 use scm_core::Manager;
 use scm_model::codes::SERVICE_STOPPED;
-use scm_model::{Request, Status, Step};
+use scm_model::{Request, Step};
 use std::array;
 use std::sync::atomic::{AtomicBool, AtomicU64, Ordering};
 use std::sync::{Condvar, Mutex, Wait};
@@ -217,29 +217,26 @@ fn one_or_nobody(process: Option<u64>) -> Children
     }
 }
 
-/// The processes whose bells a report rings: one by which its service is STOPPED may take orders
-/// away, and another takes none.
-fn if_stopped(status: &Status, rung: Children) -> Children
-    ensures { result ≡ if_stopped status.now rung }
+/// The one process, if there is one and other services may live in it too.
+fn shared_or_nobody(manager: &Manager, process: Option<u64>) -> Children
+    ensures { result ≡ shared_or_nobody manager.now.flat process }
 {
-    if status.state == SERVICE_STOPPED {
-        rung
-    } else {
-        Children::Nobody
+    match process {
+        Some(process) if manager.shares(process) => Children::One(process),
+        _ => Children::Nobody,
     }
 }
 
-/// The processes whose bells a call rings: of calls only a control rings one, and a report that
-/// stops a service, that of the service's process.
+/// The processes whose bells a call rings: of calls only a control rings one, that of the service's
+/// process, and a report that stops a service, where other services may live in its process too.
 fn controls_rung(manager: &Manager, caller: u64, request: &Request) -> Children
     ensures { result ≡ controls_rung manager.now.flat caller request.now }
 {
     match request {
         Request::Control { handle, .. } => one_or_nobody(manager.process_held(caller, *handle)),
-        Request::SetStatus { handle, status } => if_stopped(
-            status,
-            one_or_nobody(manager.process_held(caller, *handle)),
-        ),
+        Request::SetStatus { handle, status } if status.state == SERVICE_STOPPED => {
+            shared_or_nobody(manager, manager.process_held(caller, *handle))
+        }
         _ => Children::Nobody,
     }
 }
@@ -262,7 +259,7 @@ pub fn children_rung(manager: &Manager, step: &Step) -> Children
             process,
             status,
             ..
-        } => if_stopped(status, Children::One(*process)),
+        } if status.state == SERVICE_STOPPED => shared_or_nobody(manager, Some(*process)),
         Step::LaunchFailed { process, code: _ }
         | Step::Ended { process }
         | Step::ControlTaken { process } => Children::One(*process),
