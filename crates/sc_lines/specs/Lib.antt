@@ -6,3 +6,4 @@ pub mod Configs
 pub mod Levels
 pub mod Listings
 pub mod Locks
+pub mod Triggers

@@ -9,6 +9,7 @@ mod locks;
 mod printing;
 mod reading;
 mod statuses;
+mod triggers;
 
 pub use configs::add_config;
 pub use levels::{add_description, add_failure, add_flag, is_on};
@@ -16,3 +17,4 @@ pub use lines::{Appended, Line, add_lines};
 pub use listings::add_listing;
 pub use locks::add_lock;
 pub use statuses::{add_process, add_status};
+pub use triggers::add_triggers;

@@ -5,7 +5,7 @@ use scm_text::OutOfMemory;
 use std::alloc::Global;
 
 /// The byte at a place, or 0 past the end.
-fn byte_at(bytes: &[u8], at: usize) -> u8
+pub fn byte_at(bytes: &[u8], at: usize) -> u8
     ensures { result ≡ byte_at bytes.now at }
 {
     match bytes.get(at) {

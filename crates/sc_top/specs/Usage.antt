@@ -1,5 +1,6 @@
 -- How the verbs are used.
-use Rattle.std.specs.Prelude.{ℕ, Bool, true, false, List, [], ◌∷◌, ◌++◌, slice_get, Option, None, Some, option_and_then, bytes_eq, codes, if◌then◌else◌}
+use Rattle.std.specs.Prelude.{ℕ, Bool, true, false, List, [], ◌∷◌, ◌++◌, slice_get, Option, None, Some, option_and_then, bytes_eq, codes}
+use Rattle.std.specs.Prelude.{if◌then◌else◌}
 use Rattle.std.specs.List.{flat_map}
 use Rattle.sc_words.specs.declared.verb.Verb.{Verb}
 use Rattle.sc_words.specs.declared.verb.Verb.TheVariants as verb
@@ -25,6 +26,8 @@ usage verb.QueryDescription = codes "qdescription NAME"
 usage verb.QueryFailure = codes "qfailure NAME"
 usage verb.QueryFailureFlag = codes "qfailureflag NAME"
 usage verb.FailureFlag = codes "failureflag NAME 0|1"
+usage verb.QueryTriggerInfo = codes "qtriggerinfo NAME"
+usage verb.TriggerInfo = codes "triggerinfo NAME start/custom/UUID|stop/custom/UUID ...|delete"
 usage verb.EnumDepend = codes "enumdepend NAME"
 usage verb.GetDisplayName = codes "getdisplayname NAME"
 usage verb.GetKeyName = codes "getkeyname DISPLAYNAME"
@@ -42,8 +45,8 @@ abbrev pub verbs : List Verb
 verbs =
     verb.Create ∷ verb.Config ∷ verb.Description ∷ verb.Failure ∷ verb.Start ∷ verb.Stop ∷ verb.Pause ∷ verb.Continue
     ∷ verb.Interrogate ∷ verb.Control ∷ verb.Query ∷ verb.Delete ∷ verb.QueryConfig ∷ verb.QueryEx ∷ verb.QueryDescription
-    ∷ verb.QueryFailure ∷ verb.QueryFailureFlag ∷ verb.FailureFlag ∷ verb.EnumDepend ∷ verb.GetDisplayName ∷ verb.GetKeyName
-    ∷ verb.QueryLock ∷ []
+    ∷ verb.QueryFailure ∷ verb.QueryFailureFlag ∷ verb.FailureFlag ∷ verb.QueryTriggerInfo ∷ verb.TriggerInfo
+    ∷ verb.EnumDepend ∷ verb.GetDisplayName ∷ verb.GetKeyName ∷ verb.QueryLock ∷ []
 
 abbrev pub usage_line : Verb → List ℕ
 usage_line v = codes "sc ADDRESS " ++ (usage v ++ codes "\n")

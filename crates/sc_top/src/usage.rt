@@ -40,6 +40,8 @@ pub fn usage(verb: Verb) -> &'static str
         Verb::QueryFailure => "qfailure NAME",
         Verb::QueryFailureFlag => "qfailureflag NAME",
         Verb::FailureFlag => "failureflag NAME 0|1",
+        Verb::QueryTriggerInfo => "qtriggerinfo NAME",
+        Verb::TriggerInfo => "triggerinfo NAME start/custom/UUID|stop/custom/UUID ...|delete",
         Verb::EnumDepend => "enumdepend NAME",
         Verb::GetDisplayName => "getdisplayname NAME",
         Verb::GetKeyName => "getkeyname DISPLAYNAME",
@@ -48,7 +50,7 @@ pub fn usage(verb: Verb) -> &'static str
 }
 
 /// Every verb, in the order of the manual.
-pub static VERBS: [Verb; 22] = [
+pub static VERBS: [Verb; 24] = [
     Verb::Create,
     Verb::Config,
     Verb::Description,
@@ -67,6 +69,8 @@ pub static VERBS: [Verb; 22] = [
     Verb::QueryFailure,
     Verb::QueryFailureFlag,
     Verb::FailureFlag,
+    Verb::QueryTriggerInfo,
+    Verb::TriggerInfo,
     Verb::EnumDepend,
     Verb::GetDisplayName,
     Verb::GetKeyName,

@@ -3,3 +3,4 @@ mod Pairs
 mod Counts
 mod Bytes
 mod Pages
+mod Uuids

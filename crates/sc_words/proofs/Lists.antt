@@ -9,10 +9,8 @@ use Rattle.std.proofs.Math.ListN.{drop_of_length-le}
 use Rattle.std.proofs.lemmas.List.Elements.{All-from_recursion}
 use Rattle.std.proofs.lemmas.Bool.{true≢false}
 use Rattle.scm_model.specs.declared.flat.Action.{Action}
-use Rattle.sc_words.specs.Places.{◌>>=◌, fits}
-use Rattle.sc_words.specs.Texts.{word_text}
+use Rattle.sc_words.specs.Places.{◌>>=◌, each_from, fits}
 use Rattle.sc_words.specs.Values.{each, with_first, action_named, actions_of}
-use Rattle.sc_words.specs.Words.{texts_from}
 
 -- ## Results
 
@@ -149,9 +147,9 @@ pub actions_end : (words : List (Bor (List ℕ))) (place : ℕ) (xs : List Actio
 unfolding actions_of
 actions_end words place xs h = ap (λ ws. behind xs (actions_of (seen ws))) (drop_of_length-le words h) ∙ ap Some (append-nil xs)
 
--- ## Texts with their places
+-- ## Each word from a place on
 
--- texts that were read, and then the rest
+-- what was read, and then the rest
 abbrev pub before : {A : Type 0} → List A → Result (List A) ℕ → Result (List A) ℕ
 before xs more = more >>= λ ys. Ok (xs ++ ys)
 
@@ -159,34 +157,36 @@ before_first : {A : Type 0} (xs : List A) (x : A) (more : Result (List A) ℕ) �
 before_first xs x (Ok more) = ap Ok (sym (append_assoc xs (x ∷ []) more))
 before_first xs x (Err place) = refl
 
--- the text of a word, and then those of the others
-abbrev pub onto_texts : ℕ → List (List ℕ) → Option (List ℕ) → Result (List (List ℕ)) ℕ
-onto_texts place words text = fits place text >>= λ t. texts_from (place + 1) words >>= λ ts. Ok (t ∷ ts)
+-- what a word stands for, and then the others
+abbrev pub onto_each : {A : Type 0} → (List ℕ → Option A) → ℕ → List (List ℕ) → Option A → Result (List A) ℕ
+onto_each f place words x = fits place x >>= λ y. each_from f (place + 1) words >>= λ ys. Ok (y ∷ ys)
 
-pub texts_more : (words : List (List ℕ)) (place : ℕ) (word : List ℕ) (xs now : List (List ℕ)) (x : List ℕ)
-    → drop place words ≡ word ∷ drop (place + 1) words → word_text word ≡ Some x → now ≡ xs ++ x ∷ []
-    → before now (texts_from (place + 1) (drop (place + 1) words)) ≡ before xs (texts_from place (drop place words))
-unfolding texts_from
-texts_more words place word xs now x cut e grown =
-    let more = texts_from (place + 1) (drop (place + 1) words) in
-    ap (λ ys. before ys more) grown ∙ sym (before_first xs x more) ∙ ap (λ o. before xs (onto_texts place (drop (place + 1) words) o))
-    (sym e)
-    ∙ ap (λ ws. before xs (texts_from place ws)) (sym cut)
+module _ {A : Type 0} (f : List ℕ → Option A) (words : List (List ℕ)) (place : ℕ) where
+  -- one more word stands for something
+  pub from_more : (word : List ℕ) (xs now : List A) (x : A)
+      → drop place words ≡ word ∷ drop (place + 1) words → f word ≡ Some x → now ≡ xs ++ x ∷ []
+      → before now (each_from f (place + 1) (drop (place + 1) words)) ≡ before xs (each_from f place (drop place words))
+  unfolding each_from
+  from_more word xs now x cut e grown =
+      let more = each_from f (place + 1) (drop (place + 1) words) in
+      ap (λ ys. before ys more) grown ∙ sym (before_first xs x more)
+      ∙ ap (λ o. before xs (onto_each f place (drop (place + 1) words) o)) (sym e)
+      ∙ ap (λ ws. before xs (each_from f place ws)) (sym cut)
 
-pub texts_stop : (words : List (List ℕ)) (place : ℕ) (word : List ℕ) (xs : List (List ℕ))
-    → drop place words ≡ word ∷ drop (place + 1) words → word_text word ≡ None → before xs (texts_from place (drop place words)) ≡ Err place
-unfolding texts_from
-texts_stop words place word xs cut e =
-    ap (λ ws. before xs (texts_from place ws)) cut ∙ ap (λ o. before xs (onto_texts place (drop (place + 1) words) o)) e
+  -- or it doesn't
+  pub from_stop : (word : List ℕ) (xs : List A)
+      → drop place words ≡ word ∷ drop (place + 1) words → f word ≡ None → before xs (each_from f place (drop place words)) ≡ Err place
+  unfolding each_from
+  from_stop word xs cut e =
+      ap (λ ws. before xs (each_from f place ws)) cut ∙ ap (λ o. before xs (onto_each f place (drop (place + 1) words) o)) e
 
-pub texts_end : (words : List (List ℕ)) (place : ℕ) (xs : List (List ℕ)) → length words ≤ place
-    → before xs (texts_from place (drop place words)) ≡ Ok xs
-unfolding texts_from
-texts_end words place xs h = ap (λ ws. before xs (texts_from place ws)) (drop_of_length-le words h) ∙ ap Ok (append-nil xs)
+  pub from_end : (xs : List A) → length words ≤ place → before xs (each_from f place (drop place words)) ≡ Ok xs
+  unfolding each_from
+  from_end xs h = ap (λ ws. before xs (each_from f place ws)) (drop_of_length-le words h) ∙ ap Ok (append-nil xs)
 
-pub texts_begin : (more : Result (List (List ℕ)) ℕ) → before [] more ≡ more
-texts_begin (Ok more) = refl
-texts_begin (Err place) = refl
+pub from_begin : {A : Type 0} (more : Result (List A) ℕ) → before [] more ≡ more
+from_begin (Ok more) = refl
+from_begin (Err place) = refl
 
 -- ## Units
 

@@ -12,7 +12,7 @@ use Rattle.scm_model.specs.declared.codes.TheConstants.{DELETE, MAX_CONFIG_SIZE,
 use Rattle.scm_model.specs.declared.codes.TheConstants.{SC_MANAGER_CREATE_SERVICE, SC_MANAGER_ENUMERATE_SERVICE}
 use Rattle.scm_model.specs.declared.codes.TheConstants.{SC_MANAGER_QUERY_LOCK_STATUS, SC_STATUS_PROCESS_INFO}
 use Rattle.scm_model.specs.declared.codes.TheConstants.{SERVICE_CONFIG_DELAYED_AUTO_START_INFO, SERVICE_CONFIG_DESCRIPTION}
-use Rattle.scm_model.specs.declared.codes.TheConstants.{SERVICE_CONFIG_FAILURE_ACTIONS, SERVICE_CONFIG_FAILURE_ACTIONS_FLAG}
+use Rattle.scm_model.specs.declared.codes.TheConstants.{SERVICE_CONFIG_FAILURE_ACTIONS, SERVICE_CONFIG_FAILURE_ACTIONS_FLAG, SERVICE_CONFIG_TRIGGER_INFO}
 use Rattle.scm_model.specs.declared.codes.TheConstants.{SERVICE_ENUMERATE_DEPENDENTS, SERVICE_QUERY_CONFIG, SERVICE_STATE_ALL}
 use Rattle.scm_model.specs.declared.codes.TheConstants.{SERVICE_WIN32_SHARE_PROCESS, SERVICE_ALL_ACCESS, SERVICE_AUTO_START}
 use Rattle.scm_model.specs.declared.codes.TheConstants.{SERVICE_CHANGE_CONFIG, SERVICE_CONTROL_CONTINUE, SERVICE_CONTROL_INTERROGATE}
@@ -66,6 +66,7 @@ service_right task.QueryConfig = SERVICE_QUERY_CONFIG
 service_right (task.QueryLevel level) = SERVICE_QUERY_CONFIG
 service_right task.QueryEx = SERVICE_QUERY_STATUS
 service_right (task.FailureFlag on) = SERVICE_CHANGE_CONFIG
+service_right (task.Triggers triggers) = SERVICE_CHANGE_CONFIG
 service_right task.EnumDepend = SERVICE_ENUMERATE_DEPENDENTS
 service_right _ = 0
 
@@ -135,6 +136,7 @@ abbrev pub level_number : Level → ℕ
 level_number level.Description = SERVICE_CONFIG_DESCRIPTION
 level_number level.Failure = SERVICE_CONFIG_FAILURE_ACTIONS
 level_number level.FailureFlag = SERVICE_CONFIG_FAILURE_ACTIONS_FLAG
+level_number level.Triggers = SERVICE_CONFIG_TRIGGER_INFO
 
 -- how many units a name may have that is asked for, with its zero
 abbrev pub name_size : ℕ
@@ -171,6 +173,7 @@ write_asks c (task.Config s) m handle = request.Change (change s handle)
 write_asks c (task.Description text) m handle = request.Change2 handle (info.Description (Some text))
 write_asks c (task.Failure s) m handle = request.Change2 handle (info.Failure (unwrap_or s.reset 0) s.command s.actions)
 write_asks c (task.FailureFlag on) m handle = request.Change2 handle (info.OnExit on)
+write_asks c (task.Triggers triggers) m handle = request.Change2 handle (info.Triggers triggers)
 write_asks c t m handle = query_asks c t m handle
 
 -- what a task asks of its service, or of the manager

@@ -47,6 +47,7 @@ methods_of task.QueryConfig = method.OpenService ∷ method.QueryServiceConfig �
 methods_of (task.QueryLevel level) = method.OpenService ∷ method.QueryServiceConfig2 ∷ []
 methods_of task.QueryEx = method.OpenService ∷ method.QueryServiceStatusEx ∷ []
 methods_of (task.FailureFlag on) = method.OpenService ∷ method.ChangeServiceConfig2 ∷ []
+methods_of (task.Triggers triggers) = method.OpenService ∷ method.ChangeServiceConfig2 ∷ []
 methods_of task.EnumDepend = method.OpenService ∷ method.EnumDependentServices ∷ []
 methods_of task.DisplayName = method.GetServiceDisplayName ∷ []
 methods_of task.KeyName = method.GetServiceKeyName ∷ []

@@ -1,6 +1,7 @@
 pub mod Places
 pub mod Texts
 pub mod Values
+pub mod Triggers
 pub mod Settings
 pub mod Words
 pub mod Along

@@ -1,5 +1,5 @@
 -- What is read of words, or the place of the first word that doesn't fit.
-use Rattle.std.specs.Prelude.{ℕ, ◌≡◌, List, length, Option, None, Some, Result, Ok, Err, slice_get, nat_le, if◌then◌else◌}
+use Rattle.std.specs.Prelude.{ℕ, ◌≡◌, ◌+◌, List, [], ◌∷◌, length, Option, None, Some, Result, Ok, Err, slice_get, nat_le, if◌then◌else◌}
 use Rattle.std.specs.Borrow.{Bor}
 use Rattle.sc_words.specs.declared.fault.WordsFault.{WordsFault}
 use Rattle.sc_words.specs.declared.fault.WordsFault.TheVariants.{BadWord, OutOfMemory}
@@ -22,6 +22,14 @@ word_at place words = fits (length words) (slice_get words place)
 -- no word stands at a place or after it
 unfoldable pub no_word_at : ℕ → List (List ℕ) → Result (Unit {0}) ℕ
 no_word_at place words = if nat_le (length words) place then Ok tt else Err place
+
+-- what each of the words from a place on stands for
+unfoldable pub each_from : {A : Type 0} → (List ℕ → Option A) → ℕ → List (List ℕ) → Result (List A) ℕ
+each_from f place [] = Ok []
+each_from f place (word ∷ words) = do
+  x ← fits place (f word)
+  xs ← each_from f (place + 1) words
+  Ok (x ∷ xs)
 
 -- it answers what is read; out of memory comes at any words
 abbrev pub AnswersAs : {A : Type 0} → Result A WordsFault → Result A ℕ → Type 0

@@ -9,6 +9,7 @@ use Rattle.sc_lines.specs.Lines.{Text, lines}
 use Rattle.sc_lines.specs.Listings.{listing_text}
 use Rattle.sc_lines.specs.Locks.{lock_text}
 use Rattle.sc_lines.specs.Statuses.{process_text, status_text}
+use Rattle.sc_lines.specs.Triggers.{triggers_text}
 use Rattle.sc_words.specs.declared.calls.Failure.{Failure}
 use Rattle.sc_words.specs.declared.calls.Heard.{Heard}
 use Rattle.sc_words.specs.declared.calls.Heard.TheVariants as heard
@@ -75,6 +76,7 @@ abbrev pub level_text : Level → List ℕ → List ℕ → List ℕ
 level_text level.Description name bytes = description_text name bytes
 level_text level.Failure name bytes = failure_text name bytes
 level_text level.FailureFlag name bytes = flag_text name bytes
+level_text level.Triggers name bytes = triggers_text name bytes
 
 -- how many services are read
 abbrev pub count_line : Method → ℕ → List ℕ
@@ -126,6 +128,7 @@ done_text name (task.Control code) hs = status_lines name (slice_get hs 2)
 done_text name task.Query hs = status_lines name (slice_get hs 2)
 done_text name task.Delete hs = success method.DeleteService
 done_text name (task.FailureFlag on) hs = success method.ChangeServiceConfig2
+done_text name (task.Triggers triggers) hs = success method.ChangeServiceConfig2
 done_text name t hs = read_text name t hs
 
 abbrev pub told_at : Standing → Command → List Heard → List ℕ

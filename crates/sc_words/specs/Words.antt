@@ -3,6 +3,7 @@ use Rattle.std.specs.Prelude.{ℕ, ◌+◌, ◌==◌, Bool, true, false, List, [
 use Rattle.std.specs.Prelude.{Ok, Err, bytes_eq, codes, if◌then◌else◌}
 use Rattle.scm_model.specs.declared.codes.TheConstants.{SERVICE_CONTROL_STOP, SERVICE_CONTROL_PAUSE, SERVICE_CONTROL_CONTINUE}
 use Rattle.scm_model.specs.declared.codes.TheConstants.{SERVICE_CONTROL_INTERROGATE}
+use Rattle.scm_model.specs.declared.calls.TriggerIn.{TriggerIn}
 use Rattle.sc_words.specs.declared.command.Command.{Command}
 use Rattle.sc_words.specs.declared.command.Level.TheVariants as level
 use Rattle.sc_words.specs.declared.command.Task.{Task}
@@ -10,9 +11,10 @@ use Rattle.sc_words.specs.declared.command.Task.TheVariants as task
 use Rattle.sc_words.specs.declared.settings.Settings.{Settings}
 use Rattle.sc_words.specs.declared.verb.Verb.{Verb}
 use Rattle.sc_words.specs.declared.verb.Verb.TheVariants as verb
-use Rattle.sc_words.specs.Places.{◌>>=◌, fits, word_at, no_word_at}
+use Rattle.sc_words.specs.Places.{◌>>=◌, each_from, fits, word_at, no_word_at}
 use Rattle.sc_words.specs.Settings.{no_settings, settings_from}
 use Rattle.sc_words.specs.Texts.{word_text}
+use Rattle.sc_words.specs.Triggers.{trigger_named}
 use Rattle.sc_words.specs.Values.{word_number}
 
 abbrev pub verb_named : List ℕ → Option Verb
@@ -35,6 +37,8 @@ verb_named word =
     else if bytes_eq word (codes "qfailure") then Some verb.QueryFailure
     else if bytes_eq word (codes "qfailureflag") then Some verb.QueryFailureFlag
     else if bytes_eq word (codes "failureflag") then Some verb.FailureFlag
+    else if bytes_eq word (codes "qtriggerinfo") then Some verb.QueryTriggerInfo
+    else if bytes_eq word (codes "triggerinfo") then Some verb.TriggerInfo
     else if bytes_eq word (codes "enumdepend") then Some verb.EnumDepend
     else if bytes_eq word (codes "getdisplayname") then Some verb.GetDisplayName
     else if bytes_eq word (codes "getkeyname") then Some verb.GetKeyName
@@ -102,12 +106,18 @@ bit_in words = do
   Ok bit
 
 -- the words from a place on as texts
-unfoldable pub texts_from : ℕ → List (List ℕ) → Result (List (List ℕ)) ℕ
-texts_from place [] = Ok []
-texts_from place (word ∷ words) = do
-  text ← fits place (word_text word)
-  texts ← texts_from (place + 1) words
-  Ok (text ∷ texts)
+abbrev pub texts_from : ℕ → List (List ℕ) → Result (List (List ℕ)) ℕ
+texts_from place words = each_from word_text place words
+
+-- no triggers, and no word after the one that says so
+abbrev pub no_more : List (List ℕ) → Result (List TriggerIn) ℕ
+no_more words = no_word_at (rest_place + 1) words >>= λ none. Ok []
+
+-- the triggers of REST: one or more, or `delete`
+unfoldable pub triggers_in : List (List ℕ) → Result (List TriggerIn) ℕ
+triggers_in words = do
+  word ← word_at rest_place words
+  if bytes_eq word (codes "delete") then no_more words else each_from trigger_named rest_place (drop rest_place words)
 
 -- a task that goes by no further word
 abbrev pub without_rest : Task → List (List ℕ) → Result Task ℕ
@@ -132,6 +142,8 @@ task_of verb.QueryDescription words = without_rest (task.QueryLevel level.Descri
 task_of verb.QueryFailure words = without_rest (task.QueryLevel level.Failure) words
 task_of verb.QueryFailureFlag words = without_rest (task.QueryLevel level.FailureFlag) words
 task_of verb.FailureFlag words = bit_in words >>= λ on. Ok (task.FailureFlag on)
+task_of verb.QueryTriggerInfo words = without_rest (task.QueryLevel level.Triggers) words
+task_of verb.TriggerInfo words = triggers_in words >>= λ triggers. Ok (task.Triggers triggers)
 task_of verb.EnumDepend words = without_rest task.EnumDepend words
 task_of verb.GetDisplayName words = without_rest task.DisplayName words
 task_of verb.GetKeyName words = without_rest task.KeyName words

@@ -17,15 +17,15 @@ use scm_model::codes::{
     SC_MANAGER_CREATE_SERVICE, SC_MANAGER_ENUMERATE_SERVICE, SC_MANAGER_QUERY_LOCK_STATUS,
     SC_STATUS_PROCESS_INFO, SERVICE_ALL_ACCESS, SERVICE_AUTO_START, SERVICE_CHANGE_CONFIG,
     SERVICE_CONFIG_DELAYED_AUTO_START_INFO, SERVICE_CONFIG_DESCRIPTION,
-    SERVICE_CONFIG_FAILURE_ACTIONS, SERVICE_CONFIG_FAILURE_ACTIONS_FLAG, SERVICE_CONTROL_CONTINUE,
-    SERVICE_CONTROL_INTERROGATE, SERVICE_CONTROL_NETBINDDISABLE, SERVICE_CONTROL_PARAMCHANGE,
-    SERVICE_CONTROL_PAUSE, SERVICE_CONTROL_STOP, SERVICE_DEMAND_START, SERVICE_DISABLED,
-    SERVICE_ENUMERATE_DEPENDENTS, SERVICE_ERROR_NORMAL, SERVICE_INTERROGATE, SERVICE_NO_CHANGE,
-    SERVICE_PAUSE_CONTINUE, SERVICE_QUERY_CONFIG, SERVICE_QUERY_STATUS, SERVICE_START,
-    SERVICE_STATE_ALL, SERVICE_STOP, SERVICE_USER_DEFINED_CONTROL, SERVICE_WIN32_OWN_PROCESS,
-    SERVICE_WIN32_SHARE_PROCESS,
+    SERVICE_CONFIG_FAILURE_ACTIONS, SERVICE_CONFIG_FAILURE_ACTIONS_FLAG,
+    SERVICE_CONFIG_TRIGGER_INFO, SERVICE_CONTROL_CONTINUE, SERVICE_CONTROL_INTERROGATE,
+    SERVICE_CONTROL_NETBINDDISABLE, SERVICE_CONTROL_PARAMCHANGE, SERVICE_CONTROL_PAUSE,
+    SERVICE_CONTROL_STOP, SERVICE_DEMAND_START, SERVICE_DISABLED, SERVICE_ENUMERATE_DEPENDENTS,
+    SERVICE_ERROR_NORMAL, SERVICE_INTERROGATE, SERVICE_NO_CHANGE, SERVICE_PAUSE_CONTINUE,
+    SERVICE_QUERY_CONFIG, SERVICE_QUERY_STATUS, SERVICE_START, SERVICE_STATE_ALL, SERVICE_STOP,
+    SERVICE_USER_DEFINED_CONTROL, SERVICE_WIN32_OWN_PROCESS, SERVICE_WIN32_SHARE_PROCESS,
 };
-use scm_model::{Action, ChangeService, Info, NewService, Reply, Request, copy_texts};
+use scm_model::{Action, ChangeService, Info, NewService, Reply, Request, TriggerIn, copy_texts};
 use scm_text::{Items, OutOfMemory, WText};
 use std::alloc::Global;
 
@@ -80,7 +80,7 @@ fn service_right(task: &Task) -> u32
         Task::Delete => DELETE,
         Task::QueryConfig | Task::QueryLevel(_) => SERVICE_QUERY_CONFIG,
         Task::QueryEx => SERVICE_QUERY_STATUS,
-        Task::FailureFlag(_) => SERVICE_CHANGE_CONFIG,
+        Task::FailureFlag(_) | Task::Triggers(_) => SERVICE_CHANGE_CONFIG,
         Task::EnumDepend => SERVICE_ENUMERATE_DEPENDENTS,
         _ => 0,
     }
@@ -183,6 +183,16 @@ fn copy_of_actions(
     }
 }
 
+/// A copy of triggers.
+fn copy_of_triggers(alloc: Global, triggers: &[TriggerIn]) -> Result<Items<TriggerIn>, OutOfMemory>
+    ensures { IfOk result (λ copy. copy ≡ triggers.now) }
+{
+    match Vec::from_slice(alloc, triggers) {
+        Ok(copy) => Ok(Items::from_vec(copy)),
+        Err(_) => Err(OutOfMemory),
+    }
+}
+
 /// What a change asks.
 fn change(alloc: Global, settings: &Settings, handle: u64) -> Result<ChangeService, OutOfMemory>
     ensures { IfOk result (λ asked. asked ≡ change settings.now handle) }
@@ -274,6 +284,7 @@ impl Level {
             Level::Description => SERVICE_CONFIG_DESCRIPTION,
             Level::Failure => SERVICE_CONFIG_FAILURE_ACTIONS,
             Level::FailureFlag => SERVICE_CONFIG_FAILURE_ACTIONS_FLAG,
+            Level::Triggers => SERVICE_CONFIG_TRIGGER_INFO,
         }
     }
 }
@@ -388,6 +399,10 @@ impl Command {
             Task::FailureFlag(on) => Ok(Request::Change2 {
                 handle,
                 info: Info::OnExit(*on),
+            }),
+            Task::Triggers(triggers) => Ok(Request::Change2 {
+                handle,
+                info: Info::Triggers(copy_of_triggers(alloc, triggers.as_slice())?),
             }),
             _ => self.query_asks(alloc, method, handle),
         }

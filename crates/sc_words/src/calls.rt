@@ -191,7 +191,7 @@ fn calls_of(task: &Task) -> &'static [Method]
         Task::QueryConfig => &QUERY_CONFIG,
         Task::QueryLevel(_) => &QUERY_LEVEL,
         Task::QueryEx => &QUERY_EX,
-        Task::FailureFlag(_) => &CONFIG2,
+        Task::FailureFlag(_) | Task::Triggers(_) => &CONFIG2,
         Task::EnumDepend => &ENUM_DEPEND,
         Task::DisplayName => &DISPLAY_NAME,
         Task::KeyName => &KEY_NAME,

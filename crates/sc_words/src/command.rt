@@ -1,4 +1,5 @@
 use super::settings::Settings;
+use scm_model::TriggerIn;
 use scm_text::{Items, Text, WText};
 
 /// A part of a configuration that is asked for alone.
@@ -9,6 +10,8 @@ pub enum Level {
     Failure,
     /// Whether a stop with an error is a failure too.
     FailureFlag,
+    /// What starts and stops the service when it is raised.
+    Triggers,
 }
 
 /// What a command does with its service, or with the manager.
@@ -29,6 +32,8 @@ pub enum Task {
     QueryEx,
     /// Whether a stop with an error is to be a failure too.
     FailureFlag(bool),
+    /// The triggers that the service is to have.
+    Triggers(Items<TriggerIn>),
     /// The services that need this one.
     EnumDepend,
     /// The display name of the service that is named.
@@ -49,6 +54,7 @@ impl Drop for Task {
             }
             Task::Description(text) => drop(text),
             Task::Start(words) => drop(words),
+            Task::Triggers(triggers) => drop(triggers),
             Task::Control(_) | Task::QueryLevel(_) | Task::FailureFlag(_) => {}
             Task::Query | Task::Delete | Task::QueryConfig | Task::QueryEx | Task::EnumDepend => {}
             Task::DisplayName | Task::KeyName | Task::QueryAll | Task::QueryLock => {}

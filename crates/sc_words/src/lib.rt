@@ -9,6 +9,7 @@ mod reading;
 mod settings;
 mod showing;
 mod texts;
+mod triggers;
 mod values;
 mod verb;
 

@@ -3,13 +3,16 @@ ghost use Rattle.sc_words.specs.Places.{AnswersAs, fits, no_word_at, seen_word, 
 ghost use Rattle.sc_words.specs.Words.{without_rest, bit_in, bit_named, command_of, creation_in};
 ghost use Rattle.sc_words.specs.Words.{failure_in, lone_command, lone_task, named_command};
 ghost use Rattle.sc_words.specs.Words.{number_in, task_of, one_text, text_in_place, texts_from};
+ghost use Rattle.sc_words.specs.Words.{triggers_in};
 
 use super::command::{Command, Level, Task};
 use super::fault::WordsFault;
 use super::settings::{Settings, settings_from};
 use super::texts::word_text;
+use super::triggers::triggers_from;
 use super::values::word_number;
 use super::verb::{Verb, verb_named};
+use scm_model::TriggerIn;
 use scm_model::codes::{
     SERVICE_CONTROL_CONTINUE, SERVICE_CONTROL_INTERROGATE, SERVICE_CONTROL_PAUSE,
     SERVICE_CONTROL_STOP,
@@ -121,6 +124,19 @@ fn texts_from(alloc: Global, words: &[Text], start: usize) -> Result<Items<WText
     Ok(texts)
 }
 
+/// The triggers of the rest: one or more, or `delete`.
+#[tactic(auto, unfolding(crate::specs::Words::triggers_in))]
+fn triggers_in(alloc: Global, words: &[Text]) -> Result<Items<TriggerIn>, WordsFault>
+    ensures { AnswersAs result (triggers_in words.now) }
+{
+    let word = word_at(words, REST)?;
+    if word == "delete" {
+        no_word_at(words, REST + 1)?;
+        return Ok(Items::new(alloc));
+    }
+    triggers_from(alloc, words, REST)
+}
+
 /// The settings of a creation, which has a path.
 #[tactic(auto, unfolding(crate::specs::Words::creation_in, crate::specs::Words::settings_in))]
 fn creation(alloc: Global, words: &[Text]) -> Result<Settings, WordsFault>
@@ -179,6 +195,8 @@ fn task_of(alloc: Global, verb: Verb, words: &[Text]) -> Result<Task, WordsFault
         Verb::QueryFailure => without_rest(Task::QueryLevel(Level::Failure), words),
         Verb::QueryFailureFlag => without_rest(Task::QueryLevel(Level::FailureFlag), words),
         Verb::FailureFlag => Ok(Task::FailureFlag(bit_in(words)?)),
+        Verb::QueryTriggerInfo => without_rest(Task::QueryLevel(Level::Triggers), words),
+        Verb::TriggerInfo => Ok(Task::Triggers(triggers_in(alloc, words)?)),
         Verb::EnumDepend => without_rest(Task::EnumDepend, words),
         Verb::GetDisplayName => without_rest(Task::DisplayName, words),
         Verb::GetKeyName => without_rest(Task::KeyName, words),

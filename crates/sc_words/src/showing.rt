@@ -13,7 +13,7 @@ use super::calls::{Failure, Heard, Method, Stage, code_heard, stage_of};
 use super::command::{Command, Level, Task};
 use sc_lines::{
     Appended, Line, add_config, add_description, add_failure, add_flag, add_lines, add_listing,
-    add_lock, add_process, add_status, is_on,
+    add_lock, add_process, add_status, add_triggers, is_on,
 };
 use scm_model::{Reply, Shown};
 use scm_text::{Items, OutOfMemory, WText};
@@ -148,6 +148,7 @@ fn add_level(
         Level::Description => add_description(text, alloc, name, bytes),
         Level::Failure => add_failure(text, alloc, name, bytes),
         Level::FailureFlag => add_flag(text, alloc, name, bytes),
+        Level::Triggers => add_triggers(text, alloc, name, bytes),
     }
 }
 
@@ -292,7 +293,10 @@ fn add_done(text: &mut Items<u8>, alloc: Global, command: &Command, heard: &[Hea
     match &command.task {
         Task::Create(_) => add_success(text, Method::CreateService),
         Task::Config(_) => add_success(text, Method::ChangeServiceConfig),
-        Task::Description(_) | Task::Failure(_) | Task::FailureFlag(_) => {
+        Task::Description(_) | Task::Failure(_) => {
+            add_success(text, Method::ChangeServiceConfig2)
+        }
+        Task::FailureFlag(_) | Task::Triggers(_) => {
             add_success(text, Method::ChangeServiceConfig2)
         }
         Task::Start(_) => add_success(text, Method::StartService),

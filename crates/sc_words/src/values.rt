@@ -79,7 +79,7 @@ fn split<'a>(alloc: Global, word: &'a str) -> Result<Vec<&'a str>, AllocError>
 }
 
 /// What stands between the slashes of a word.
-fn slash_pieces<'a>(alloc: Global, word: &'a str) -> Result<Vec<&'a str>, OutOfMemory>
+pub fn slash_pieces<'a>(alloc: Global, word: &'a str) -> Result<Vec<&'a str>, OutOfMemory>
     ensures { IfOk result (λ words. map (λ word. word.now) words.items ≡ slash_pieces word.now) }
 {
     match split(alloc, word) {
