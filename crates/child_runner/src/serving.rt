@@ -2,7 +2,7 @@
 ghost use Rattle.std.specs.Prelude.{◌≡◌, ◌≤◌, ◌∷◌, [], length, ◌^◌};
 ghost use Rattle.scm_model.specs.declared.flat.Phase.TheVariants as phases;
 ghost use Rattle.scm_book.specs.Passes.{HoldsProcess, IsOf};
-ghost use Rattle.child_runner.specs.Reports.{Fed, Reports};
+ghost use Rattle.child_runner.specs.Reports.{Fed, Reports, child_parts};
 ghost use Rattle.std.specs.Io.KnownBytes.{Keeps};
 ghost use Rattle.child_runner.specs.Serving.{IsWhole, IsReadFor, IsEndedFor, MakesReports};
 ghost use Rattle.child_runner.specs.Serving.{ReadsAll, ReadsOn, ServesChild, Awaits};
@@ -17,87 +17,6 @@ use scm_book::{Book, MakeFault, Pass, ReportEnd};
 use std::alloc::Global;
 use std::convert::Infallible;
 use std::sync::Wait;
-
-/// Makes a report of a process.
-fn report<R: Wait, K: Keeper, C: Clock>(
-    rt: &R,
-    book: &Book<K>,
-    pass: &mut Pass,
-    process: u64,
-    clock: &C,
-    found: &Reported,
-) -> Result<(), MakeFault>
-    requires book { IsOf book.now pass.old }
-    requires process { HoldsProcess book.now.opening pass.old process phases.Launched }
-    ensures book { IsOf book.now pass.new }
-    ensures process { HoldsProcess book.now.opening pass.new process phases.Launched }
-    ensures reports { Reports (C.tells clock.now) book.now.opening process
-        pass.old found.now pass.new result }
-{
-    let Reported { service, status } = *found;
-    match book.report(rt, pass, clock.now(), process, service, &status) {
-        ReportEnd::Taken | ReportEnd::Refused(_) | ReportEnd::Stale => Ok(()),
-        ReportEnd::Unmade(fault) => Err(fault),
-    }
-}
-
-/// Takes a byte, and makes the report that the line is which it ends.
-fn take<R: Wait, K: Keeper, C: Clock>(
-    rt: &R,
-    book: &Book<K>,
-    pass: &mut Pass,
-    process: u64,
-    clock: &C,
-    line: &mut LineCutter,
-    byte: u8,
-) -> Result<(), MakeFault>
-    requires book { IsOf book.now pass.old }
-    requires process { HoldsProcess book.now.opening pass.old process phases.Launched }
-    requires line { length line.old ≤ 4096 }
-    ensures book { IsOf book.now pass.new }
-    ensures process { HoldsProcess book.now.opening pass.new process phases.Launched }
-    ensures line { length line.new ≤ 4096 }
-    ensures fed { Fed (C.tells clock.now) book.now.opening process (byte ∷ [])
-        line.old line.new pass.old pass.new result }
-{
-    if !line.take(byte) {
-        return Ok(());
-    }
-    let found = read_report(line.line());
-    line.clear();
-    match found {
-        Some(found) => report(rt, book, pass, process, clock, &found),
-        None => Ok(()),
-    }
-}
-
-/// Takes a piece of a child's output, and makes the reports that the lines are which end in it.
-pub fn feed<R: Wait, K: Keeper, C: Clock>(
-    rt: &R,
-    book: &Book<K>,
-    pass: &mut Pass,
-    process: u64,
-    clock: &C,
-    line: &mut LineCutter,
-    piece: &[u8],
-) -> Result<(), MakeFault>
-    requires book { IsOf book.now pass.old }
-    requires process { HoldsProcess book.now.opening pass.old process phases.Launched }
-    requires line { length line.old ≤ 4096 }
-    ensures book { IsOf book.now pass.new }
-    ensures process { HoldsProcess book.now.opening pass.new process phases.Launched }
-    ensures line { length line.new ≤ 4096 }
-    ensures fed { Fed (C.tells clock.now) book.now.opening process piece.now
-        line.old line.new pass.old pass.new result }
-{
-    for byte in piece {
-        match take(rt, book, pass, process, clock, line, *byte) {
-            Ok(()) => {}
-            Err(fault) => return Err(fault),
-        }
-    }
-    Ok(())
-}
 
 /// Takes the pieces of a process's output, and makes the reports that its lines are by a pass.
 pub struct Reporter<'a, R: Wait, K: Keeper, C: Clock> {
@@ -119,6 +38,80 @@ impl<'a, R: Wait, K: Keeper, C: Clock> Drop for Reporter<'a, R, K, C> {
             line,
         } = self;
         drop(line);
+    }
+}
+
+impl<'a, R: Wait, K: Keeper, C: Clock> Reporter<'a, R, K, C> {
+    /// Makes a report of the process.
+    fn report(&self, pass: &mut Pass, found: &Reported) -> Result<(), MakeFault>
+        requires book { IsOf self.now.book.now pass.old }
+        requires process { HoldsProcess self.now.book.now.opening pass.old self.now.process
+            phases.Launched }
+        ensures book { IsOf self.now.book.now pass.new }
+        ensures process { HoldsProcess self.now.book.now.opening pass.new self.now.process
+            phases.Launched }
+        ensures reports { Reports (C.tells self.now.clock.now) self.now.book.now.opening
+            self.now.process pass.old found.now pass.new result }
+    {
+        let Reported { service, status } = *found;
+        let moment = self.clock.now();
+        match self
+            .book
+            .report(self.rt, pass, moment, self.process, service, &status)
+        {
+            ReportEnd::Taken | ReportEnd::Refused(_) | ReportEnd::Stale => Ok(()),
+            ReportEnd::Unmade(fault) => Err(fault),
+        }
+    }
+
+    /// Takes a byte, and makes the report that the line is which it ends.
+    fn take(&mut self, pass: &mut Pass, byte: u8) -> Result<(), MakeFault>
+        requires book { IsOf self.old.book.now pass.old }
+        requires process { HoldsProcess self.old.book.now.opening pass.old self.old.process
+            phases.Launched }
+        requires line { length self.old.line ≤ 4096 }
+        ensures kept { child_parts self.new.book.now self.new.clock.now self.new.process
+            ≡ child_parts self.old.book.now self.old.clock.now self.old.process }
+        ensures book { IsOf self.new.book.now pass.new }
+        ensures process { HoldsProcess self.new.book.now.opening pass.new self.new.process
+            phases.Launched }
+        ensures line { length self.new.line ≤ 4096 }
+        ensures fed { Fed (C.tells self.old.clock.now) self.old.book.now.opening self.old.process
+            (byte ∷ []) self.old.line self.new.line pass.old pass.new result }
+    {
+        if !self.line.take(byte) {
+            return Ok(());
+        }
+        let found = read_report(self.line.line());
+        self.line.clear();
+        match found {
+            Some(found) => self.report(pass, &found),
+            None => Ok(()),
+        }
+    }
+
+    /// Takes a piece of a child's output, and makes the reports that the lines are which end in it.
+    fn feed(&mut self, pass: &mut Pass, piece: &[u8]) -> Result<(), MakeFault>
+        requires book { IsOf self.old.book.now pass.old }
+        requires process { HoldsProcess self.old.book.now.opening pass.old self.old.process
+            phases.Launched }
+        requires line { length self.old.line ≤ 4096 }
+        ensures kept { child_parts self.new.book.now self.new.clock.now self.new.process
+            ≡ child_parts self.old.book.now self.old.clock.now self.old.process }
+        ensures book { IsOf self.new.book.now pass.new }
+        ensures process { HoldsProcess self.new.book.now.opening pass.new self.new.process
+            phases.Launched }
+        ensures line { length self.new.line ≤ 4096 }
+        ensures fed { Fed (C.tells self.old.clock.now) self.old.book.now.opening self.old.process
+            piece.now self.old.line self.new.line pass.old pass.new result }
+    {
+        for byte in piece {
+            match self.take(pass, *byte) {
+                Ok(()) => {}
+                Err(fault) => return Err(fault),
+            }
+        }
+        Ok(())
     }
 }
 
@@ -150,15 +143,7 @@ impl<'a, R: Wait, K: Keeper, C: Clock> ByteConsumer<Pass, ()> for Reporter<'a, R
         _output: &mut (),
         piece: &[u8],
     ) -> Result<(), MakeFault> {
-        feed(
-            self.rt,
-            self.book,
-            pass,
-            self.process,
-            self.clock,
-            &mut self.line,
-            piece,
-        )
+        self.feed(pass, piece)
     }
 }
 
