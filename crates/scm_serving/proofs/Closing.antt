@@ -63,7 +63,7 @@ module _ {K : Type 0} (told : K → Option (List ℕ)) (faulted : K → ℕ) whe
     told_is = subst (λ (n : ℕ). IsTold c.trail.entries n how end) cl.services t;
   }
 
-  pub served_so : (tells : ℕ → Type 0) (o : Opening) (by last : Known) (moment : ℕ) (a a' u u' : Told) (how : ServeEnd) (end : BookEnd)
+  served_so : (tells : ℕ → Type 0) (o : Opening) (by last : Known) (moment : ℕ) (a a' u u' : Told) (how : ServeEnd) (end : BookEnd)
       (keeper : K) → IsOpening o.limits o.first
       → by.caller ≡ 0 → Goes o by moment last → ServedIn tells o by.seen a a' u u' (was_short how) → EndsAll how a a' u u'
       → HasClosed told faulted o last.seen how end keeper
@@ -78,3 +78,14 @@ module _ {K : Type 0} (told : K → Option (List ℕ)) (faulted : K → ℕ) whe
             (served_still tells o by.seen c.history a a' u u' (was_short how) begins longer c.legal served);
         ends = ends_as o c.history a a' u u' how end c.told_is over;
       }
+
+  -- the same of a book that began so
+  pub served_from : (tells : ℕ → Type 0) (o begun : Opening) → o ≡ begun → (by last : Known) (moment : ℕ) (a a' u u' : Told)
+      (how : ServeEnd) (end : BookEnd) (keeper : K) → IsOpening begun.limits begun.first
+      → by.caller ≡ 0 → Goes o by moment last → ServedIn tells o by.seen a a' u u' (was_short how) → EndsAll how a a' u u'
+      → HasClosed told faulted o last.seen how end keeper
+      → IsServed told faulted tells begun a a' u u' keeper end
+  served_from tells o begun is by last moment a a' u u' how end keeper begins nobody goes served over c =
+      subst (λ (x : Opening). IsServed told faulted tells x a a' u u' keeper end) is
+      (served_so tells o by last moment a a' u u' how end keeper
+      (subst (λ (x : Opening). IsOpening x.limits x.first) (sym is) begins) nobody goes served over c)

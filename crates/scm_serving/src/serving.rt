@@ -4,9 +4,8 @@ ghost use Rattle.scm_core.specs.Managed.{AreSmall};
 ghost use Rattle.scm_rules.specs.Opening.{IsOpening};
 ghost use Rattle.record_journal.specs.Bearing.{Bears};
 ghost use Rattle.scm_book.specs.Passes.{IsOf};
-ghost use Rattle.scm_pipe.specs.Piping.{IsRoot};
 ghost use Rattle.scm_serving.specs.Listening.{told_by};
-ghost use Rattle.scm_serving.specs.Serving.{HasClosed, IsServed, IsTold, ServesBook};
+ghost use Rattle.scm_serving.specs.Serving.{HasClosed, IsTold, ServesBook};
 
 use child_link::{Feed, Link};
 use outside::{Clock, Sink, Source};
@@ -95,44 +94,6 @@ fn closed<R: Wait, K: Keeper, N, P>(
     }
 }
 
-/// Serves the listeners over a new book, and closes it.
-fn serve_root<R, K, N, I, O, A, P, L, F, C>(
-    rt: &R,
-    alloc: Global,
-    opened: Opened<K>,
-    admin: N,
-    user: N,
-    spawner: P,
-    clock: &C,
-) -> BookServed<K, N, P>
-where
-    R: Threads + Wait + time::Clock + Sync,
-    K: Keeper + Send,
-    I: Source + Send + Drop,
-    O: Sink + Send + Drop,
-    A: Send + Drop,
-    N: Listener<In = I, Out = O, Past = A> + Send + Drop,
-    L: Link + Send + Drop,
-    F: Feed + Send + Drop,
-    P: Spawner<Link = L, Feed = F> + Send + Drop,
-    C: Clock + Sync,
-    requires book { IsOf opened.book opened.pass }
-    requires root { IsRoot opened.pass }
-    requires opens { IsOpening opened.book.opening.limits opened.book.opening.first }
-    ensures { IsServed K.held K.faults (C.tells clock.now) opened.book.opening
-        (told_by N.left N.accepted N.noted N.listened N.faults admin)
-        (told_by N.left N.accepted N.noted N.listened N.faults result.admin)
-        (told_by N.left N.accepted N.noted N.listened N.faults user)
-        (told_by N.left N.accepted N.noted N.listened N.faults result.user)
-        result.keeper result.end }
-{
-    let Opened { book, pass } = opened;
-    let mut root = pass;
-    let served = serve_all(rt, alloc, &book, &mut root, admin, user, spawner, clock);
-    let last = book.gone(rt, root, clock.now());
-    closed(rt, alloc, book, last, served)
-}
-
 /// Serves two listeners that listen, over a book that opens with this manager and this journal, and
 /// closes the book. The callers of the first listener join as administrators, those of the other as
 /// users; `spawner` starts the programs of services.
@@ -171,7 +132,12 @@ where
         keeper result.keeper result.end }
 {
     match Book::new(alloc, manager, journal, keeper) {
-        Ok(opened) => serve_root(rt, alloc, opened, admin, user, spawner, clock),
+        Ok(Opened { book, pass }) => {
+            let mut root = pass;
+            let served = serve_all(rt, alloc, &book, &mut root, admin, user, spawner, clock);
+            let last = book.gone(rt, root, clock.now());
+            closed(rt, alloc, book, last, served)
+        }
         Err(keeper) => BookServed {
             end: BookEnd::OutOfMemory,
             keeper,

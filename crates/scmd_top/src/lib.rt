@@ -2,11 +2,11 @@
 #![tactic(auto)]
 
 mod groups;
+mod jobs;
 mod limits;
 mod lines;
 mod opening;
 mod pipe;
-mod serving;
 mod settings;
 mod summary;
 mod top;

@@ -1,16 +1,10 @@
-ghost use Rattle.std.specs.Prelude.{◌≡◌, ◌≤◌, ◌↔◌, IfOk, IfSome, IsErrOf, IsNone, is_some};
+ghost use Rattle.std.specs.Prelude.{◌≡◌, ◌≤◌, ◌↔◌, IfOk, IfSome, IsErrOf, IsNone};
 ghost use Rattle.scmd_top.specs.Jobs.{HasAllDone, HasEnded, HasRun, LeavesKeeper, LeavesOthers};
 ghost use Rattle.scmd_top.specs.Jobs.{groups_listed, names_file};
-ghost use Rattle.scmd_top.specs.Groups.{groups_in};
-ghost use Rattle.scmd_top.specs.Parts.{lent};
 ghost use Rattle.scmd_top.specs.Sides.{ports_of, sides_of};
-ghost use Rattle.scmd_top.specs.Words.{IsFew, job_of};
+ghost use Rattle.scmd_top.specs.Words.{job_of};
 
-use crate::lines::replay_main;
-use crate::pipe::pipe_main;
-use crate::serving::serve_main;
-use crate::summary::generate_main;
-use crate::words::{Job, NoWords, job_of, list_of, path_of};
+use crate::words::{NoWords, job_of, list_of, path_of};
 use crate::world::World;
 use child_link::{Feed, Link};
 use outside::{Clock, Sink, Source};
@@ -22,50 +16,6 @@ use std::alloc::Global;
 use std::sync::Wait;
 use std::thread::Threads;
 use std::time;
-
-/// Does a job, and answers the status of the program, which isn't that of words that are no job.
-fn run<R, I, O, K, N, NI, NO, A, P, L, F, C>(
-    rt: &R,
-    alloc: Global,
-    job: Job,
-    path: Option<&str>,
-    names: Option<&str>,
-    world: World<I, O, K, N, P, C>,
-) -> (u8, World<I, O, K, N, P, C>)
-where
-    R: Threads + Wait + time::Clock + Sync,
-    I: Source,
-    O: Sink,
-    K: Keeper + Send,
-    NI: Source + Send + Drop,
-    NO: Sink + Send + Drop,
-    A: Send + Drop,
-    N: Listener<In = NI, Out = NO, Past = A> + Send + Drop,
-    L: Link + Send + Drop,
-    F: Feed + Send + Drop,
-    P: Spawner<Link = L, Feed = F> + Send + Drop,
-    C: Clock + Sync,
-    requires { IsFew job }
-    ensures run { HasRun (C.tells world.clock)
-        (is_some path.entry) (groups_in (lent names.entry)) job
-        (sides_of I.left I.faults O.held O.faults K.held K.faults world result.1)
-        (ports_of N.left N.accepted N.noted N.listened N.faults world result.1) result.0 }
-    ensures clock { result.1.clock ≡ world.clock }
-    ensures input { I.faults world.input ≤ I.faults result.1.input }
-    ensures output { O.faults world.output ≤ O.faults result.1.output }
-    ensures keeper { LeavesKeeper (is_some path.entry) job world.keeper result.1.keeper }
-    ensures ports { LeavesOthers job world result.1 }
-    ensures complete { HasAllDone (is_some path.entry) job
-        (sides_of I.left I.faults O.held O.faults K.held K.faults world result.1)
-        (ports_of N.left N.accepted N.noted N.listened N.faults world result.1) result.0 }
-{
-    match job {
-        Job::Pipe { principal } => pipe_main(rt, alloc, principal, path, world),
-        Job::Replay => replay_main(alloc, path, world),
-        Job::Generate { services } => generate_main(alloc, services, world),
-        Job::Serve { admin, user } => serve_main(rt, alloc, admin, user, path, names, world),
-    }
-}
 
 /// Does what the arguments `words` ask for, and returns the status of the program: 0 done, 1 the
 /// input failed, 2 the output failed, 3 the keeper failed when the journal was opened, 4 the
@@ -115,7 +65,7 @@ where
         (ports_of N.left N.accepted N.noted N.listened N.faults world result.1) result.0) }
 {
     match job_of(words) {
-        Some(job) => run(rt, alloc, job, path_of(words), list_of(words), world),
+        Some(job) => world.run(rt, alloc, job, path_of(words), list_of(words)),
         None => (5, world),
     }
 }
