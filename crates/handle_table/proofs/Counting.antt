@@ -166,18 +166,14 @@ leaves_of caller n (row ∷ rows) gone rising found his =
           (ap (λ rest. row ∷ rest) (leaves_of caller n rows gone rising.1 (next_row n row gone rows other found) his))
     ]
 
-all_filter : (P : HandleRow → Type 0) (p : HandleRow → Bool) (rows : List HandleRow) → AllByRecursion P rows
-    → AllByRecursion P (filter p rows)
-all_filter P p [] all = tt
-all_filter P p (row ∷ rows) all =
-    elim (p row) as (λ b. AllByRecursion P (cond b (row ∷ filter p rows) (filter p rows))) [
-      | true ↦ (all.0, all_filter P p rows all.1)
-      | false ↦ all_filter P p rows all.1
-    ]
-
 pub below_filter : (next : ℕ) (p : HandleRow → Bool) (rows : List HandleRow) → AllByRecursion (λ (row : HandleRow). row.number < next) rows
     → AllByRecursion (λ (row : HandleRow). row.number < next) (filter p rows)
-below_filter next p rows all = all_filter (λ (row : HandleRow). row.number < next) p rows all
+below_filter next p [] all = tt
+below_filter next p (row ∷ rows) all =
+    elim (p row) as (λ b. AllByRecursion (λ (kept : HandleRow). kept.number < next) (cond b (row ∷ filter p rows) (filter p rows))) [
+      | true ↦ (all.0, below_filter next p rows all.1)
+      | false ↦ below_filter next p rows all.1
+    ]
 
 pub below_pushed : (next : ℕ) (rows : List HandleRow) (new : HandleRow) → AllByRecursion (λ (row : HandleRow). row.number < next) rows
     → new.number ≡ next → AllByRecursion (λ (row : HandleRow). row.number < next + 1) (rows ++ new ∷ [])

@@ -1,10 +1,11 @@
 -- How a run of disk calls goes on.
 use Rattle.std.proofs.Common.{◌≡◌, inl, inr, ⊎_elim, ℕ, List, Option, Some, None, refl, sym, ◌∙◌, subst, arith, IfSome}
-use Rattle.std.proofs.Common.{Result, Ok, Err, length}
-use Rattle.std.specs.Prelude.{OnOk}
+use Rattle.std.proofs.Common.{Result, Ok, Err, length, ◌≤◌, ◌^◌}
+use Rattle.std.specs.Prelude.{IfOk, OnOk}
 use Rattle.journal_disk.specs.Files.{Files, TornFile, written}
 use Rattle.journal_disk.specs.Images.{DiskState, Elapses, HasWritten, IsToldAlike, Looks, Writes}
-use Rattle.journal_store.specs.Kept.{Leaves, Looked}
+use Rattle.journal_store.specs.Kept.{IsStoreReady, IsStored, Leaves, Looked}
+use Rattle.journal_store.specs.declared.reading.LogPlace.{LogPlace}
 
 pub told : {A : Type 0} (P : A → Type 0) (o : Option A) (f : A) → o ≡ Some f → IfSome o P → P f
 told P o f e h = subst (λ o. IfSome o P) e h
@@ -109,3 +110,9 @@ on_ok A B (Err e) f h = tt
 pub on_ok_any : {T E : Type 0} (A B : Type 0) (r : Result T E) → (A → B) → OnOk r A → OnOk r B
 on_ok_any A B (Ok x) f h = f h
 on_ok_any A B (Err e) f h = tt
+
+-- where a store stands at what a call returns
+pub if_stored : {E : Type 0} (d : DiskState) (r : Result LogPlace E) → IfOk r (λ end. IsStoreReady d end.log end.place)
+    → IfOk r (λ end. end.log ≤ 2) → IfOk r (λ end. end.place ≤ 2 ^ 62) → IfOk r (λ end. IsStored d (Some end))
+if_stored d (Ok end) ready log place = (ready, log, place)
+if_stored d (Err e) ready log place = tt

@@ -1,10 +1,12 @@
 -- What a crash may leave at every moment of a call.
-use Rattle.std.specs.Prelude.{ℕ, ◌≡◌, ◌⊎◌, ◌≤◌, ◌^◌, Bool, true, false, List, [], Option, None, Some, Result, OnOk}
+use Rattle.std.specs.Prelude.{ℕ, ◌≡◌, ◌⊎◌, ◌≤◌, ◌^◌, ◌++◌, Bool, true, false, List, [], Option, None, Some, Result, OnOk, take}
 use Rattle.journal_disk.specs.Files.{Files}
 use Rattle.journal_disk.specs.Images.{DiskState, IsToldAlike, Only}
 use Rattle.journal_store.specs.Content.{content, log_content}
 use Rattle.journal_store.specs.Ends.{IsShut, Staged}
 use Rattle.journal_store.specs.declared.reading.LogPlace.{LogPlace}
+use Rattle.journal_store.specs.declared.store.Edit.{Edit}
+use Rattle.journal_store.specs.declared.store.Edit.TheVariants as edits
 
 -- since any moment before a call an image is one of before, or has P, and each image now has P
 pub record Leaves (P : Files → Type 0) (old new : DiskState) : Type 0 where
@@ -50,6 +52,12 @@ AtEachMoment old new made = (f : Files) → old.seen ≡ Some f → Leaves (IsOl
 -- a crash leaves what a read gives
 abbrev pub IsDiskSettled : DiskState → Type 0
 IsDiskSettled d = (f : Files) → d.seen ≡ Some f → Settled d (content f)
+
+-- what an edit makes of a content
+abbrev pub edited : Edit → List ℕ → List ℕ
+edited (edits.Append bytes) = λ x. x ++ bytes.now
+edited (edits.Cut length) = take length
+edited (edits.Replace bytes) = λ x. bytes.now
 
 -- a store whose end is known stands ready at it
 abbrev pub IsStored : DiskState → Option LogPlace → Type 0

@@ -114,18 +114,8 @@ abbrev pub numbers_in : Heads → List ℕ
 numbers_in h = h.kind ∷ h.start ∷ h.error ∷ h.path ∷ h.group ∷ h.tag ∷ h.needs ∷ h.account ∷ h.display ∷ []
 
 abbrev pub shown_told : List ℕ → Result ℕ ℕ
-shown_told (kind ∷ start ∷ error ∷ path ∷ group ∷ tag ∷ needs ∷ account ∷ display ∷ []) =
-    texts_told (record {
-      kind = kind;
-      start = start;
-      error = error;
-      path = path;
-      group = group;
-      tag = tag;
-      needs = needs;
-      account = account;
-      display = display;
-    })
+shown_told (k ∷ s ∷ e ∷ p ∷ g ∷ t ∷ n ∷ a ∷ d ∷ []) =
+    texts_told (record { kind = k; start = s; error = e; path = p; group = g; tag = t; needs = n; account = a; display = d })
 shown_told ns = Ok 0
 
 abbrev pub shown_from : List ℕ → List (List ℕ) → Option Shown

@@ -11,6 +11,9 @@ use scm_model::codes::SC_MAX_ARGUMENTS;
 use scm_text::{Items, OutOfMemory, WText};
 use std::alloc::Global;
 
+/// The words of a start, which are absent where one is.
+type Words = Option<Items<WText>>;
+
 /// So many numbers.
 fn read_numbers(
     reader: &mut NdrReader,
@@ -68,11 +71,7 @@ fn has_null(pointers: &[u32]) -> bool
 /// A pointer per word, and then the strings of those that aren't null. The words are absent if a
 /// pointer is null.
 #[tactic(auto, unfolding(crate::specs::Words::pointed_at, crate::specs::Records::record_at))]
-fn read_pointed(
-    reader: &mut NdrReader,
-    alloc: Global,
-    argc: u32,
-) -> Result<Option<Items<WText>>, BodyFault>
+fn read_pointed(reader: &mut NdrReader, alloc: Global, argc: u32) -> Result<Words, BodyFault>
     ensures value { Gives (λ v. (v, reader.new.place)) result
         (pointed_at argc reader.old.body reader.old.place) }
     ensures body { reader.new.body ≡ reader.old.body }
@@ -88,11 +87,7 @@ fn read_pointed(
 
 /// The count of the words again, and the words.
 #[tactic(auto, unfolding(crate::specs::Words::listed_at))]
-fn read_list(
-    reader: &mut NdrReader,
-    alloc: Global,
-    argc: u32,
-) -> Result<Option<Items<WText>>, BodyFault>
+fn read_list(reader: &mut NdrReader, alloc: Global, argc: u32) -> Result<Words, BodyFault>
     ensures value { Gives (λ v. (v, reader.new.place)) result
         (listed_at argc reader.old.body reader.old.place) }
     ensures body { reader.new.body ≡ reader.old.body }
@@ -107,7 +102,7 @@ fn read_list(
 }
 
 /// The words of a null `argv`.
-fn unlisted(alloc: Global, argc: u32) -> Option<Items<WText>>
+fn unlisted(alloc: Global, argc: u32) -> Words
     ensures { result ≡ unlisted argc }
 {
     if argc == 0 {
@@ -119,11 +114,7 @@ fn unlisted(alloc: Global, argc: u32) -> Option<Items<WText>>
 
 /// `argv`: a pointer, and the list of words that it points to.
 #[tactic(auto, unfolding(crate::specs::Words::argv_at))]
-fn read_argv(
-    reader: &mut NdrReader,
-    alloc: Global,
-    argc: u32,
-) -> Result<Option<Items<WText>>, BodyFault>
+fn read_argv(reader: &mut NdrReader, alloc: Global, argc: u32) -> Result<Words, BodyFault>
     ensures value { Gives (λ v. (v, reader.new.place)) result
         (argv_at argc reader.old.body reader.old.place) }
     ensures body { reader.new.body ≡ reader.old.body }
@@ -138,7 +129,7 @@ fn read_argv(
 
 /// `argc` and `argv` of `RStartServiceW`. The words are absent where one of them is.
 #[tactic(auto, unfolding(crate::specs::Words::words_at))]
-pub fn read_words(reader: &mut NdrReader, alloc: Global) -> Result<Option<Items<WText>>, BodyFault>
+pub fn read_words(reader: &mut NdrReader, alloc: Global) -> Result<Words, BodyFault>
     ensures value { Gives (λ v. (v, reader.new.place)) result
         (words_at reader.old.body reader.old.place) }
     ensures body { reader.new.body ≡ reader.old.body }
@@ -193,7 +184,7 @@ fn put_list(writer: &mut NdrWriter, words: &[WText]) -> Result<(), OutOfMemory>
 
 /// `argc` and `argv` in the form that is written.
 #[tactic(auto, using(crate::proofs::Widths::grows), unfolding(crate::specs::Words::put_words))]
-pub fn put_words(writer: &mut NdrWriter, words: &Option<Items<WText>>) -> Result<(), OutOfMemory>
+pub fn put_words(writer: &mut NdrWriter, words: &Words) -> Result<(), OutOfMemory>
     ensures front { writer.new.front ≡ writer.old.front }
     ensures ok { OnOk result (writer.new.draft ≡ put_words words.now writer.old.draft) }
     ensures space { writer.old.space ≤ writer.new.space }

@@ -14,6 +14,7 @@ use Rattle.sec_desc.specs.Writing.{IsAceValue, IsShort, ace_front, ace_type, sid
 use Rattle.sec_desc.specs.Described.{IsAce, IsSid}
 use Rattle.sec_desc.proofs.Bytes.{IsBytes, numbers_length, bytes_drop, read_16, read_32, small_16, small_32}
 use Rattle.sec_desc.proofs.Identities.{SidAgain, length_sid, sid_again, sid_read}
+use Rattle.sec_desc.proofs.Tests.{four_parts, from_four}
 
 -- what the test says
 pub record AceTest (bytes : List ℕ) : Type 0 where
@@ -29,29 +30,20 @@ ace_test bytes e =
     let b = nat_le (slice_index bytes 0) 1 in
     let c = is_sid (drop 8 bytes) in
     let d = nat_le (8 + sid_size (slice_index bytes 9)) (ace_size bytes) in
-    let f = nat_le (ace_size bytes) (length bytes) in
-    let last = and_parts (a && b && c && d) f e in
-    let fourth = and_parts (a && b && c) d last.0 in
-    let third = and_parts (a && b) c fourth.0 in
-    let second = and_parts a b third.0 in
+    let last = and_parts (a && b && c && d) (nat_le (ace_size bytes) (length bytes)) e in
+    let parts = four_parts a b c d last.0 in
     record {
-      long = leb-true 8 (length bytes) second.0;
-      type = leb-true (slice_index bytes 0) 1 second.1;
-      sid = third.1;
-      room = leb-true (8 + sid_size (slice_index bytes 9)) (ace_size bytes) fourth.1;
+      long = leb-true 8 (length bytes) parts.0;
+      type = leb-true (slice_index bytes 0) 1 parts.1;
+      sid = parts.2;
+      room = leb-true (8 + sid_size (slice_index bytes 9)) (ace_size bytes) parts.3;
       whole = leb-true (ace_size bytes) (length bytes) last.1;
     }
 
 pub ace_tested : (bytes : List ℕ) → AceTest bytes → is_ace bytes ≡ true
 ace_tested bytes t =
-    let a = nat_le 8 (length bytes) in
-    let b = nat_le (slice_index bytes 0) 1 in
-    let c = is_sid (drop 8 bytes) in
-    let d = nat_le (8 + sid_size (slice_index bytes 9)) (ace_size bytes) in
-    let f = nat_le (ace_size bytes) (length bytes) in
-    and_from (a && b && c && d) f
-    (and_from (a && b && c) d
-    (and_from (a && b) c (and_from a b (le-leb 8 (length bytes) t.long) (le-leb (slice_index bytes 0) 1 t.type)) t.sid)
+    and_from _ _
+    (from_four _ _ _ _ (le-leb 8 (length bytes) t.long) (le-leb (slice_index bytes 0) 1 t.type) t.sid
     (le-leb (8 + sid_size (slice_index bytes 9)) (ace_size bytes) t.room))
     (le-leb (ace_size bytes) (length bytes) t.whole)
 

@@ -2,7 +2,7 @@
 use Rattle.std.proofs.Common.{◌≡◌, ℕ, zero, suc, ◌+◌, ◌^◌, ◌<◌, ◌≤◌, Bool, true, false, cond, Option, Some, None, List, [], ◌∷◌, ◌++◌}
 use Rattle.std.proofs.Common.{length, take, drop, Result, Ok, Err, refl, sym, ap, subst, ◌∙◌, arith}
 use Rattle.std.specs.Prelude.{◌==◌, ◌&&◌, nat_le, slice_index}
-use Rattle.std.proofs.lemmas.Bool.{and_parts, and_from, leb-true, le-leb, eqb-true, eq-eqb, ne_eqb}
+use Rattle.std.proofs.lemmas.Bool.{leb-true, le-leb, eqb-true, eq-eqb, ne_eqb}
 use Rattle.std.proofs.lemmas.List.{take-append-drop, length-drop}
 use Rattle.std.proofs.lemmas.Nat.{from_le_bytes-to_le_bytes_2, from_le_bytes-to_le_bytes_4}
 use Rattle.std.proofs.Math.Seq.{take-add}
@@ -18,6 +18,7 @@ use Rattle.sec_desc.specs.Described.{BeginsAcl, Describes, IsPart, IsSid}
 use Rattle.sec_desc.proofs.Bytes.{IsBytes, bytes_drop, read_16, read_32, small_16, small_32}
 use Rattle.sec_desc.proofs.Identities.{sid_again, sid_read}
 use Rattle.sec_desc.proofs.Lists.{acl_again, acl_read, bind_ok, ok_is, passed}
+use Rattle.sec_desc.proofs.Tests.{four_parts, from_four}
 use Rattle.scm_text.specs.Numbers.{has_bits}
 
 -- ## The header
@@ -30,28 +31,19 @@ pub record HeaderTest (bytes : List ℕ) : Type 0 where
 
 header_test : (bytes : List ℕ) → is_header bytes ≡ true → HeaderTest bytes
 header_test bytes e =
-    let a = nat_le 20 (length bytes) in
-    let b = slice_index bytes 0 == 1 in
-    let c = slice_index bytes 1 == 0 in
-    let last = and_parts (a && b && c) (has_bits (control_bits bytes) 0x8000) e in
-    let third = and_parts (a && b) c last.0 in
-    let second = and_parts a b third.0 in
+    let parts =
+    four_parts (nat_le 20 (length bytes)) (slice_index bytes 0 == 1) (slice_index bytes 1 == 0) (has_bits (control_bits bytes) 0x8000) e in
     record {
-      long = leb-true 20 (length bytes) second.0;
-      revision = eqb-true (slice_index bytes 0) 1 second.1;
-      none = eqb-true (slice_index bytes 1) 0 third.1;
-      self_relative = last.1;
+      long = leb-true 20 (length bytes) parts.0;
+      revision = eqb-true (slice_index bytes 0) 1 parts.1;
+      none = eqb-true (slice_index bytes 1) 0 parts.2;
+      self_relative = parts.3;
     }
 
 header_tested : (bytes : List ℕ) → HeaderTest bytes → is_header bytes ≡ true
 header_tested bytes t =
-    let a = nat_le 20 (length bytes) in
-    let b = slice_index bytes 0 == 1 in
-    let c = slice_index bytes 1 == 0 in
-    and_from (a && b && c) (has_bits (control_bits bytes) 0x8000)
-    (and_from (a && b) c (and_from a b (le-leb 20 (length bytes) t.long) (eq-eqb (slice_index bytes 0) 1 t.revision))
-    (eq-eqb (slice_index bytes 1) 0 t.none))
-    t.self_relative
+    from_four _ _ _ _ (le-leb 20 (length bytes) t.long) (eq-eqb (slice_index bytes 0) 1 t.revision)
+    (eq-eqb (slice_index bytes 1) 0 t.none) t.self_relative
 
 header_parts : (first second : ℕ) (tail : List ℕ) → IsBytes tail → 18 ≤ length tail → first ≡ 1 → second ≡ 0
     → header_bytes (number_16 tail) (number_32 (drop 2 tail)) (number_32 (drop 6 tail)) (number_32 (drop 10 tail))

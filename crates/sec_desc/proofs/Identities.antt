@@ -3,7 +3,7 @@ use Rattle.std.proofs.Common.{◌≡◌, ℕ, ◌+◌, ◌*◌, ◌^◌, ◌<◌
 use Rattle.std.proofs.Common.{append_assoc, length-append, arith}
 use Rattle.std.specs.Prelude.{◌==◌, ◌&&◌, nat_le, slice_index}
 use Rattle.std.specs.List.{flat_map}
-use Rattle.std.proofs.lemmas.Bool.{and_parts, and_from, leb-true, le-leb, eqb-true, eq-eqb}
+use Rattle.std.proofs.lemmas.Bool.{leb-true, le-leb, eqb-true, eq-eqb}
 use Rattle.std.proofs.lemmas.List.{drop_at, take_at, take-append-drop, length-drop, length-take}
 use Rattle.std.proofs.lemmas.List.Elements.{All-from_recursion, recursion_from_All}
 use Rattle.std.proofs.Math.Seq.{take-add}
@@ -13,6 +13,7 @@ use Rattle.sec_desc.specs.Layout.{is_sid, sid_of, sid_size}
 use Rattle.sec_desc.specs.Writing.{sid_bytes}
 use Rattle.sec_desc.specs.Described.{IsSid}
 use Rattle.sec_desc.proofs.Bytes.{IsBytes, bytes_drop, length_numbers, numbers_again, numbers_bytes, numbers_length, numbers_small}
+use Rattle.sec_desc.proofs.Tests.{four_parts, from_four}
 
 -- what the test says
 pub record SidTest (bytes : List ℕ) : Type 0 where
@@ -23,30 +24,20 @@ pub record SidTest (bytes : List ℕ) : Type 0 where
 
 pub sid_test : (bytes : List ℕ) → is_sid bytes ≡ true → SidTest bytes
 sid_test bytes e =
-    let a = nat_le 8 (length bytes) in
-    let b = slice_index bytes 0 == 1 in
-    let c = nat_le (slice_index bytes 1) 15 in
-    let d = nat_le (8 + 4 * slice_index bytes 1) (length bytes) in
-    let last = and_parts (a && b && c) d e in
-    let third = and_parts (a && b) c last.0 in
-    let second = and_parts a b third.0 in
+    let parts =
+    four_parts (nat_le 8 (length bytes)) (slice_index bytes 0 == 1) (nat_le (slice_index bytes 1) 15)
+    (nat_le (8 + 4 * slice_index bytes 1) (length bytes)) e in
     record {
-      long = leb-true 8 (length bytes) second.0;
-      revision = eqb-true (slice_index bytes 0) 1 second.1;
-      count = leb-true (slice_index bytes 1) 15 third.1;
-      whole = leb-true (8 + 4 * slice_index bytes 1) (length bytes) last.1;
+      long = leb-true 8 (length bytes) parts.0;
+      revision = eqb-true (slice_index bytes 0) 1 parts.1;
+      count = leb-true (slice_index bytes 1) 15 parts.2;
+      whole = leb-true (8 + 4 * slice_index bytes 1) (length bytes) parts.3;
     }
 
 pub sid_tested : (bytes : List ℕ) → SidTest bytes → is_sid bytes ≡ true
 sid_tested bytes t =
-    let a = nat_le 8 (length bytes) in
-    let b = slice_index bytes 0 == 1 in
-    let c = nat_le (slice_index bytes 1) 15 in
-    let d = nat_le (8 + 4 * slice_index bytes 1) (length bytes) in
-    and_from (a && b && c) d
-    (and_from (a && b) c (and_from a b (le-leb 8 (length bytes) t.long) (eq-eqb (slice_index bytes 0) 1 t.revision))
-    (le-leb (slice_index bytes 1) 15 t.count))
-    (le-leb (8 + 4 * slice_index bytes 1) (length bytes) t.whole)
+    from_four _ _ _ _ (le-leb 8 (length bytes) t.long) (eq-eqb (slice_index bytes 0) 1 t.revision)
+    (le-leb (slice_index bytes 1) 15 t.count) (le-leb (8 + 4 * slice_index bytes 1) (length bytes) t.whole)
 
 -- the bytes of the identity that is read
 sid_front : (first count : ℕ) (tail : List ℕ) → IsBytes tail → first ≡ 1 → 6 + 4 * count ≤ length tail

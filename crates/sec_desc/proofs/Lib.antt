@@ -2,6 +2,7 @@ pub mod NumberLists
 pub mod Entries
 pub mod Sizes
 pub mod Bytes
+pub mod Tests
 pub mod Identities
 pub mod Aces
 pub mod Lists

@@ -2,7 +2,7 @@
 use Rattle.std.proofs.Common.{◌≡◌, ◌⊎◌, ℕ, zero, suc, ◌+◌, ◌-◌, ◌^◌, ◌<◌, ◌≤◌, Bool, true, false, cond, List, [], ◌∷◌, ◌++◌, length, take}
 use Rattle.std.proofs.Common.{drop, Result, Ok, Err, refl, sym, ap, subst, ◌∙◌, append_assoc, length-append, arith, inl, inr}
 use Rattle.std.specs.Prelude.{◌==◌, ◌&&◌, ◌||◌, nat_le, slice_index}
-use Rattle.std.proofs.lemmas.Bool.{and_parts, and_from, cases_Bool, leb-true, le-leb, eqb-true}
+use Rattle.std.proofs.lemmas.Bool.{cases_Bool, leb-true, le-leb, eqb-true}
 use Rattle.std.proofs.lemmas.List.{drop_at, take_at, take-append-drop, drop-drop, length-drop, length-take-le}
 use Rattle.std.proofs.lemmas.Nat.{from_le_bytes-to_le_bytes_2}
 use Rattle.std.proofs.Math.Seq.{take-add}
@@ -13,6 +13,7 @@ use Rattle.sec_desc.specs.Reading.{◌>>=◌, ace_in, aces_in, acl_in}
 use Rattle.sec_desc.specs.Described.{AreAces, BeginsAce, BeginsAcl}
 use Rattle.sec_desc.proofs.Bytes.{IsBytes, bytes_drop, bytes_take, read_16, small_16}
 use Rattle.sec_desc.proofs.Aces.{ace_again, ace_read, ace_test}
+use Rattle.sec_desc.proofs.Tests.{four_parts, from_four}
 
 -- ## Entries
 
@@ -107,29 +108,19 @@ is_one n (inr e) = rw e refl
 
 pub acl_test : (bytes : List ℕ) → is_acl bytes ≡ true → AclTest bytes
 acl_test bytes e =
-    let a = nat_le 8 (length bytes) in
-    let b = slice_index bytes 0 == 2 || slice_index bytes 0 == 4 in
-    let c = nat_le 8 (acl_size bytes) in
-    let d = nat_le (acl_size bytes) (length bytes) in
-    let last = and_parts (a && b && c) d e in
-    let third = and_parts (a && b) c last.0 in
-    let second = and_parts a b third.0 in
+    let parts =
+    four_parts (nat_le 8 (length bytes)) (slice_index bytes 0 == 2 || slice_index bytes 0 == 4) (nat_le 8 (acl_size bytes))
+    (nat_le (acl_size bytes) (length bytes)) e in
     record {
-      long = leb-true 8 (length bytes) second.0;
-      revision = one_of (slice_index bytes 0) second.1;
-      room = leb-true 8 (acl_size bytes) third.1;
-      whole = leb-true (acl_size bytes) (length bytes) last.1;
+      long = leb-true 8 (length bytes) parts.0;
+      revision = one_of (slice_index bytes 0) parts.1;
+      room = leb-true 8 (acl_size bytes) parts.2;
+      whole = leb-true (acl_size bytes) (length bytes) parts.3;
     }
 
 pub acl_tested : (bytes : List ℕ) → AclTest bytes → is_acl bytes ≡ true
 acl_tested bytes t =
-    let a = nat_le 8 (length bytes) in
-    let b = slice_index bytes 0 == 2 || slice_index bytes 0 == 4 in
-    let c = nat_le 8 (acl_size bytes) in
-    let d = nat_le (acl_size bytes) (length bytes) in
-    and_from (a && b && c) d
-    (and_from (a && b) c (and_from a b (le-leb 8 (length bytes) t.long) (is_one (slice_index bytes 0) t.revision))
-    (le-leb 8 (acl_size bytes) t.room))
+    from_four _ _ _ _ (le-leb 8 (length bytes) t.long) (is_one (slice_index bytes 0) t.revision) (le-leb 8 (acl_size bytes) t.room)
     (le-leb (acl_size bytes) (length bytes) t.whole)
 
 -- the list's bytes, part by part

@@ -59,21 +59,15 @@ loop-found-preserved g c =
 
 pub returns-clause-put : goal.returns-clause-put
 returns-clause-put g c = λ f is.
-    let b = g.D.Disk.state c.loop-found.disk in
-    let inv = c.loop-found.invariant in
-    let none =
-    subst (λ o. IfSome b.seen (λ f. IsRecord (drop c.loop-found.place (file f c.args.log)) o)) c.in_default.is c.in_ok-found.ensures.record
-    in
     c.record_at.ensures.looks.seen
-    ∙ front_all c.args.log c.args.to c.args.most c.loop-found.place c.loop-found.done f b.seen (inv.copied f is) c.requires.logs.0
-    c.requires.logs.1 c.requires.logs.2 none
+    ∙ front_all c.args.log c.args.to c.args.most c.loop-found.place c.loop-found.done f (g.D.Disk.state c.loop-found.disk).seen
+    (c.loop-found.invariant.copied f is) c.requires.logs.0 c.requires.logs.1 c.requires.logs.2
+    (subst (λ o. IfSome (g.D.Disk.state c.loop-found.disk).seen (λ f. IsRecord (drop c.loop-found.place (file f c.args.log)) o))
+    c.in_default.is c.in_ok-found.ensures.record)
 
 pub returns-clause-count : goal.returns-clause-count
 returns-clause-count g c = λ f is.
-    let b = g.D.Disk.state c.loop-found.disk in
-    let inv = c.loop-found.invariant in
-    let none =
-    subst (λ o. IfSome b.seen (λ f. IsRecord (drop c.loop-found.place (file f c.args.log)) o)) c.in_default.is c.in_ok-found.ensures.record
-    in
-    front_count c.args.log c.args.to c.args.most c.loop-found.place c.loop-found.done f b.seen (inv.copied f is) c.requires.logs.0
-    c.requires.logs.1 c.requires.logs.2 none
+    front_count c.args.log c.args.to c.args.most c.loop-found.place c.loop-found.done f (g.D.Disk.state c.loop-found.disk).seen
+    (c.loop-found.invariant.copied f is) c.requires.logs.0 c.requires.logs.1 c.requires.logs.2
+    (subst (λ o. IfSome (g.D.Disk.state c.loop-found.disk).seen (λ f. IsRecord (drop c.loop-found.place (file f c.args.log)) o))
+    c.in_default.is c.in_ok-found.ensures.record)
