@@ -40,8 +40,8 @@ fn take_into<R: Wait>(at: &Site<'_, R>, pass: &mut Pass, room: &mut LaunchRoom) 
     requires book { IsOf at.now.book.now pass.old }
     requires path { 2048 ≤ room.old.path.room }
     ensures book { IsOf at.now.book.now pass.new }
-    ensures process { IfSome result (λ process. HoldsProcess at.now.book.now.opening pass.new process
-        phases.Taken) }
+    ensures process { IfSome result (λ process.
+        HoldsProcess at.now.book.now.opening pass.new process phases.Taken) }
 {
     match at.book.take_launch(at.rt, pass, 0, room) {
         LaunchLook::Launch(process) if room.path.units() == [0x2F, 0x61].as_slice() => {
@@ -55,8 +55,8 @@ fn take_into<R: Wait>(at: &Site<'_, R>, pass: &mut Pass, room: &mut LaunchRoom) 
 pub fn take<R: Wait>(at: &Site<'_, R>, pass: &mut Pass) -> Option<u64>
     requires { IsOf at.now.book.now pass.old }
     ensures book { IsOf at.now.book.now pass.new }
-    ensures process { IfSome result (λ process. HoldsProcess at.now.book.now.opening pass.new process
-        phases.Taken) }
+    ensures process { IfSome result (λ process.
+        HoldsProcess at.now.book.now.opening pass.new process phases.Taken) }
 {
     match LaunchRoom::new(at.alloc) {
         Ok(mut room) => {
@@ -72,8 +72,8 @@ pub fn take<R: Wait>(at: &Site<'_, R>, pass: &mut Pass) -> Option<u64>
 pub fn launch<R: Wait>(at: &Site<'_, R>, pass: &mut Pass) -> Option<u64>
     requires { IsOf at.now.book.now pass.old }
     ensures book { IsOf at.now.book.now pass.new }
-    ensures process { IfSome result (λ process. HoldsProcess at.now.book.now.opening pass.new process
-        phases.Launched) }
+    ensures process { IfSome result (λ process.
+        HoldsProcess at.now.book.now.opening pass.new process phases.Launched) }
 {
     let process = take(at, pass)?;
     at.book.launched(at.rt, pass, 0, process, 7);
@@ -177,8 +177,8 @@ fn fill<R: Wait>(at: &Site<'_, R>, pass: &mut Pass, other: &mut Pass) -> Option<
     requires other { IsOf at.now.book.now other.old }
     ensures book { IsOf at.now.book.now pass.new }
     ensures other { IsOf at.now.book.now other.new }
-    ensures process { IfSome result (λ process. HoldsProcess at.now.book.now.opening other.new process
-        phases.Launched) }
+    ensures process { IfSome result (λ process.
+        HoldsProcess at.now.book.now.opening other.new process phases.Launched) }
 {
     let plan = begin(at, pass)?;
     let process = launch(at, other)?;

@@ -13,7 +13,8 @@ use Rattle.child_link.specs.Words.{words_in, nth_word, word_code, word_number}
 use Rattle.child_link.specs.Lines.{IsOrderLine, front_of, order_in, order_of, ordered, printed_unit, shared_control_in, shared_control_text}
 use Rattle.child_link.specs.Lines.{shared_text, start_in, start_text}
 use Rattle.child_link.proofs.Splits.{IsOneWord, none_some, same_some, split_joined}
-use Rattle.child_link.proofs.Reports.{and_then_some, code_read, front_is, front_on, if_some, if_then, number_again, number_read, words_clean}
+use Rattle.child_link.proofs.Reports.{and_then_some, code_read, front_is, front_on, if_some, if_then, number_again, number_read}
+use Rattle.child_link.proofs.Reports.{words_clean}
 use Rattle.child_link.proofs.Reports.{words_end}
 
 -- ## Words
@@ -96,7 +97,8 @@ control_words words order e =
     })
 
 -- the line of such words
-start_line : (words : List (List ℕ)) (name text line : List ℕ) (order : Order) → AreStart words order → text ≡ join_with_byte 32 (name ∷ words)
+start_line : (words : List (List ℕ)) (name text line : List ℕ) (order : Order) → AreStart words order
+    → text ≡ join_with_byte 32 (name ∷ words)
     → name ≡ codes "START" → line ≡ text ++ 10 ∷ [] → IsOrderLine line order
 start_line words name text line order h joined is ends =
     let rest = join_with_byte 32 (h.word ∷ h.more) in
@@ -159,7 +161,8 @@ start_again service name wide =
     let rest = map printed_unit name in
     let text = codes "START" ++ 32 ∷ (decimal service ++ 32 ∷ rest) in
     let line : start_text service name ≡ text ++ 10 ∷ [] = refl in
-    let clean : IsOneWord (codes "START") = All-from_recursion (λ b. (b == 32) ≡ false) (codes "START") (refl, (refl, (refl, (refl, (refl, tt))))) in
+    let clean : IsOneWord (codes "START") = All-from_recursion (λ b. (b == 32) ≡ false) (codes "START")
+    (refl, (refl, (refl, (refl, (refl, tt))))) in
     let words : slice_split (λ b. b == 32) text ≡ codes "START" ∷ decimal service ∷ slice_split (λ b. b == 32) rest =
     slice_split_at (λ b. b == 32) (codes "START") 32 (decimal service ++ 32 ∷ rest) clean refl
     ∙ ap (λ ws. codes "START" ∷ ws) (slice_split_at (λ b. b == 32) (decimal service) 32 rest (decimal_clean service wide) refl) in

@@ -1,5 +1,6 @@
 -- Reports and their lines.
-use Rattle.std.proofs.Common.{inl, inr, ⊎_elim, arith, ℕ, suc, ◌≡◌, ◌+◌, ◌-◌, ◌*◌, ◌^◌, ◌%◌, ◌<◌, ◌≤◌, ◌==◌, ◌&&◌, ◌⊎◌, Bool, true, false, cond}
+use Rattle.std.proofs.Common.{inl, inr, ⊎_elim, arith, ℕ, suc, ◌≡◌, ◌+◌, ◌-◌, ◌*◌, ◌^◌, ◌%◌, ◌<◌, ◌≤◌, ◌==◌, ◌&&◌, ◌⊎◌, Bool, true, false}
+use Rattle.std.proofs.Common.{cond}
 use Rattle.std.proofs.Common.{List, [], ◌∷◌, ◌++◌, length, map, take, drop, Option, None, Some, refl, sym, ap, ◌∙◌, subst, append_assoc}
 use Rattle.std.proofs.Common.{true≢false}
 use Rattle.std.specs.Prelude.{nat_lt, is_none, bytes_eq, codes, decimal, option_and_then, option_map, unwrap_or, slice_get, slice_index_or}

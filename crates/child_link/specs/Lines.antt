@@ -1,6 +1,8 @@
 -- What a child's lines report, and the lines that it is sent.
-use Rattle.std.specs.Prelude.{ℕ, Bool, not, ◌≡◌, ◌≢◌, ◌-◌, ◌^◌, ◌<◌, ◌≤◌, ◌==◌, ◌&&◌, ◌⊎◌, nat_le, List, [], ◌∷◌, ◌++◌, length, map, take, Option, None}
-use Rattle.std.specs.Prelude.{Some, drop, is_none, option_and_then, option_map, slice_index_or, unwrap_or, bytes_eq, codes, decimal, if◌then◌else◌}
+use Rattle.std.specs.Prelude.{ℕ, Bool, not, ◌≡◌, ◌≢◌, ◌-◌, ◌^◌, ◌<◌, ◌≤◌, ◌==◌, ◌&&◌, ◌⊎◌, nat_le, List, [], ◌∷◌, ◌++◌, length, map, take}
+use Rattle.std.specs.Prelude.{Option, None}
+use Rattle.std.specs.Prelude.{Some, drop, is_none, option_and_then, option_map, slice_index_or, unwrap_or, bytes_eq, codes, decimal}
+use Rattle.std.specs.Prelude.{if◌then◌else◌}
 use Rattle.std.specs.List.{All, flat_map, join_with_byte}
 use Rattle.std.specs.Option.{option_or}
 use Rattle.scm_model.specs.declared.flat.Order.{Order}

@@ -1,5 +1,6 @@
 -- What the program does of its words.
-use Rattle.std.specs.Prelude.{ℕ, ◌≡◌, ◌<◌, ◌^◌, ◌==◌, ◌||◌, ◌⊎◌, not, Bool, true, false, codes, is_none, List, [], ◌∷◌, ◌++◌, length, All, filter}
+use Rattle.std.specs.Prelude.{ℕ, ◌≡◌, ◌<◌, ◌^◌, ◌==◌, ◌||◌, ◌⊎◌, not, Bool, true, false, codes, is_none, List, [], ◌∷◌, ◌++◌, length, All}
+use Rattle.std.specs.Prelude.{filter}
 use Rattle.std.specs.Prelude.{Option, None, Some, Result, Ok, Err, nat_eq, bit_or, if◌then◌else◌}
 use Rattle.std.specs.Cmp.Lexicographic.{pointwise}
 use Rattle.std.specs.Io.KnownBytes.{Appends, Consumes, IsAtEnd}

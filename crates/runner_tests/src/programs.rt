@@ -20,7 +20,7 @@ use std::test::Fail;
 const SHELL: &str = "/bin/sh -c \"echo STATUS 16 4 1 0 0 0 0; read word code; \
     [ $word$code = CONTROL1 ] && echo STATUS 16 1 0 0 0 0 0\"";
 
-/// A shell that does so for service 1, `Sh`, once it is told that this is to start.
+/// A shell that does so for service 1, `Sh`, after it has read that this service is to start.
 const SHARED_SHELL: &str = "/bin/sh -c \"read word number name; \
     [ $word$number$name = START1Sh ] && echo STATUS 1 32 4 1 0 0 0 0; read word number code; \
     [ $word$number$code = CONTROL11 ] && echo STATUS 1 32 1 0 0 0 0 0\"";

@@ -1,7 +1,13 @@
 ghost use Rattle.std.specs.Prelude.{◌≡◌, ◌≤◌, ◌<◌, ◌^◌};
 ghost use Rattle.scm_model.specs.Refused.{outcome};
 ghost use Rattle.scm_model.specs.declared.calls.Request.TheVariants as request;
-ghost use Rattle.scm_rules.specs.Locks.{lock_done, lock_verdict, locks, unlock_done, unlock_verdict};
+ghost use Rattle.scm_rules.specs.Locks.{
+  lock_done,
+  lock_verdict,
+  locks,
+  unlock_done,
+  unlock_verdict,
+};
 ghost use Rattle.scm_rules.specs.Locks.{lock_outcome, unlock_outcome};
 
 use scm_model::codes::{

@@ -2,7 +2,12 @@ ghost use Rattle.std.specs.Prelude.{◌≡◌, IfOk, IfSome, option_copied, fals
 ghost use Rattle.scm_model.specs.Refused.{first_refusal, outcome};
 ghost use Rattle.scm_model.specs.declared.calls.Request.TheVariants as request;
 ghost use Rattle.scm_model.specs.declared.steps.Kept.TheVariants as appended;
-ghost use Rattle.scm_rules.specs.Change.{asked_refusals, clash_refusals, row_refusals, asked_config};
+ghost use Rattle.scm_rules.specs.Change.{
+  asked_refusals,
+  clash_refusals,
+  row_refusals,
+  asked_config,
+};
 ghost use Rattle.scm_rules.specs.Change.{change_change, change_done, change_verdict, changed_from};
 ghost use Rattle.scm_rules.specs.Change.{changed_row, new_config, new_tag, tags_no_group};
 ghost use Rattle.scm_rules.specs.Change.{takes_name, change_outcome};

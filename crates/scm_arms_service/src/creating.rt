@@ -7,7 +7,12 @@ ghost use Rattle.scm_model.specs.declared.calls.Request.TheVariants as request;
 ghost use Rattle.scm_model.specs.declared.flat.HandleKind.TheVariants as kinds;
 ghost use Rattle.scm_model.specs.declared.steps.Kept.TheVariants as appended;
 ghost use Rattle.scm_rules.specs.Create.{config_refusals, new_status, place_refusals};
-ghost use Rattle.scm_rules.specs.Create.{right_refusals, created_config, create_change, create_done};
+ghost use Rattle.scm_rules.specs.Create.{
+  right_refusals,
+  created_config,
+  create_change,
+  create_done,
+};
 ghost use Rattle.scm_rules.specs.Create.{create_verdict, tags_nothing, create_outcome};
 ghost use Rattle.scm_rules.specs.Create.{with_creation};
 ghost use Rattle.scm_rules.specs.OpenService.{service_granted};

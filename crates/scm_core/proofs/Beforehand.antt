@@ -1,5 +1,6 @@
 -- What is made for a step, and its room, don't hang on the moment.
-use Rattle.std.proofs.Common.{ℕ, ◌≡◌, ◌≤◌, ◌<◌, ◌+◌, ◌^◌, ◌==◌, ◌∙◌, true, false, cond, length, List, Option, Some, ap, arith, refl, subst, sym}
+use Rattle.std.proofs.Common.{ℕ, ◌≡◌, ◌≤◌, ◌<◌, ◌+◌, ◌^◌, ◌==◌, ◌∙◌, true, false, cond, length, List, Option, Some, ap, arith, refl, subst}
+use Rattle.std.proofs.Common.{sym}
 use Rattle.std.specs.Prelude.{is_some}
 use Rattle.scm_model.specs.Changes.{with_moment}
 use Rattle.scm_model.specs.declared.calls.Request.{Request}

@@ -70,7 +70,8 @@ record Counted : Type 0 where
 abbrev counted : Flat → Counted
 counted f = record { next = f.next; starts = starts_in f.dues; services = length f.services }
 
--- with the starts that stand, of plans as many numbers as there are services and two, and of what becomes due twice as many; of processes as
+-- with the starts that stand, of plans as many numbers as there are services and two, and of what becomes due twice as many; of processes
+-- as
 -- many as may be listed; of all else one
 record NumbersRise (l : Limits) (old new : Counted) : Type 0 where
   handle : new.next.handle ≤ old.next.handle + 1
@@ -88,7 +89,8 @@ Rise l old new = NumbersRise l (counted old) (counted new)
 -- at most one number of a handle, a caller, a service and a registration each
 abbrev OneMore : Next → Next → Type 0
 OneMore old new =
-    (new.handle ≤ old.handle + 1) × (new.caller ≤ old.caller + 1) × (new.service ≤ old.service + 1) × (new.registration ≤ old.registration + 1)
+    (new.handle ≤ old.handle + 1) × (new.caller ≤ old.caller + 1) × (new.service ≤ old.service + 1)
+    × (new.registration ≤ old.registration + 1)
 
 -- none of them
 abbrev NoMore : Next → Next → Type 0
@@ -250,7 +252,8 @@ of_done l f caller (request.Control handle control) append ok = same l f
 of_done l f caller (request.Delete handle) append ok =
     same l f (done_of l f caller (request.Delete handle)).flat refl refl
     (found_length (λ row. marked_if row.number) (held_service f caller handle) f.services)
-of_done l f caller (request.Lock handle) append ok = one l f (done_of l f caller (request.Lock handle)).flat (omega arith, omega arith, omega arith, omega arith) refl refl refl refl (λ few. few)
+of_done l f caller (request.Lock handle) append ok = one l f (done_of l f caller (request.Lock handle)).flat
+    (omega arith, omega arith, omega arith, omega arith) refl refl refl refl (λ few. few)
 of_done l f caller (request.SetStatus handle status) append ok =
     let service = held_service f caller handle in
     let before = taken_by_service f service status in
@@ -266,7 +269,8 @@ of_done l f caller (request.Change2 handle asked) append ok =
     (found_length (λ row. configured_if row.number (level_config asked row)) (held_service f caller handle) f.services)
 of_done l f caller (request.Create new) append ok =
     let few = created_few l f caller new append (eqb-true (create_verdict l f caller new append) 0 ok) in
-    one l f (done_of l f caller (request.Create new)).flat (omega arith, omega arith, omega arith, omega arith) refl refl refl refl (λ held. omega (
+    one l f (done_of l f caller (request.Create new)).flat (omega arith, omega arith, omega arith, omega arith) refl refl refl refl
+    (λ held. omega (
       arith,
       few,
       length-append f.services (new_service f.next.service (created_config f new) (new_status new.kind) ∷ []),
@@ -276,7 +280,8 @@ of_done l f caller (request.OpenManager database access) append ok = one l f (do
 of_done l f caller (request.OpenService handle name access) append ok =
     found_keeps (Rise l f) (with_opened caller (unwrap_or (service_granted f caller access) 0)) (named f name) f
     (same l f f refl refl refl)
-    (λ row is. one l f (with_opened caller (unwrap_or (service_granted f caller access) 0) row f) (omega arith, omega arith, omega arith, omega arith) refl refl refl refl (λ few. few))
+    (λ row is. one l f (with_opened caller (unwrap_or (service_granted f caller access) 0) row f)
+    (omega arith, omega arith, omega arith, omega arith) refl refl refl refl (λ few. few))
 of_done l f caller (request.QueryConfig handle size) append ok = same l f f refl refl refl
 of_done l f caller (request.QueryLock handle size) append ok = same l f f refl refl refl
 of_done l f caller (request.Start handle words) append ok =
@@ -308,7 +313,8 @@ of_done l f caller (request.SetSecurity handle parts bytes) append ok = same l f
 of_done l f caller (request.Notify handle mask) append ok =
     elim (watched f caller handle) as (λ of. Rise l f (with_handle (registered f caller handle mask of) caller
     (kinds.Notify f.next.registration) 0)) [
-      | None ↦ one l f (with_handle (registered f caller handle mask None) caller (kinds.Notify f.next.registration) 0) (omega arith, omega arith, omega arith, omega arith) refl refl refl refl (λ few. few)
+      | None ↦ one l f (with_handle (registered f caller handle mask None) caller (kinds.Notify f.next.registration) 0)
+          (omega arith, omega arith, omega arith, omega arith) refl refl refl refl (λ few. few)
       | Some of ↦ one l f (with_handle (registered f caller handle mask (Some of)) caller (kinds.Notify f.next.registration) 0)
           (omega arith, omega arith, omega arith, omega arith) refl refl refl refl (λ few. few)
     ]
@@ -482,7 +488,8 @@ of_raise l f caller subtype =
 -- ## Steps
 
 of_effect : (l : Limits) (f : Flat) (step : Step) → Rise l f (effect_of l f step).flat
-of_effect l f (Joined principal) = one l f (effect_of l f (Joined principal)).flat (omega arith, omega arith, omega arith, omega arith) refl refl refl refl (λ few. few)
+of_effect l f (Joined principal) = one l f (effect_of l f (Joined principal)).flat
+    (omega arith, omega arith, omega arith, omega arith) refl refl refl refl (λ few. few)
 of_effect l f (Call caller asked append) = of_call l f caller asked append
 of_effect l f (EndStart caller plan) = same l f (effect_of l f (EndStart caller plan)).flat refl refl refl
 of_effect l f LaunchTaken = same l f (effect_of l f LaunchTaken).flat refl refl refl

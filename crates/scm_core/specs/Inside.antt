@@ -29,7 +29,8 @@ abbrev pub KeepsMade : Limits → Flat → Prepared → Option Step → Type 0
 KeepsMade l f made None = Unit {0}
 KeepsMade l f made (Some step) = IsMadeFor l f made step
 
--- a step gives few numbers: of processes twice as many as may be listed, and with the starts that stand, of plans as many as services may be
+-- a step gives few numbers: of processes twice as many as may be listed, and with the starts that stand, of plans as many as services may
+-- be
 -- and of what becomes due twice as many, of all else one; few services stand from the beginning
 pub record IsSound (a : Inside) : Type 0 where
   pub handles : a.tables.flat.next.handle ≤ a.steps + 1

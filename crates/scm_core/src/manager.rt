@@ -195,8 +195,8 @@ impl Manager {
         self.tables.is_wanted()
     }
 
-    /// How many services and orders a process is still to be told of; none where it isn't listed. It
-    /// takes no memory.
+    /// How many starts and orders still have to be sent to a process, `None` if it isn't listed.
+    /// It takes no memory.
     pub fn waiting(&self, process: u64) -> Option<usize>
         ensures { result ≡ waiting self.now.flat process }
     {

@@ -279,7 +279,9 @@ pub fn clear(made: &mut Prepared)
     }
 }
 
-/// A step as contracts see it. It has no bytes and owns nothing.
+/// The step that room was made for. Only contracts see it, so no request is copied for it, and the
+/// value has no bytes and owns nothing. The library's `Snapshot` would say as much, but a type that
+/// holds one gets no proof that it may go to another thread.
 #[derive(Drop)]
 pub struct Reservation {
     pub ghost step: { Step },

@@ -104,7 +104,8 @@ module _ (l : Limits) (n : ℕ) (look : ℕ → Live) (i process plan due : ℕ)
       → Goes l rest (asked_start i ∷ []) (under_way n (at_one look t (pending process)) (wanted_process process t false ∷ [])
       (wanted_row process [] ∷ []) plan i (t ∷ more) (t ∷ []) (process + 1) due)
   asks t more is half first within space =
-      let g = under_way n (at_one look t (pending process)) (wanted_process process t false ∷ []) (wanted_row process [] ∷ []) plan i (t ∷ more)
+      let g = under_way n (at_one look t (pending process)) (wanted_process process t false ∷ []) (wanted_row process [] ∷ []) plan i
+      (t ∷ more)
       (t ∷ []) (process + 1) due in
       goes_one l rest g (Call 1 asked appended.NotAsked) refl refl
       (stepped l rest (Call 1 asked appended.NotAsked) (record { answer = answer.Begun plan; flat = begun (t ∷ more) }) g g

@@ -51,7 +51,8 @@ module _ (l : Limits) (n : ℕ) (look : ℕ → Live) (plan target s t : ℕ) (r
 
   abbrev next_wanting : ℕ → Flat
   next_wanting process =
-      under_way n (next_looked process) (ran first (s ∷ done) ++ wanted_process process t false ∷ []) (wanted_row process [] ∷ []) plan target
+      under_way n (next_looked process) (ran first (s ∷ done) ++ wanted_process process t false ∷ [])
+      (wanted_row process [] ∷ []) plan target
       (t ∷ rest) (tried ++ t ∷ []) (process + 1) due
 
   running_here : (looked s).status.state ≡ 4
@@ -84,7 +85,8 @@ module _ (l : Limits) (n : ℕ) (look : ℕ → Live) (plan target s t : ℕ) (r
       (all_stay (next_wanting (p + 1)) (next_looked (p + 1)) n refl refl))
 
   abbrev wanting : Flat
-  wanting = under_way n look (ran first done ++ wanted_process p s false ∷ []) (wanted_row p [] ∷ []) plan target (s ∷ t ∷ rest) tried (p + 1) due
+  wanting = under_way n look (ran first done ++ wanted_process p s false ∷ []) (wanted_row p [] ∷ []) plan target (s ∷ t ∷ rest) tried (p
+      + 1) due
 
   next_number : p + 1 ≡ first + length (s ∷ done)
   next_number = omega arith
@@ -185,7 +187,8 @@ pub record HasClimbed (l : Limits) (n first plan target due total : ℕ) (f : Fl
 last_climbed : (l : Limits) (n : ℕ) (look : ℕ → Live) (plan target s : ℕ) (tried done : List ℕ) (first due : ℕ) → 0 < first → 0 < s → s ≤ n
     → Climbing n look first s done → s ≡ target
     → HasClimbed l n first plan target due (length done + 1)
-    (under_way n look (ran first done ++ wanted_process (first + length done) s false ∷ []) (wanted_row (first + length done) [] ∷ []) plan target
+    (under_way n look (ran first done ++ wanted_process (first + length done) s false ∷ [])
+    (wanted_row (first + length done) [] ∷ []) plan target
     (s ∷ []) tried (first + length done + 1) due)
     (ups (first + length done) 1)
 last_climbed l n look plan target s tried done first due low some lt climbing is =
@@ -234,7 +237,8 @@ pub climbs_all : (l : Limits) (n : ℕ) (look : ℕ → Live) (plan target s : �
     → 0 < first → 0 < s → s ≤ n → Climbs n s rest target
     → Climbing n look first s done → Untried tried s → length done + suc (length rest) ≤ l.processes
     → HasClimbed l n first plan target due (length done + suc (length rest))
-    (under_way n look (ran first done ++ wanted_process (first + length done) s false ∷ []) (wanted_row (first + length done) [] ∷ []) plan target
+    (under_way n look (ran first done ++ wanted_process (first + length done) s false ∷ [])
+    (wanted_row (first + length done) [] ∷ []) plan target
     (s ∷ rest) tried (first + length done + 1) due)
     (ups (first + length done) (suc (length rest)))
 climbs_all l n look plan target s [] tried done first due small low some lt is climbing untried space =

@@ -104,7 +104,8 @@ module _ (l : Limits) (n : ℕ) (look : ℕ → Live) (first s : ℕ) (done : Li
 
   stops : Goes l before (at_once (Report p 0 (told 1 0)) ∷ []) reported
   stops = goes_one l before reported (Report p 0 (told 1 0)) (ap (λ o. is_launched o && true) found) refl
-      (stepped l before (Report p 0 (told 1 0)) (record { answer = report_told (reporting before p 0) (told 1 0); flat = reported }) reported
+      (stepped l before (Report p 0 (told 1 0)) (record { answer = report_told (reporting before p 0) (told 1 0); flat = reported })
+      reported
       reported
       (ap (λ f. record { answer = report_told (reporting before p 0) (told 1 0); flat = f })
       (report_alone before (reporting before p 0) (told 1 0) (row_at s (look s)) (rows looked n) refl refl reports

@@ -1,5 +1,6 @@
 -- A process of a start is launched, and runs.
-use Rattle.std.proofs.Common.{ℕ, ◌≡◌, ◌∙◌, ◌+◌, ◌<◌, ◌≤◌, ◌==◌, ◌&&◌, ◌||◌, ◌⊎◌, inl, inr, Bool, true, false, not, cond, List, [], ◌∷◌, ◌++◌}
+use Rattle.std.proofs.Common.{ℕ, ◌≡◌, ◌∙◌, ◌+◌, ◌<◌, ◌≤◌, ◌==◌, ◌&&◌, ◌||◌, ◌⊎◌, inl, inr, Bool, true, false, not, cond, List, [], ◌∷◌}
+use Rattle.std.proofs.Common.{◌++◌}
 use Rattle.std.proofs.Common.{Option, None, Some, Result, Ok, Err, filter, find, length, length-append, map, ap, sym, refl, subst, arith}
 use Rattle.std.proofs.Common.{ne_eqb, eq-eqb, eqb-true}
 use Rattle.std.specs.Prelude.{option_map, unwrap_or}
@@ -105,7 +106,8 @@ pub not_by_it : (p k : ℕ) (live : Live) → (live.process == p) ≡ false → 
 not_by_it p k live other = ap (λ b. not (p == 0) && b) other ∙ never_both (not (p == 0))
 
 -- no order waits for them
-pub unreleased_ran : (report : Status) (row : Service) (first : ℕ) (done : List ℕ) → released_by report row (ran first done) ≡ ran first done
+pub unreleased_ran : (report : Status) (row : Service) (first : ℕ) (done : List ℕ)
+    → released_by report row (ran first done) ≡ ran first done
 unreleased_ran report row first done =
     elim (is_stopped_by report row) as (λ b. cond b (map (released_if row.process row.number) (ran first done)) (ran first done) ≡
     ran first done) [ true ↦ all_stay_ran row.process row.number first done | false ↦ refl ]
@@ -132,7 +134,8 @@ module _ (l : Limits) (n : ℕ) (look : ℕ → Live) (plan target s : ℕ) (res
   p = first + length done
 
   abbrev wanting : Flat
-  wanting = under_way n look (ran first done ++ wanted_process p s false ∷ []) (wanted_row p [] ∷ []) plan target (s ∷ rest) tried (p + 1) due
+  wanting = under_way n look (ran first done ++ wanted_process p s false ∷ []) (wanted_row p [] ∷ []) plan target (s ∷ rest) tried (p
+      + 1) due
 
   abbrev pub taking : Flat
   taking = under_way n look (ran first done ++ taken_process p s ∷ []) [] plan target (s ∷ rest) tried (p + 1) due
@@ -202,7 +205,11 @@ module _ (l : Limits) (n : ℕ) (look : ℕ → Live) (plan target s : ℕ) (res
         plans = decided_in (aims_among ns) 0 (plan_with plan target (s ∷ rest) tried None ∷ []);
       })
       (ap (map (λ (row : Service). row.number)) currents_one)
-      ∙ ap (λ ps. record taking { processes = ps; plans = decided_in (aims_among (s ∷ [])) 0 (plan_with plan target (s ∷ rest) tried None ∷ []) })
+      ∙ ap (λ ps. record taking {
+        processes = ps;
+        plans = decided_in (aims_among (s ∷ [])) 0
+            (plan_with plan target (s ∷ rest) tried None ∷ []);
+      })
       launched_last
       ∙ ap launched_with (or_none (target == s) ∙ is)
 
@@ -250,7 +257,8 @@ module _ (l : Limits) (n : ℕ) (look : ℕ → Live) (plan target s : ℕ) (res
   -- whose process it is tells so
   pub reports_of : (f : Flat) → f.services ≡ rows look n → f.processes ≡ ran first (s ∷ done) → reporting f p 0 ≡ Some (row_at s (look s))
   reports_of f services processes =
-      reports_by f n look p s (running_process p s) services (ap (find (λ (row : Process). row.number == p)) processes ∙ launched_found) refl
+      reports_by f n look p s (running_process p s) services (ap (find (λ (row : Process). row.number == p)) processes
+      ∙ launched_found) refl
       (omega (arith, low)) some lt own
 
   -- the target runs, and the start is answered yet

@@ -244,14 +244,16 @@ pub enters_first : (l : Limits) (n : ℕ) (look : ℕ → Live) (processes : Lis
     (process due : ℕ)
     → n < 2 ^ 64 → 0 < t → t ≤ n → IsAtRest (look t) → HasUp look t → has tried t ≡ false → length processes < l.processes
     → settled l (under_way n look processes [] plan target (t ∷ rest) tried process due)
-    ≡ under_way n (at_one look t (pending process)) (processes ++ wanted_process process t false ∷ []) (wanted_row process [] ∷ []) plan target
+    ≡ under_way n (at_one look t (pending process)) (processes ++ wanted_process process t false ∷ [])
+    (wanted_row process [] ∷ []) plan target
     (t ∷ rest) (tried ++ t ∷ []) (process + 1) due
 enters_first l n look processes plan target t rest tried process due small some lt still up untried space =
     let held = plan_with plan target (t ∷ rest) tried None ∷ [] in
     settles_one l (under_way n look processes [] plan target (t ∷ rest) tried process due)
     (plan_with plan target (t ∷ rest) tried None) _ refl
     (enters l n look processes held plan target t rest tried process due small some lt still up untried space)
-    ∙ tidy n (at_one look t (pending process)) (processes ++ wanted_process process t false ∷ []) (wanted_row process [] ∷ []) held plan target
+    ∙ tidy n (at_one look t (pending process)) (processes ++ wanted_process process t false ∷ [])
+    (wanted_row process [] ∷ []) held plan target
     (t ∷ rest) (tried ++ t ∷ []) (process + 1) due
 
 -- the next one is, once the one before it runs
@@ -260,7 +262,8 @@ pub enters_next : (l : Limits) (n : ℕ) (look : ℕ → Live) (processes : List
     → n < 2 ^ 64 → 0 < s → s ≤ n → (look s).status.state ≡ 4 → (target == s) ≡ false
     → 0 < t → t ≤ n → IsAtRest (look t) → HasUp look t → has tried t ≡ false → length processes < l.processes
     → settled l (under_way n look processes [] plan target (s ∷ t ∷ rest) tried process due)
-    ≡ under_way n (at_one look t (pending process)) (processes ++ wanted_process process t false ∷ []) (wanted_row process [] ∷ []) plan target
+    ≡ under_way n (at_one look t (pending process)) (processes ++ wanted_process process t false ∷ [])
+    (wanted_row process [] ∷ []) plan target
     (t ∷ rest) (tried ++ t ∷ []) (process + 1) due
 enters_next l n look processes plan target s t rest tried process due small some lt running passed first within still up untried space =
     let p = plan_with plan target (s ∷ t ∷ rest) tried None in

@@ -1,5 +1,6 @@
 -- The whole list.
-use Rattle.std.proofs.Common.{ℕ, zero, suc, ◌≡◌, ◌+◌, ◌<◌, ◌≤◌, ◌^◌, ◌==◌, ◌||◌, ◌⊎◌, inl, append_assoc, true, false, cond, List, [], ◌∷◌, ◌++◌, length}
+use Rattle.std.proofs.Common.{ℕ, zero, suc, ◌≡◌, ◌+◌, ◌<◌, ◌≤◌, ◌^◌, ◌==◌, ◌||◌, ◌⊎◌, inl, append_assoc, true, false, cond, List, [], ◌∷◌}
+use Rattle.std.proofs.Common.{◌++◌, length}
 use Rattle.std.proofs.Common.{ap, sym, refl, subst, arith, ne_eqb, eq-eqb}
 use Rattle.std.proofs.lemmas.Int.Digits.{length-digits_of-le}
 use Rattle.scm_model.specs.declared.flat.Flat.{Flat}
@@ -44,7 +45,8 @@ module _ (l : Limits) (n : ℕ) (look : ℕ → Live) (i process plan due : ℕ)
 
   -- the state in which the first service is being launched
   abbrev wanting : (t : ℕ) (more : List ℕ) (m : ℕ) → Flat
-  wanting t more m = under_way n (at_one look t (pending m)) (wanted_process m t false ∷ []) (wanted_row m [] ∷ []) plan i (t ∷ more) (t ∷ []) (m
+  wanting t more m = under_way n (at_one look t (pending m)) (wanted_process m t false ∷ []) (wanted_row m [] ∷ []) plan i (t ∷ more)
+      (t ∷ []) (m
       + 1) due
 
   none_yet : process + 0 ≡ process

@@ -46,8 +46,10 @@ sent_apart (Some row) process rows = refl
 pub released_apart : (report : Status) (service : Option Service) (rows : List Process)
     → map apart_from_controls (if_found (released_by report) service rows) ≡ map apart_from_controls rows
 released_apart report service rows =
-    found_keeps (λ (left : List Process). map apart_from_controls left ≡ map apart_from_controls rows) (released_by report) service rows refl
-    (λ row is. elim (is_stopped_by report row) as (λ b. map apart_from_controls (cond b (map (released_if row.process row.number) rows) rows)
+    found_keeps (λ (left : List Process). map apart_from_controls left ≡ map apart_from_controls rows)
+    (released_by report) service rows refl
+    (λ row is. elim (is_stopped_by report row) as (λ b. map apart_from_controls
+    (cond b (map (released_if row.process row.number) rows) rows)
     ≡ map apart_from_controls rows) [
       | true ↦ controls_apart (released_if row.process row.number) (controls_released row.process row.number) rows
       | false ↦ refl

@@ -115,7 +115,8 @@ of_effect number Over Left P lasts l f moment (LaunchFailed process code) low al
 of_effect number Over Left P lasts l f moment (Report process service status) low allowed p =
     failing_apart (λ (g : Flat). P g.plans) (failed_by status (reporting f process service)) _ p
 of_effect number Over Left P lasts l f moment (Ended process) low allowed p =
-    all_failing_apart (λ (g : Flat). P g.plans) (currents process f.services) (with_fallen (with_moment f moment) process ERROR_PROCESS_ABORTED) p
+    all_failing_apart (λ (g : Flat). P g.plans) (currents process f.services)
+    (with_fallen (with_moment f moment) process ERROR_PROCESS_ABORTED) p
 of_effect number Over Left P lasts l f moment Tick low allowed p = (ticked_by (LastsIn number P) l (record {
   spends = λ g row is q. (q.0, expires number Over Left P lasts g.plans row.kind q.1);
   starts = λ g row there can q. start_lasts number Over Left P lasts g row q;

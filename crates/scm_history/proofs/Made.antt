@@ -173,7 +173,8 @@ not_begun l f moment step number ok other none = none
 
 stays_not : (l : Limits) (number : ℕ) → Keeps l (IsNotBegun number) (λ plan. Unit {0})
 stays_not l number = record {
-  enters = λ f plan service words entry none. wanted_not number f.next.process service (is_shared_by (service_of f service)) f.processes none;
+  enters = λ f plan service words entry none. wanted_not number f.next.process service
+      (is_shared_by (service_of f service)) f.processes none;
   tries = λ f plan service entry q. tt;
   drops = λ plan service rest code q. tt;
 }

@@ -164,7 +164,8 @@ of_effect l f moment (LaunchFailed process code) = record {
       (λ n e. or_left _ _ e) f.processes;
 }
 of_effect l f moment (Report process service status) =
-    failing_apart (λ (g : Flat). HavePlaces f (Report process service status) g.processes) (failed_by status (reporting f process service)) _
+    failing_apart (λ (g : Flat). HavePlaces f (Report process service status) g.processes)
+    (failed_by status (reporting f process service)) _
     (apart_places f (Report process service status) _ (all_stay f.processes)
     (released_apart status (reporting f process service) f.processes))
 of_effect l f moment (Ended process) =
@@ -199,7 +200,8 @@ append_none [] = refl
 append_none (row ∷ rows) = ap (λ rest. row ∷ rest) (append_none rows)
 
 -- one more that is wanted
-one_grown : (bound : ℕ) (old : List Process) (g : Flat) (service : ℕ) (shared : Bool) → Grown bound old g → (h : Flat) → h.processes ≡ g.processes
+one_grown : (bound : ℕ) (old : List Process) (g : Flat) (service : ℕ) (shared : Bool) → Grown bound old g → (h : Flat)
+    → h.processes ≡ g.processes
     ++ wanted_process g.next.process service shared ∷ [] → h.next.process ≡ g.next.process + 1 → Grown bound old h
 one_grown bound old g service shared is h more next = record {
   new = is.new ++ wanted_process g.next.process service shared ∷ [];

@@ -1,5 +1,6 @@
 -- The shape of each answer.
-use Rattle.std.proofs.Common.{ℕ, ◌≡◌, ◌⊎◌, ◌==◌, ◌||◌, Bool, true, false, cond, List, Option, None, Some, Ok, Err, refl, inl, inr, IsTrue, [], ◌∷◌}
+use Rattle.std.proofs.Common.{ℕ, ◌≡◌, ◌⊎◌, ◌==◌, ◌||◌, Bool, true, false, cond, List, Option, None, Some, Ok, Err, refl, inl, inr, IsTrue}
+use Rattle.std.proofs.Common.{[], ◌∷◌}
 use Rattle.std.specs.Prelude.{is_some, unwrap_or, option_and_then}
 use Rattle.scm_model.specs.declared.codes.TheConstants.{ERROR_INVALID_DATA}
 use Rattle.scm_model.specs.declared.flat.Flat.{Flat}

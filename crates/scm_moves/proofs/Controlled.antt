@@ -1,6 +1,7 @@
 -- The law of controls.
 use Rattle.std.proofs.Common.{ℕ, ◌≡◌, ◌∙◌, ◌<◌, ◌≤◌, ◌==◌, ◌&&◌, ◌||◌, true, false, cond, IsTrue, List, [], ◌∷◌, ◌++◌, append_assoc, Option}
-use Rattle.std.proofs.Common.{None, Some, drop, find, get_or, length, map, not, ap, sym, refl, subst, arith, eq-eqb, eqb-true, inl, inr, ne_eqb}
+use Rattle.std.proofs.Common.{None, Some, drop, find, get_or, length, map, not, ap, sym, refl, subst, arith, eq-eqb, eqb-true, inl, inr}
+use Rattle.std.proofs.Common.{ne_eqb}
 use Rattle.std.specs.Prelude.{All, is_none, is_some, max, nat_le, nat_lt, option_and_then}
 use Rattle.std.proofs.lemmas.Bool.Decides.{nat_tests}
 use Rattle.std.proofs.lemmas.List.{append-nil, length-map}
@@ -280,7 +281,8 @@ sent_by : (l : Limits) (f g : Flat) (moment process : ℕ) (asked : Option Servi
 sent_by l f g moment process None v e some =
     inr (taken_by f g (step_of l f moment (ControlTaken process)).flat process (controls_of f process) e refl some
     (waiting_after l f moment (ControlTaken process) process
-    ∙ ap (λ (asked : Option Service). controls_in (found process (dequeued_in asked process f.processes))) e ∙ relieved process f.processes))
+    ∙ ap (λ (asked : Option Service). controls_in (found process (dequeued_in asked process f.processes))) e
+    ∙ relieved process f.processes))
 sent_by l f g moment process (Some row) v e some = inl (record {
   row = row;
   first = e;
@@ -304,7 +306,8 @@ report_releases : (f g : Flat) (report : Status) (service : Option Service) (row
     → is_stopped_by report row ≡ true
     → controls_of (with_report_of g service report) row.process ≡ orders_without row.number (process_of f row.process)
 report_releases f g report service row same is stopped =
-    failing_apart (λ (h : Flat). controls_of h row.process ≡ orders_without row.number (process_of f row.process)) (failed_by report service) _
+    failing_apart (λ (h : Flat). controls_of h row.process ≡ orders_without row.number (process_of f row.process))
+    (failed_by report service) _
     (ap (λ (one : Option Service). controls_in (found row.process (if_found (released_by report) one g.processes))) is
     ∙ ap (λ b. controls_in (found row.process (cond b (map (released_if row.process row.number) g.processes) g.processes))) stopped
     ∙ released row.process row.number g.processes
@@ -443,9 +446,11 @@ fresh_released : (report : Status) (service : Option Service) (number : ℕ) (ro
 fresh_released report service number rows none =
     no_controls (found number (if_found (released_by report) service rows))
     (found_keeps (λ (left : List Process). is_some (found number left) ≡ false) (released_by report) service rows none
-    (λ row is. elim (is_stopped_by report row) as (λ b. is_some (found number (cond b (map (released_if row.process row.number) rows) rows)) ≡
+    (λ row is. elim (is_stopped_by report row) as (λ b. is_some (found number
+    (cond b (map (released_if row.process row.number) rows) rows)) ≡
     false) [
-      | true ↦ found_mapped (λ (r : Process). r.number) (released_if row.process row.number) number (released_number row.process row.number) rows
+      | true ↦ found_mapped (λ (r : Process). r.number) (released_if row.process row.number) number
+          (released_number row.process row.number) rows
           ∙ none
       | false ↦ none
     ]))

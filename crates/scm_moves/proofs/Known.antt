@@ -106,7 +106,8 @@ known_counted f number moment h = record {
 
 known_failing : (found : Option Service) (f : Flat) → Known f → Known (if_found with_failure found f)
 known_failing found f h =
-    failing_keeps Known found f h (λ row is. known_counted f row.number f.moment h) (λ service g moment kind is q. record { opened = q.opened })
+    failing_keeps Known found f h (λ row is. known_counted f row.number f.moment h)
+    (λ service g moment kind is q. record { opened = q.opened })
 
 -- a change of services that leaves their numbers
 known_mapped : (f : Flat) (g : Service → Service) → ((row : Service) → (g row).number ≡ row.number) → Known f
@@ -190,7 +191,8 @@ known_call l f caller asked append h =
 -- ## Effects
 
 known_effect : (l : Limits) (f : Flat) (moment : ℕ) (step : Step) → Known f → Known (effect_of l (at_moment f moment step) step).flat
-known_effect l f moment (Call caller asked append) h = known_call l (with_moment f moment) caller asked append (record { opened = h.opened })
+known_effect l f moment (Call caller asked append) h = known_call l (with_moment f moment) caller asked append
+    (record { opened = h.opened })
 known_effect l f moment (LaunchFailed process code) h = record {
   opened = opened_mapped (fallen_if process code) f.services f.handles (fallen_number process code) h.opened;
 }

@@ -1,5 +1,6 @@
 -- The law of moves.
-use Rattle.std.proofs.Common.{ℕ, ◌≡◌, ◌∙◌, ◌<◌, ◌==◌, Bool, true, false, cond, not, IsTrue, List, [], ◌∷◌, Option, None, Some, map, get_or, ap, sym}
+use Rattle.std.proofs.Common.{ℕ, ◌≡◌, ◌∙◌, ◌<◌, ◌==◌, Bool, true, false, cond, not, IsTrue, List, [], ◌∷◌, Option, None, Some, map, get_or}
+use Rattle.std.proofs.Common.{ap, sym}
 use Rattle.std.proofs.Common.{refl, subst, arith, eqb-true, inl, inr}
 use Rattle.std.specs.Prelude.{All, is_some}
 use Rattle.std.specs.List.{AllZip}
@@ -79,7 +80,8 @@ moved l f moment step v ok =
 
 -- ## Processes that end
 
-fallen_out : (process code : ℕ) (rows : List Service) → All (λ (row : Service). is_by process row ≡ false) (map (fallen_if process code) rows)
+fallen_out : (process code : ℕ) (rows : List Service) → All (λ (row : Service). is_by process row ≡ false)
+    (map (fallen_if process code) rows)
 fallen_out process code rows =
     All-map (λ (row : Service). is_by process row ≡ false) (fallen_if process code) rows
     (λ k d lt. fallen_either (λ new. is_by process new ≡ false) process code (get_or rows k d) (λ by. no_current process) (λ out. out))
@@ -102,12 +104,14 @@ ended_effect l f moment (Ended process) number is =
 ended_effect l f moment step number is = absurd cc
 
 -- a process that ends is listed, and lies below the next number
-listed_low : (l : Limits) (f : Flat) (number : ℕ) (found : Option Process) → IsValid l f → process_of f number ≡ found → is_some found ≡ true
+listed_low : (l : Limits) (f : Flat) (number : ℕ) (found : Option Process) → IsValid l f → process_of f number ≡ found
+    → is_some found ≡ true
     → number < f.next.process
 listed_low l f number None v e there = absurd cc
 listed_low l f number (Some row) v e there =
     let is = eqb-true row.number number (found_passes (λ (r : Process). r.number == number) row f.processes e) in
-    let low = found_has (λ (r : Process). r.number < f.next.process) (λ (r : Process). r.number == number) row f.processes v.processes.below e in
+    let low = found_has (λ (r : Process). r.number < f.next.process) (λ (r : Process). r.number == number) row f.processes v.processes.below
+    e in
     omega (arith, is, low)
 
 launched_there : (found : Option Process) → is_launched found ≡ true → is_some found ≡ true

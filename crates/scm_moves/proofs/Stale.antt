@@ -23,7 +23,8 @@ use Rattle.scm_model.specs.Purge.{purged}
 use Rattle.start_plan.specs.Decided.{code_of}
 use Rattle.start_plan.specs.Settle.{settled}
 use Rattle.status_machine.specs.Moves.{take_report, takes}
-use Rattle.scm_rules.specs.Launches.{currents, fallen_if, first_wanted, is_by, launch_told, notified_of_falls, wanted_of_others, without_process}
+use Rattle.scm_rules.specs.Launches.{currents, fallen_if, first_wanted, is_by, launch_told, notified_of_falls, wanted_of_others}
+use Rattle.scm_rules.specs.Launches.{without_process}
 use Rattle.scm_rules.specs.Reports.{is_reporter, is_stopped_by, moved_by, notified_of_report, released_by, released_if, report_answer}
 use Rattle.scm_rules.specs.Reports.{report_told, reported_if, reported_in, reporting, set_status_done, set_status_verdict, with_report_of}
 use Rattle.scm_rules.specs.Ends.{end_told, with_end}
@@ -132,7 +133,8 @@ told_refused g row report code =
 
 refused_report : (l : Limits) (f : Flat) (moment : ℕ) (report : Status) (service : Option Service) (code : ℕ) → IsValid l f
     → ((row : Service) → service ≡ Some row → All (λ (r : Service). r.number ≡ row.number → r ≡ row) f.services)
-    → (finished (settled l (with_report_of (with_moment f moment) service report)) (report_told service report)).answer ≡ answer.Refused code
+    → (finished (settled l (with_report_of (with_moment f moment) service report)) (report_told service report)).answer ≡ answer.Refused
+    code
     → (code ≡ 13) × ((purged (finished (settled l (with_report_of (with_moment f moment) service report))
     (report_told service report)).flat).services ≡ f.services)
 refused_report l f moment report None code v only told = absurd cc
@@ -141,7 +143,8 @@ refused_report l f moment report (Some row) code v only told =
     let is = told_refused g row report code told in
     let same = map_still (reported_if row.number report) f.services
     (All-weaker (λ (r : Service). r.number ≡ row.number → r ≡ row) (λ (r : Service). reported_if row.number report r ≡ r)
-    (λ r one. not_taken row.number report r (λ h. ap (λ (s : Service). takes s.status report) (one (eqb-true r.number row.number h)) ∙ is.none))
+    (λ r one. not_taken row.number report r (λ h. ap (λ (s : Service). takes s.status report) (one (eqb-true r.number row.number h))
+    ∙ is.none))
     f.services (only row refl)) in (
       is.is,
       subst (λ (told : Answer). (purged (finished g told).flat).services ≡ f.services)

@@ -284,7 +284,8 @@ new_none process service shared number [] =
     elim (process == number) as (λ b. controls_in (cond b (Some (wanted_process process service shared)) None) ≡ [])
     [ true ↦ refl | false ↦ refl ]
 new_none process service shared number (row ∷ rows) =
-    elim (row.number == number) as (λ b. controls_in (cond b (Some row) (found number (rows ++ wanted_process process service shared ∷ []))) ≡
+    elim (row.number == number) as (λ b. controls_in (cond b (Some row)
+    (found number (rows ++ wanted_process process service shared ∷ []))) ≡
     controls_in (cond b (Some row) (found number rows)))
     [ true ↦ refl | false ↦ new_none process service shared number rows ]
 

@@ -109,7 +109,8 @@ IsSent before process told after = AskedIsTaken before process told after ⊎ Fi
 -- the orders of a process without those of a service, where others may live there too
 abbrev pub orders_without : ℕ → Option Process → List Order
 orders_without service None = []
-orders_without service (Some row) = if row.shared then filter (λ (order : Order). not (order.service == service)) row.controls else row.controls
+orders_without service (Some row) = if row.shared then filter (λ (order : Order). not (order.service == service)) row.controls
+    else row.controls
 
 -- a report that stops the service that was found takes its orders from its process, where that is shared
 abbrev pub IsReleased : Flat → Flat → Status → Option Service → Type 0

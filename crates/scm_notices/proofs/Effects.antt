@@ -31,7 +31,8 @@ use Rattle.scm_rules.specs.Start.{with_start}
 use Rattle.scm_rules.specs.Controls.{dequeued_if, dequeued_in, first_asked, unasked_if, unasked_in}
 use Rattle.scm_rules.specs.Launches.{currents, fallen, fallen_if, launch_failed, notified_of_falls, with_fallen}
 use Rattle.scm_rules.specs.Ends.{process_ended}
-use Rattle.scm_rules.specs.Reports.{is_reporter, is_stopped_by, notified_of_report, released_by, released_if, reported_if, reporting, with_report_of}
+use Rattle.scm_rules.specs.Reports.{is_reporter, is_stopped_by, notified_of_report, released_by, released_if, reported_if, reporting}
+use Rattle.scm_rules.specs.Reports.{with_report_of}
 use Rattle.scm_model.specs.declared.flat.Order.{Order}
 use Rattle.scm_rules.specs.Steps.{at_moment, effect_of, may}
 use Rattle.scm_rules.specs.Verdicts.{call_of, done_of, told_refused, verdict}
@@ -170,7 +171,8 @@ moves_alone f g row pid change s there numbers others mark same services told = 
   services = services;
   found = row_of f row s there;
   some = some_number f row s there;
-  others = λ k d lt apart. subst (IsQuiet (get_or f.services k d)) (sym (others (get_or f.services k d) apart)) (unmoved (get_or f.services k d));
+  others = λ k d lt apart. subst (IsQuiet (get_or f.services k d)) (sym (others (get_or f.services k d) apart))
+      (unmoved (get_or f.services k d));
   events = refl;
   own = All-weaker (λ (event : Event). event.service ≡ (change row).number) (λ (event : Event). event.service ≡ row.number)
       (λ event is. is ∙ numbers row)
@@ -246,9 +248,11 @@ falls_by : (processes : List Process) (failing : List Service) (moment process c
     → FallsBy processes process code (λ other. counted_all failing moment (fallen_if process code other)) row
 falls_by processes failing moment process code row = record {
   falls = λ by r.
-      subst (λ (mid : Service). notified_fall code row r ≡ notified_first (events_of_change processes row (counted_all failing moment mid)) r)
+      subst (λ (mid : Service). notified_fall code row r ≡ notified_first
+      (events_of_change processes row (counted_all failing moment mid)) r)
       (sym (ap (λ b. cond b (fallen code row) row) by))
-      (all_counts_or (λ new. notified_fall code row r ≡ notified_first (events_of_change processes row new) r) failing moment (fallen code row)
+      (all_counts_or (λ new. notified_fall code row r ≡ notified_first (events_of_change processes row new) r) failing moment
+      (fallen code row)
       (λ failures last. (let new = record (fallen code row) { failures = failures; last_failure = last } in
       one_by_move processes 0 row new r (without_pid processes new refl) refl)));
   stays = λ out.
@@ -379,7 +383,8 @@ of_effect l f moment (Report process service report) s ok quiet =
     (λ row is. is_there (is_reporter g process service) row f.services is)
 of_effect l f moment (Ended process) s ok quiet =
     let after = (process_ended (with_moment f moment) process).flat in
-    of_fall f process 1067 (currents process f.services) (with_fallen (with_moment f moment) process 1067) after.processes after.wanted s refl
+    of_fall f process 1067 (currents process f.services) (with_fallen (with_moment f moment) process 1067) after.processes after.wanted s
+    refl
     refl
 of_effect l f moment (ControlTaken process) s ok quiet =
     found_all (λ asked. Notifies f (record (with_moment f moment) {
@@ -387,7 +392,8 @@ of_effect l f moment (ControlTaken process) s ok quiet =
       processes = dequeued_in asked process f.processes;
     })) (first_asked f process)
     (notified_of_nothing f (record (with_moment f moment) { processes = map (dequeued_if process) f.processes }) refl refl)
-    (λ row is. notified_of_none f (record (with_moment f moment) { services = map (unasked_if row.number) f.services }) (unasked_if row.number)
+    (λ row is. notified_of_none f (record (with_moment f moment) { services = map (unasked_if row.number) f.services })
+    (unasked_if row.number)
     (λ other. unasked_or (λ new. new.number ≡ other.number) row.number other refl refl) refl
     (λ k d lt. unasked_or (IsQuiet (get_or f.services k d)) row.number (get_or f.services k d) (unmoved (get_or f.services k d))
     (unmoved (get_or f.services k d))) refl)

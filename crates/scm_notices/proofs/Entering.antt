@@ -146,7 +146,8 @@ entering_settles f g n words row found stopped s = record {
 
     own_events : events_of_change after.processes row new ≡ event ∷ []
     own_events =
-        let pid : pid_of after.processes new ≡ 0 = pid_unlaunched g.processes (wanted_process p n (is_shared_by (service_of g n))) new s.listed refl refl in
+        let pid : pid_of after.processes new ≡ 0 = pid_unlaunched g.processes
+        (wanted_process p n (is_shared_by (service_of g n))) new s.listed refl refl in
         let moves : (row.status.state == 2) ≡ false = ne_eqb row.status.state 2 (λ two. absurd (omega (arith, two, stopped))) in
         let unmarked : was_marked row new ≡ false = (unmoved row).1 in
         rw (moves, unmarked, pid) refl

@@ -27,7 +27,8 @@ abbrev pub note_falls : ℕ → List Service → Registration → Registration
 note_falls code [] r = r
 note_falls code (row ∷ rows) r = note_falls code rows (notified_fall code row r)
 
-one_fall : (code : ℕ) (row : Service) (rs : List Registration) → notified_of_move 0 row (fallen code row) rs ≡ map (notified_fall code row) rs
+one_fall : (code : ℕ) (row : Service) (rs : List Registration) → notified_of_move 0 row (fallen code row) rs ≡ map
+    (notified_fall code row) rs
 one_fall code row rs =
     let event = event_of_state 0 (fallen code row) in
     elim (row.status.state == (fallen code row).status.state) as
@@ -102,7 +103,8 @@ at_service processes process code change n [] r is rising all = refl
 at_service processes process code change n (row ∷ rows) r is rising all =
     let here = All-head (FallsBy processes process code change) row rows all in
     let rest = at_service processes process code change n rows r is
-    (λ i j d lt within. rising (suc i) (suc j) d (omega arith) (omega arith)) (All-tail (FallsBy processes process code change) row rows all) in
+    (λ i j d lt within. rising (suc i) (suc j) d (omega arith) (omega arith))
+    (All-tail (FallsBy processes process code change) row rows all) in
     let found = find (λ (other : Service). other.number == n) rows in
     let above : All (λ (other : Service). row.number < other.number) rows = λ k d lt. rising 0 (suc k) d (omega arith) (omega arith) in
     elim (row.number == n) as (λ b. (row.number == n) ≡ b
@@ -112,7 +114,8 @@ at_service processes process code change n (row ∷ rows) r is rising all =
           let others : All (IsOther r.service) (currents process rows) =
           All-filter (is_by process) (IsOther r.service) rows
           (All-weaker (λ (other : Service). row.number < other.number) (IsOther r.service)
-          (λ other lt. ne_eqb r.service other.number (λ same. absurd (let own = eqb-true row.number n e in omega (arith, own, is, same, lt))))
+          (λ other lt. ne_eqb r.service other.number (λ same. absurd (let own = eqb-true row.number n e in
+          omega (arith, own, is, same, lt))))
           rows above) in
           elim (is_by process row) as (λ b. is_by process row ≡ b
           → note_falls code (cond b (row ∷ currents process rows) (currents process rows)) r
@@ -148,7 +151,8 @@ notified_of_fallen f g process code change s numbers services falls told =
           unheard_falls code (currents process f.services) r
           (All-filter (is_by process) (IsOther r.service) f.services
           (All-weaker (λ (row : Service). 1 ≤ row.number) (IsOther r.service)
-          (λ row first. ne_eqb r.service row.number (λ same. absurd (let zero = eqb-true r.service 0 none in omega (arith, zero, same, first))))
+          (λ row first. ne_eqb r.service row.number (λ same. absurd (let zero = eqb-true r.service 0 none in
+          omega (arith, zero, same, first))))
           f.services s.services.numbered.positive))
           ∙ sym (ap (λ es. notified_first es r) (of_manager f g (changed_same f g change numbers services) r.service none))
       | inr some ↦

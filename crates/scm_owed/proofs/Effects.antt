@@ -1,5 +1,6 @@
 -- What a step that isn't owed makes owed.
-use Rattle.std.proofs.Common.{ℕ, ◌≡◌, ◌≤◌, ◌+◌, ◌*◌, ◌==◌, true, false, cond, List, [], ◌∷◌, Option, None, Some, filter, length, length-append, map, ap}
+use Rattle.std.proofs.Common.{ℕ, ◌≡◌, ◌≤◌, ◌+◌, ◌*◌, ◌==◌, true, false, cond, List, [], ◌∷◌, Option, None, Some, filter, length}
+use Rattle.std.proofs.Common.{length-append, map, ap}
 use Rattle.std.proofs.Common.{refl, arith, eqb-true}
 use Rattle.std.specs.Prelude.{is_some, unwrap_or}
 use Rattle.scm_model.specs.declared.flat.Flat.{Flat}
@@ -80,7 +81,8 @@ released_owe : (report : Status) (service : Option Service) (rows : List Process
     → total owed_by_process (if_found (released_by report) service rows) ≡ total owed_by_process rows
 released_owe report service rows =
     found_keeps (λ (left : List Process). total owed_by_process left ≡ total owed_by_process rows) (released_by report) service rows refl
-    (λ row is. elim (is_stopped_by report row) as (λ b. total owed_by_process (cond b (map (released_if row.process row.number) rows) rows) ≡
+    (λ row is. elim (is_stopped_by report row) as (λ b. total owed_by_process
+    (cond b (map (released_if row.process row.number) rows) rows) ≡
     total owed_by_process rows) [
       | true ↦ controls_owe (released_if row.process row.number) (controls_released row.process row.number) rows
       | false ↦ refl

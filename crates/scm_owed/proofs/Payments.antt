@@ -248,7 +248,8 @@ owed_steps_pay l f moment (LaunchFailed process code) s ok e =
     omega (arith, pays, decided)
 owed_steps_pay l f moment (Ended process) s ok e =
     let pays = left_pays process f.processes (running_listed (process_of f process) (and_parts _ _ ok).0) in
-    let same = all_failing_apart (λ (g : Flat). owed (without_process g process) ≡ owed (without_process f process)) (currents process f.services)
+    let same = all_failing_apart (λ (g : Flat). owed (without_process g process) ≡ owed (without_process f process))
+    (currents process f.services)
     (with_fallen (with_moment f moment) process ERROR_PROCESS_ABORTED) refl in
     omega (arith, pays, same)
 owed_steps_pay l f moment (Gone caller) s ok e =

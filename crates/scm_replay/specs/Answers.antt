@@ -14,7 +14,7 @@ use Rattle.scm_replay.specs.declared.outcome.Outcome.TheVariants.{Answered, Hand
 abbrev pub line_with : List ℕ → List ℕ → List ℕ
 line_with front rest = front ++ rest ++ 10 ∷ []
 
--- the line that tells an order that was taken: a shared process is told the number of the service too
+-- the line for an order that was taken; for a shared process it has the number of the service too
 abbrev pub order_line : Order → Bool → List ℕ
 order_line order true = line_with (codes "control ") (decimal order.service ++ 32 ∷ decimal order.code)
 order_line order false = line_with (codes "control ") (decimal order.code)

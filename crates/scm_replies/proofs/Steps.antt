@@ -1,5 +1,6 @@
 -- What each step is told.
-use Rattle.std.proofs.Common.{ℕ, ◌≡◌, ◌≢◌, ◌∙◌, Bool, List, [], ◌∷◌, cond, ap, ne_eqb, true, Option, None, Some, Result, Ok, Err, IsTrue, refl}
+use Rattle.std.proofs.Common.{ℕ, ◌≡◌, ◌≢◌, ◌∙◌, Bool, List, [], ◌∷◌, cond, ap, ne_eqb, true, Option, None, Some, Result, Ok, Err, IsTrue}
+use Rattle.std.proofs.Common.{refl}
 use Rattle.std.specs.Prelude.{is_some, unwrap_or}
 use Rattle.scm_model.specs.declared.calls.Reply.TheVariants as reply
 use Rattle.scm_model.specs.declared.calls.Request.{Request}

@@ -50,7 +50,8 @@ instead_is number config row =
       | false ↦ λ e. refl
     ] refl
 
-pub instead_all : (number : ℕ) (config : Config) (rows : List Service) → map (instead (need_row_of number config)) (need_rows rows) ≡ need_rows
+pub instead_all : (number : ℕ) (config : Config) (rows : List Service) →
+    map (instead (need_row_of number config)) (need_rows rows) ≡ need_rows
     (map (configured_if number config) rows)
 instead_all number config [] = refl
 instead_all number config (row ∷ rows) =

@@ -1,5 +1,6 @@
 -- RControlService: a control that waits for a service's process.
-use Rattle.std.specs.Prelude.{ℕ, Bool, false, not, ◌&&◌, ◌||◌, ◌==◌, ◌++◌, ◌+◌, ◌-◌, ◌^◌, min, nat_lt, List, [], ◌∷◌, Option, None, Some, drop, filter}
+use Rattle.std.specs.Prelude.{ℕ, Bool, false, not, ◌&&◌, ◌||◌, ◌==◌, ◌++◌, ◌+◌, ◌-◌, ◌^◌, min, nat_lt, List, [], ◌∷◌, Option, None, Some}
+use Rattle.std.specs.Prelude.{drop, filter}
 use Rattle.std.specs.Prelude.{find, length, map, option_map, if◌then◌else◌}
 use Rattle.std.specs.List.{list_any}
 use Rattle.scm_model.specs.declared.flat.Flat.{Flat}

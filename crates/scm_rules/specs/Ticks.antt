@@ -1,5 +1,6 @@
 -- What is due takes place.
-use Rattle.std.specs.Prelude.{ℕ, Bool, false, true, not, ◌&&◌, ◌==◌, ◌+◌, ◌-◌, ◌^◌, ◌++◌, min, nat_lt, zero, suc, List, [], ◌∷◌, filter, length}
+use Rattle.std.specs.Prelude.{ℕ, Bool, false, true, not, ◌&&◌, ◌==◌, ◌+◌, ◌-◌, ◌^◌, ◌++◌, min, nat_lt, zero, suc, List, [], ◌∷◌, filter}
+use Rattle.std.specs.Prelude.{length}
 use Rattle.std.specs.Prelude.{if◌then◌else◌}
 use Rattle.scm_model.specs.declared.flat.Due.{Due}
 use Rattle.scm_model.specs.declared.flat.DueKind.{DueKind}

@@ -1,5 +1,6 @@
 -- What is true of every state that a run reaches.
-use Rattle.std.specs.Prelude.{ℕ, Bool, ◌≡◌, ◌<◌, ◌≤◌, true, false, not, ◌==◌, ◌||◌, ◌&&◌, IsTrue, IfSome, None, List, AllPairs, All, filter, find}
+use Rattle.std.specs.Prelude.{ℕ, Bool, ◌≡◌, ◌<◌, ◌≤◌, true, false, not, ◌==◌, ◌||◌, ◌&&◌, IsTrue, IfSome, None, List, AllPairs, All, filter}
+use Rattle.std.specs.Prelude.{find}
 use Rattle.std.specs.Prelude.{is_none, length, map}
 use Rattle.std.specs.List.{list_all, list_any}
 use Rattle.scm_text.specs.Fold.{same_text}

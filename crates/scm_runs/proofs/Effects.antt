@@ -79,7 +79,8 @@ processes_low l f moment (Call caller asked append) s ok = low_rows f _ (of_effe
     (process_call l (with_moment f moment) caller asked append)
 processes_low l f moment (Report process service status) s ok =
     low_rows f _ (of_effect l f moment (Report process service status) s ok)
-    (failing_apart (λ (g : Flat). g.next.process ≡ f.next.process) (failed_by status (reporting (with_moment f moment) process service)) _ refl)
+    (failing_apart (λ (g : Flat). g.next.process ≡ f.next.process) (failed_by status (reporting (with_moment f moment) process service)) _
+    refl)
 processes_low l f moment (Ended process) s ok =
     low_rows f _ (of_effect l f moment (Ended process) s ok) (all_failing_apart (λ (g : Flat). g.next.process ≡ f.next.process)
     (currents process f.services) _ refl)

@@ -499,7 +499,8 @@ stood_ended : (f : Flat) (moment process : ℕ) (told : Answer) → Sound f
     → Stood f (Ended process) told (with_end (with_moment f moment) process).services
 stood_ended f moment process told s =
     let step = Ended process in
-    let alone_each = All-filter (is_by process) (λ (row : Service). All (λ (other : Service). other.number ≡ row.number → other ≡ row) f.services)
+    let alone_each = All-filter (is_by process) (λ (row : Service). All (λ (other : Service). other.number ≡ row.number
+    → other ≡ row) f.services)
     f.services (alone (λ (row : Service). row.number) f.services s.services.numbered.rising) in
     stood_zipped f step told (with_end (with_moment f moment) process).services refl
     (all_failing_keeps (λ (h : Flat). AllZip (IsSameService f step told) f.services h.services)

@@ -38,7 +38,8 @@ use Rattle.scm_text.specs.Numbers.{has}
 -- processes become no fewer
 more_processes : (l : Limits) (n : ℕ) → Keeps l (λ (f : Flat). n ≤ length f.processes) (λ plan. Unit {0})
 more_processes l n = record {
-  enters = λ f plan service words entry least. (let long = length-append f.processes (wanted_process f.next.process service (is_shared_by (service_of f service)) ∷ []) in
+  enters = λ f plan service words entry least. (let long = length-append f.processes
+      (wanted_process f.next.process service (is_shared_by (service_of f service)) ∷ []) in
       omega arith);
   tries = λ f plan service entry q. tt;
   drops = λ plan service rest code q. tt;
@@ -88,7 +89,8 @@ plan_rests l f plan (s ∷ rest) e same few =
             | moves.Passes ↦ λ is g h. absurd (let less = fewer_entries l f (dropped plan s rest 0) rest refl in
                 let as_it = ap (λ (p : Plan). length p.entries) g in omega arith)
             | moves.Waits ↦ λ is g h. inr is
-            | moves.Enters ↦ λ is g h. absurd (let one = length-append f.processes (wanted_process f.next.process s (is_shared_by (service_of f s)) ∷ []) in omega arith)
+            | moves.Enters ↦ λ is g h. absurd (let one = length-append f.processes
+                (wanted_process f.next.process s (is_shared_by (service_of f s)) ∷ []) in omega arith)
             | moves.Fails code ↦ λ is g h. absurd (let less = fewer_entries l f (dropped plan s rest code) rest refl in
                 let as_it = ap (λ (p : Plan). length p.entries) g in omega arith)
           ] refl

@@ -29,14 +29,16 @@ use Rattle.scm_model.specs.Purge.{leaves, leaving, purged}
 use Rattle.scm_model.specs.Notices.{Event, all_noted, event_of_leaving, noted, with_noted, with_registration}
 use Rattle.scm_rules.specs.Valid.{HasShortName}
 use Rattle.scm_rules.specs.Launches.{currents, currents_in, is_by, notified_of_falls, with_fallen, without_process}
-use Rattle.scm_rules.specs.Reports.{is_reporter, notified_of_report, released_by, released_if, reported_if, reported_in, reporter, reporting, is_stopped_by}
+use Rattle.scm_rules.specs.Reports.{is_reporter, notified_of_report, released_by, released_if, reported_if, reported_in, reporter}
+use Rattle.scm_rules.specs.Reports.{reporting, is_stopped_by}
 use Rattle.scm_runs.proofs.Lists.{found_has, found_passes}
 use Rattle.scm_runs.proofs.Registered.{AreRegistered, IsOfCaller, events_keep, no_registrations, one_registered, who_joined, who_left}
 use Rattle.scm_runs.proofs.Told.{IsNamed, IsProper, all_named, fall_tells, leaving_tells, report_tells}
 use Rattle.database_lock.specs.Locking.{unlocked}
 use Rattle.service_record.specs.Checks.{check_new}
 use Rattle.start_plan.specs.Decided.{aims_among, is_callers, is_numbered}
-use Rattle.scm_rules.specs.Controls.{controlled_if, dequeued_if, dequeued_in, first_asked, order_to, unasked_if, unasked_in, with_control, with_control_taken}
+use Rattle.scm_rules.specs.Controls.{controlled_if, dequeued_if, dequeued_in, first_asked, order_to, unasked_if, unasked_in, with_control}
+use Rattle.scm_rules.specs.Controls.{with_control_taken}
 use Rattle.scm_rules.specs.Launches.{is_launched, launch_failed, launch_taken, launched, process_of}
 use Rattle.scm_rules.specs.Locks.{lock_done, unlock_done}
 use Rattle.scm_rules.specs.Opening.{CanOpen, IsOpening, automatic_starts, opening, services_from, starts_from}

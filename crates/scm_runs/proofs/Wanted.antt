@@ -30,7 +30,8 @@ IsTaken number f = is_taken (process_of f number) ≡ true
 stays_taken : (l : Limits) (number : ℕ) → Keeps l (IsTaken number) (λ plan. Unit {0})
 stays_taken l number = record {
   enters = λ f plan service words entry taken.
-      ap is_taken (find_more (λ (row : Process). row.number == number) f.processes (wanted_process f.next.process service (is_shared_by (service_of f service)) ∷ [])
+      ap is_taken (find_more (λ (row : Process). row.number == number) f.processes
+      (wanted_process f.next.process service (is_shared_by (service_of f service)) ∷ [])
       (taken_listed (process_of f number) taken)) ∙ taken;
   tries = λ f plan service entry q. tt;
   drops = λ plan service rest code q. tt;

@@ -1,5 +1,6 @@
 -- What becomes of a connection: the first case from a join that was refused, the second from a caller's pass that was spent.
-use Rattle.std.proofs.Common.{◌≡◌, ◌≢◌, ◌⊎◌, ◌∙◌, ℕ, true, false, List, [], ◌∷◌, ◌++◌, length, map, Option, None, Some, refl, sym, ap, subst}
+use Rattle.std.proofs.Common.{◌≡◌, ◌≢◌, ◌⊎◌, ◌∙◌, ℕ, true, false, List, [], ◌∷◌, ◌++◌, length, map, Option, None, Some, refl, sym, ap}
+use Rattle.std.proofs.Common.{subst}
 use Rattle.std.proofs.Common.{inl, inr, eq-eqb}
 use Rattle.std.specs.Prelude.{IfSome}
 use Rattle.std.proofs.lemmas.List.Elements.{All-cons}
@@ -122,7 +123,8 @@ refused_by tells o principal by by' given began past joins.TooMany watches cause
     refused_for o principal by'.seen given began past (inl cause) fresh left written reads writes
 refused_by tells o principal by by' given began past (joins.Unmade makes.Full) watches cause fresh left written reads writes short =
     refused_for o principal by'.seen given began past (inr cause.1) fresh left written reads writes
-refused_by tells o principal by by' given began past (joins.Unmade makes.OutOfMemory) watches cause fresh left written reads writes short = absurd cc
+refused_by tells o principal by by' given began past (joins.Unmade makes.OutOfMemory) watches cause fresh left written reads writes short =
+    absurd cc
 
 -- ## Served
 

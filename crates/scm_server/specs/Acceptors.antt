@@ -36,5 +36,6 @@ module _ {K N C I O P : Type 0} where
     -- it took connections back that are past, and nothing else changed
     pub record TakesBack (tells : ℕ → Type 0) (b : Identity) (clock : C) (a a' : Acceptor K N C I O P) : Type 0 where
       pub at : IsAt b clock a'
-      pub only : OnlyNotes (told_by left accepted noted listened faults a.listener) (told_by left accepted noted listened faults a'.listener)
+      pub only : OnlyNotes (told_by left accepted noted listened faults a.listener)
+          (told_by left accepted noted listened faults a'.listener)
       pub goes : (principal : Principal) → GoesOn tells b.opening principal (stand_of a) (stand_of a')

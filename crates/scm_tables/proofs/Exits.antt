@@ -126,7 +126,8 @@ fails_one process place old f rising from row rest e =
     }
 
 -- the next one fails
-pub fails_next : (process place : ℕ) (old f : Flat) → Rising (currents process old.services) → place < length (currents process old.services)
+pub fails_next : (process place : ℕ) (old f : Flat) → Rising (currents process old.services)
+    → place < length (currents process old.services)
     → FailsFrom process place old f
     → FailsFrom process (place + 1) old (if_found with_failure (slice_get (currents process f.services) place) f)
 fails_next process place old f rising within from = rw next (by (drop place (currents process old.services)) refl)
@@ -196,7 +197,8 @@ falls_next f process code number rising first = by (find (is_by process) f.servi
     by (Some row) e =
         let is : number ≡ row.number = same_Some number row.number (first ∙ ap (option_map (λ (row : Service). row.number)) e) in
         let there : service_of f number ≡ Some row = ap (service_of f) is ∙ found_again f.services rising (is_by process) row e in
-        subst (λ (o : Option Service). FallsOn process code f (if_found (λ (r : Service) (g : Flat). with_one_fallen g code r) o f)) (sym there)
+        subst (λ (o : Option Service). FallsOn process code f (if_found (λ (r : Service) (g : Flat). with_one_fallen g code r) o f))
+        (sym there)
         (record {
           same = one_at_a_time f process code row rising e;
           fewer = omega (arith, ap length (fewer_left f process code row rising e));

@@ -1,5 +1,6 @@
 -- What the changes keep of texts and of the numbers of plans.
-use Rattle.std.proofs.Common.{ℕ, ◌≡◌, ◌+◌, ◌<◌, ◌==◌, ◌&&◌, not, Bool, true, false, cond, ap, Option, None, List, [], ◌∷◌, ◌++◌, filter, map, get_or, sym, refl, subst}
+use Rattle.std.proofs.Common.{ℕ, ◌≡◌, ◌+◌, ◌<◌, ◌==◌, ◌&&◌, not, Bool, true, false, cond, ap, Option, None, List, [], ◌∷◌, ◌++◌, filter}
+use Rattle.std.proofs.Common.{map, get_or, sym, refl, subst}
 use Rattle.std.proofs.Common.{arith, ◌∙◌}
 use Rattle.std.specs.Prelude.{All, is_some}
 use Rattle.std.specs.List.{AllByRecursion}

@@ -68,9 +68,11 @@ pub record IsKeptPlan (next : ℕ) (plan : Plan) : Type 0 where
   pub below : plan.number < next
   pub staying : IsTrue (stays plan)
 
--- services stand in order of number; their paths and names are short; their needs are kept, and where it is said so, have no cycle; the numbers of those that are marked are kept, with room for each; as many
+-- services stand in order of number; their paths and names are short; their needs are kept, and where it is said so, have no cycle; the
+-- numbers of those that are marked are kept, with room for each; as many
 -- processes as may be listed find room; plans have numbers below
--- the next one, are undecided or have a caller, and sleep only for services whose state is about to change; what becomes due of a service finds a place
+-- the next one, are undecided or have a caller, and sleep only for services whose state is about to change; what becomes due of a service
+-- finds a place
 pub record IsKept (t : Inside) : Type 0 where
   pub rising : AreByNumber t.next.service t.services.services
   pub texts : All HasShort t.services.services

@@ -1,7 +1,20 @@
 ghost use Rattle.std.specs.Prelude.{ℕ, ◌≡◌, ◌==◌, ◌≤◌, find, if◌then◌else◌, IfSome, option_copied};
 ghost use Rattle.scm_model.specs.Found.{if_found};
-ghost use Rattle.scm_model.specs.Notices.{event_of_leaving, event_of_state, new_registration, noted};
-ghost use Rattle.scm_model.specs.Notices.{notified, notified_of_move, pid_in, pid_of, put_in, state_mask, with_pid};
+ghost use Rattle.scm_model.specs.Notices.{
+  event_of_leaving,
+  event_of_state,
+  new_registration,
+  noted,
+};
+ghost use Rattle.scm_model.specs.Notices.{
+  notified,
+  notified_of_move,
+  pid_in,
+  pid_of,
+  put_in,
+  state_mask,
+  with_pid,
+};
 ghost use Rattle.scm_rules.specs.Delete.{told_of_mark};
 ghost use Rattle.scm_rules.specs.Launches.{fallen};
 ghost use Rattle.scm_rules.specs.Reports.{process_in_state, notified_of_report};
@@ -100,7 +113,8 @@ pub fn note_start(queue: &mut NotifyQueue, service: Option<&Service>, number: u6
 /// Tells that a service falls.
 pub fn note_fall(queue: &mut NotifyQueue, row: &Service, code: u32)
     requires { HasShort row.now }
-    ensures rows { queue.new.rows ≡ notified_of_move 0 row.now (fallen code row.now) queue.old.rows }
+    ensures rows { queue.new.rows ≡ notified_of_move 0 row.now (fallen code row.now)
+        queue.old.rows }
     ensures spare { queue.new.spare ≡ queue.old.spare }
 {
     note_move(queue, row, take_end(&row.status, code), 0);

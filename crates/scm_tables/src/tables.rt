@@ -1,5 +1,13 @@
 ghost use Rattle.std.specs.Prelude.{◌≡◌, ◌+◌, ◌^◌, ◌<◌, ◌≤◌, ◌==◌, filter, IfOk, OnOk, length};
-ghost use Rattle.std.specs.Prelude.{option_copied, option_map, slice_get, All, IfSome, IsFalse, IsTrue};
+ghost use Rattle.std.specs.Prelude.{
+  option_copied,
+  option_map,
+  slice_get,
+  All,
+  IfSome,
+  IsFalse,
+  IsTrue,
+};
 ghost use Rattle.std.specs.Prelude.{OnErr, []};
 ghost use Rattle.scm_model.specs.Changes.{with_handle, without_handle, without_handles_of};
 ghost use Rattle.scm_model.specs.Changes.{with_caller, without_caller, reconfigured, with_moment};

@@ -13,7 +13,8 @@ use Rattle.scm_book.proofs.book.Book.report.Goals as goal
 
 pub make_by-ended-requires-clause-own : goal.make_by-ended-requires-clause-own
 make_by-ended-requires-clause-own g c =
-    own_report c.self.inside.shared.turn.opening (of_badge c.pass.inside.badge) c.args.process c.args.service c.args.status.now c.new-step.result.step
+    own_report c.self.inside.shared.turn.opening (of_badge c.pass.inside.badge) c.args.process c.args.service c.args.status.now
+    c.new-step.result.step
     (held_inside c.self.inside.shared.turn c.args.self.now (of_badge c.pass.inside.badge) c.args.pass.now c.args.process phases.Launched
     c.self.view_is c.pass.view_is c.requires.process) c.new-step.ensures
 
@@ -23,7 +24,8 @@ report_of-requires g c =
     told_reported c.args.self.now.opening opens c.args.pass.now (of_badge c.make_by-ended.new.badge) c.args.moment c.args.process
     c.args.service c.args.status.now c.requires.process c.make_by-ended.result
     (step_outside c.self.inside.shared.turn c.args.self.now (of_badge c.pass.inside.badge) c.args.pass.now
-    (of_badge c.make_by-ended.new.badge) c.self.view_is c.pass.view_is c.args.moment (Report c.args.process c.args.service c.args.status.now)
+    (of_badge c.make_by-ended.new.badge) c.self.view_is c.pass.view_is c.args.moment
+    (Report c.args.process c.args.service c.args.status.now)
     c.new-step.result.step c.new-step.ensures c.make_by-ended.result c.make_by-ended.ensures.ends)
 
 pub returns-clause-ends : goal.returns-clause-ends
@@ -34,7 +36,8 @@ returns-clause-ends g c =
     (subst (λ (r : Result Answer StepFault). StepEnds c.args.self.now.opening c.args.pass.now c.args.moment
     (Report c.args.process c.args.service c.args.status.now) r (of_badge c.make_by-ended.new.badge)) c.report_of.ensures
     (step_outside c.self.inside.shared.turn c.args.self.now (of_badge c.pass.inside.badge) c.args.pass.now
-    (of_badge c.make_by-ended.new.badge) c.self.view_is c.pass.view_is c.args.moment (Report c.args.process c.args.service c.args.status.now)
+    (of_badge c.make_by-ended.new.badge) c.self.view_is c.pass.view_is c.args.moment
+    (Report c.args.process c.args.service c.args.status.now)
     c.new-step.result.step c.new-step.ensures c.make_by-ended.result c.make_by-ended.ensures.ends))
 
 pub returns-clause-keeps : goal.returns-clause-keeps

@@ -19,7 +19,8 @@ returns-clause-takes g c =
     let back = c.take_back-one.ensures in record {
       at = record {
         by = still_of c.args.book.now c.args.self.now.by c.join.result.spent _ c.requires.stands.by back.takes;
-        of = each_without _ _ _ _ worker c.requires.at c.remove-handle.ensures.value c.remove-handle.ensures.by_index.2 c.requires.stands.of;
+        of = each_without _ _ _ _ worker c.requires.at c.remove-handle.ensures.value c.remove-handle.ensures.by_index.2
+            c.requires.stands.of;
       };
       only = back.only;
       goes = to_short (g.C.Clock.tells c.args.clock.now) c.args.book.now.opening c.args.self.now.by _ _ _ _ _ c.take_back-one.result

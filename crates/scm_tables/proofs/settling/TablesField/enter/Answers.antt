@@ -23,7 +23,16 @@ returns-clause-flat c =
     let found = c.get-row.ensures in
     let told = c.note_start.ensures.rows process ∙ ap (λ (o : Option Service). notified_of_start c.args.service process o
     c.self.inside.registrations.rows) found in
-    rw (← c.self.view_is, c.start_in.ensures, c.next.ensures.number, c.list.ensures, c.of_service.ensures, told, c.is_sharing-shared.ensures, found)
+    rw (
+      ← c.self.view_is,
+      c.start_in.ensures,
+      c.next.ensures.number,
+      c.list.ensures,
+      c.of_service.ensures,
+      told,
+      c.is_sharing-shared.ensures,
+      found,
+    )
     refl
 
 pub invariant_of-self : goal.invariant_of-self
