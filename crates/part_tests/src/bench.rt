@@ -1,12 +1,17 @@
 //! Services in memory as a field.
-ghost use Rattle.std.specs.Prelude.{◌≡◌, ◌==◌, Some, false, find, filter, is_some, map};
+ghost use Rattle.std.specs.Prelude.{ℕ, ◌≡◌, ◌==◌, ◌&&◌, ◌<◌, List, None, Some, false, find, filter};
+ghost use Rattle.std.specs.Prelude.{is_some};
+ghost use Rattle.std.specs.Prelude.{length, map};
+ghost use Rattle.std.specs.Cmp.Lexicographic.{pointwise};
 ghost use Rattle.std.specs.Option.{option_copied};
 ghost use Rattle.std.specs.List.{list_any};
 ghost use Rattle.scm_model.specs.Refused.{zero_status};
-ghost use Rattle.scm_model.specs.Rows.{named};
+ghost use Rattle.scm_model.specs.Processes.{is_launched, is_shared, process_of};
+ghost use Rattle.scm_model.specs.Rows.{named, service_of};
 ghost use Rattle.scm_text.specs.Fold.{same_text};
 ghost use Rattle.start_plan.specs.Asleep.{ArePending};
-ghost use Rattle.start_plan.specs.Entered.{is_shared_by, started_if, HasNumbers};
+ghost use Rattle.start_plan.specs.Entered.{HasNumbers, entered_at, is_shared_by, started_if};
+ghost use Rattle.start_plan.specs.Hosts.{host, host_at, is_sharing};
 ghost use Rattle.start_plan.specs.Moves.{cause_at, entering_at};
 ghost use Rattle.scm_model.specs.Ready.{is_fulfilled, is_ready, is_running, is_up};
 
@@ -95,6 +100,56 @@ fn is_up(service: Option<&Service>) -> bool
     }
 }
 
+/// The process with a number.
+fn process_with(rows: &[Process], number: u64) -> Option<&Process>
+    ensures { option_copied result ≡ find (λ row. row.number == number) rows.now }
+{
+    rows.iter().find(|row| row.number == number)
+}
+
+/// Whether a process is there and shared.
+fn is_shared(process: Option<&Process>) -> bool
+    ensures { result ≡ is_shared (option_copied process.entry) }
+{
+    match process {
+        Some(row) => row.shared,
+        None => false,
+    }
+}
+
+/// Whether a process is there and was launched.
+fn is_launched(process: Option<&Process>) -> bool
+    ensures { result ≡ is_launched (option_copied process.entry) }
+{
+    match process {
+        Some(row) => matches!(row.phase, Phase::Launched),
+        None => false,
+    }
+}
+
+/// Whether a service lives in a process that other services of this path may enter.
+fn offers(processes: &[Process], path: &WText, row: &Service) -> bool
+    ensures { result ≡ (is_sharing row.now && pointwise ◌==◌ row.now.config.path path.now
+        && is_shared (find (λ process. process.number == row.now.process) processes.now)) }
+{
+    row.config.kind == SHARE_PROCESS
+        && row.config.path.units() == path.units()
+        && is_shared(process_with(processes, row.process))
+}
+
+/// The first service that offers its process to those of a path.
+fn first_offering<'a>(
+    services: &'a [Service],
+    processes: &[Process],
+    path: &WText,
+) -> Option<&'a Service>
+    ensures { option_copied result ≡ find (λ row. is_sharing row
+        && pointwise ◌==◌ row.config.path path.now
+        && is_shared (find (λ process. process.number == row.process) processes.now)) services.now }
+{
+    services.iter().find(|row| offers(processes, path, row))
+}
+
 /// Whether a group has a RUNNING member.
 fn has_running(rows: &[Service], group: &WText) -> bool
     ensures { result ≡ list_any is_running (filter (λ row. same_text row.config.group group.now)
@@ -172,6 +227,25 @@ impl Bench {
         let _ = &self.next;
     }
 
+    /// Puts the service at a place into a new process, which is shared and was launched.
+    pub fn launch_shared(&mut self, place: usize) {
+        if place < self.services.len() && self.processes.len() < self.limit as usize {
+            let number = self.next;
+            let row = &mut self.services[place];
+            let service = row.number;
+            row.process = number;
+            self.processes.push_reserved(Process {
+                number,
+                service,
+                shared: true,
+                phase: Phase::Launched,
+                pid: 100,
+                controls: Items::new(self.alloc),
+            });
+            self.next += 1;
+        }
+    }
+
     pub fn set_lock(&mut self, lock: Option<LockRow>)
         ensures { self.new.0.services ≡ self.old.0.services }
     {
@@ -225,6 +299,74 @@ impl Bench {
             .all(|need| self.is_fulfilled(need))
     }
 
+    /// The process of the first service that offers one to this service.
+    fn host_of(&self, row: &Service) -> Option<u64>
+        ensures { result ≡ host_at self.now.0 (Some row.now) }
+    {
+        if row.config.kind != SHARE_PROCESS {
+            return None;
+        }
+        let processes = self.processes.as_slice();
+        match first_offering(self.services.as_slice(), processes, &row.config.path) {
+            Some(other) => Some(other.process),
+            None => None,
+        }
+    }
+
+    fn host(&self, service: u64) -> Option<u64>
+        ensures { result ≡ host self.now.0 service }
+    {
+        match row_with(self.services.as_slice(), service) {
+            Some(row) => self.host_of(row),
+            None => None,
+        }
+    }
+
+    /// The service with a number.
+    fn service(&self, number: u64) -> Option<&Service>
+        ensures { option_copied result ≡ service_of self.now.0 number }
+    {
+        row_with(self.services.as_slice(), number)
+    }
+
+    /// Enters a service whose host this is, and returns whether the host was launched.
+    fn enter_host(&mut self, service: u64, host: u64) -> bool
+        ensures launched { result ≡ is_launched (process_of self.old.0 host) }
+        ensures flat { (words : List (List ℕ)) → self.new.0 ≡ entered_at self.old.0 service words
+            (Some host) }
+        ensures limits { self.new.1 ≡ self.old.1 }
+    {
+        let launched = is_launched(process_with(self.processes.as_slice(), host));
+        start_in(&mut self.services, service, host);
+        launched
+    }
+
+    /// Enters a service by a new process, which is to be launched with these words.
+    fn enter_new(&mut self, service: u64, words: Items<WText>)
+        requires room { length self.old.0.processes < self.old.1.processes }
+        requires numbers { HasNumbers self.old.1 self.old.0 }
+        ensures flat { self.new.0 ≡ entered_at self.old.0 service words None }
+        ensures limits { self.new.1 ≡ self.old.1 }
+    {
+        let number = self.next;
+        let shared = is_sharing(row_with(self.services.as_slice(), service));
+        start_in(&mut self.services, service, number);
+        self.processes.push_reserved(Process {
+            number,
+            service,
+            shared,
+            phase: Phase::Wanted,
+            pid: 0,
+            controls: Items::new(self.alloc),
+        });
+        self.wanted.push_reserved(Wanted {
+            process: number,
+            command: false,
+            words,
+        });
+        self.next += 1;
+    }
+
     fn entering(&self, row: &Service) -> Entering
         ensures { result ≡ entering_at (cause_at self.now.1 self.now.0 false (Some row.now))
             (is_some self.now.0.lock) }
@@ -238,7 +380,7 @@ impl Bench {
         if !self.is_ready(row) || row.status.state != STOPPED {
             return Entering::No(1068);
         }
-        if self.limit as usize <= self.processes.len() {
+        if self.limit as usize <= self.processes.len() && self.host_of(row).is_none() {
             return Entering::No(1054);
         }
         match self.lock {
@@ -261,29 +403,22 @@ impl Field for Bench {
     }
 
     fn may_enter(&self, service: u64) -> Entering {
-        match row_with(self.services.as_slice(), service) {
+        match self.service(service) {
             Some(row) => self.entering(row),
             None => Entering::No(1072),
         }
     }
 
-    fn enter(&mut self, service: u64, words: Items<WText>) {
-        let number = self.next;
-        let shared = is_sharing(row_with(self.services.as_slice(), service));
-        start_in(&mut self.services, service, number);
-        self.processes.push_reserved(Process {
-            number,
-            service,
-            shared,
-            phase: Phase::Wanted,
-            pid: 0,
-            controls: Items::new(self.alloc),
-        });
-        self.wanted.push_reserved(Wanted {
-            process: number,
-            command: false,
-            words,
-        });
-        self.next += 1;
+    fn enter(&mut self, service: u64, words: Items<WText>) -> bool {
+        match self.host(service) {
+            Some(process) => {
+                drop(words);
+                self.enter_host(service, process)
+            }
+            None => {
+                self.enter_new(service, words);
+                false
+            }
+        }
     }
 }

@@ -1,11 +1,11 @@
-ghost use Rattle.std.specs.Prelude.{◌≡◌, []};
+ghost use Rattle.std.specs.Prelude.{◌≡◌, ◌<◌, ◌+◌, [], All, OnOk};
 ghost use Rattle.start_plan.specs.Asleep.{ArePending};
 
 use crate::bench::Bench;
 use crate::values::{Needed, add, config, needs, stopped};
 use Event::{Expired, Failed, Freed, Gone, Launched, Locked, Put, Settled};
 use Fate::{Absent, Decided, Undecided};
-use Setup::{Full, Group, Pair};
+use Setup::{Full, Group, Pair, Shared};
 use scm_model::{Config, LockRow, Need, Plan, Service};
 use scm_text::{Items, OutOfMemory, WText};
 use start_plan::Plans;
@@ -23,6 +23,10 @@ const ON_DEMAND: u32 = 3;
 
 const DISABLED: u32 = 4;
 
+const OWN_PROCESS: u32 = 0x10;
+
+const SHARE_PROCESS: u32 = 0x20;
+
 /// Two stopped services of the group `g`: 1 is `a`, which needs nothing, and 2 is `b`.
 #[derive(Clone, Copy)]
 enum Setup {
@@ -34,6 +38,9 @@ enum Setup {
     Full,
     /// `b` needs the group.
     Group,
+    /// `b` needs nothing. Both share their processes, have the same path, and `a` is in a process
+    /// that was launched.
+    Shared,
 }
 
 /// What befalls the services and the plans.
@@ -62,12 +69,20 @@ enum Fate {
 fn set_texts(config: &mut Config, name: &str) -> Result<(), OutOfMemory> {
     append_ascii(&mut config.name, name)?;
     append_ascii(&mut config.display, name)?;
+    append_ascii(&mut config.path, "p")?;
     append_ascii(&mut config.group, "g")
 }
 
-/// The configuration of a service of its own process, in the group.
-fn named(alloc: Global, name: &str, start: u32, needs: Items<Need>) -> Result<Config, OutOfMemory> {
+/// The configuration of a service of this type, in the group.
+fn named(
+    alloc: Global,
+    name: &str,
+    kind: u32,
+    start: u32,
+    needs: Items<Need>,
+) -> Result<Config, OutOfMemory> {
     let mut config = config(alloc, start, needs);
+    config.kind = kind;
     match set_texts(&mut config, name) {
         Ok(()) => Ok(config),
         Err(why) => {
@@ -78,28 +93,38 @@ fn named(alloc: Global, name: &str, start: u32, needs: Items<Need>) -> Result<Co
 }
 
 /// What `b` needs.
-fn needed(setup: Setup) -> Needed {
+fn needed(setup: Setup) -> &'static [Needed] {
     match setup {
-        Setup::Group => Needed::Group("g"),
-        Setup::Pair | Setup::Disabled | Setup::Full => Needed::Service("a"),
+        Setup::Group => &[Needed::Group("g")],
+        Setup::Pair | Setup::Disabled | Setup::Full => &[Needed::Service("a")],
+        Setup::Shared => &[],
     }
 }
 
 /// How `a` is started.
 fn start(setup: Setup) -> u32 {
     match setup {
-        Setup::Pair | Setup::Full | Setup::Group => ON_DEMAND,
+        Setup::Pair | Setup::Full | Setup::Group | Setup::Shared => ON_DEMAND,
         Setup::Disabled => DISABLED,
     }
 }
 
+/// The type of both.
+fn kind(setup: Setup) -> u32 {
+    match setup {
+        Setup::Pair | Setup::Disabled | Setup::Full | Setup::Group => OWN_PROCESS,
+        Setup::Shared => SHARE_PROCESS,
+    }
+}
+
 fn add_both(alloc: Global, services: &mut Items<Service>, setup: Setup) -> Result<(), OutOfMemory> {
-    let first = named(alloc, "a", start(setup), Items::new(alloc))?;
+    let kind = kind(setup);
+    let first = named(alloc, "a", kind, start(setup), Items::new(alloc))?;
     add(services, stopped(alloc, 1, first))?;
-    let needs = needs(alloc, &[needed(setup)])?;
+    let needs = needs(alloc, needed(setup))?;
     add(
         services,
-        stopped(alloc, 2, named(alloc, "b", ON_DEMAND, needs)?),
+        stopped(alloc, 2, named(alloc, "b", kind, ON_DEMAND, needs)?),
     )
 }
 
@@ -116,7 +141,7 @@ fn services(alloc: Global, setup: Setup) -> Result<Items<Service>, OutOfMemory> 
 
 fn bench(alloc: Global, setup: Setup) -> Result<Bench, OutOfMemory> {
     let limit = match setup {
-        Setup::Pair | Setup::Disabled | Setup::Group => 8,
+        Setup::Pair | Setup::Disabled | Setup::Group | Setup::Shared => 8,
         Setup::Full => 0,
     };
     Bench::new(alloc, services(alloc, setup)?.into_vec(), limit)
@@ -130,10 +155,18 @@ fn words(alloc: Global) -> Result<Items<WText>, OutOfMemory> {
     }
 }
 
-/// Begins plan 7 of a caller, for the last of its entries, with the word `x`.
-fn begin(alloc: Global, plans: &mut Plans, caller: u64, entries: &[u64]) -> Result<(), OutOfMemory>
-    requires { plans.old.plans ≡ [] }
-    ensures { plans.new.awaited ≡ plans.old.awaited }
+#[tactic(auto, using(crate::proofs::Begun::below_next))]
+/// Begins a plan of a caller, for the last of its entries, with the word `x`.
+fn begin(
+    alloc: Global,
+    plans: &mut Plans,
+    number: u64,
+    caller: u64,
+    entries: &[u64],
+) -> Result<(), OutOfMemory>
+    requires { All (λ plan. plan.number < number) plans.old.plans }
+    ensures numbers { OnOk result (All (λ plan. plan.number < number + 1) plans.new.plans) }
+    ensures awaited { plans.new.awaited ≡ plans.old.awaited }
 {
     plans.reserve(1)?;
     let (Ok(words), Ok(listed), Ok(tried)) = (
@@ -144,7 +177,7 @@ fn begin(alloc: Global, plans: &mut Plans, caller: u64, entries: &[u64]) -> Resu
         return Err(OutOfMemory);
     };
     let plan = Plan {
-        number: 7,
+        number,
         caller,
         target: entries.last().copied().unwrap_or(0),
         entries: Items::from_vec(listed),
@@ -186,10 +219,10 @@ fn befall_all(plans: &mut Plans, bench: &mut Bench, events: &[Event])
     }
 }
 
-fn fate_of(plans: &Plans) -> Fate {
-    match plans.decided(7) {
+fn fate_of(plans: &Plans, plan: u64) -> Fate {
+    match plans.decided(plan) {
         Some(code) => Fate::Decided(code),
-        None if plans.undecided(7) => Fate::Undecided,
+        None if plans.undecided(plan) => Fate::Undecided,
         None => Fate::Absent,
     }
 }
@@ -204,11 +237,11 @@ fn is_come_to(alloc: Global, plans: &mut Plans, bench: &mut Bench, row: &Row) ->
     requires awaited { plans.old.awaited ≡ [] }
 {
     let (_, caller, entries, events, fate, states) = row;
-    if begin(alloc, plans, *caller, entries).is_err() {
+    if begin(alloc, plans, 7, *caller, entries).is_err() {
         return false;
     }
     befall_all(plans, bench, events);
-    fate_of(plans) == *fate && bench.states() == *states
+    fate_of(plans, 7) == *fate && bench.states() == *states
 }
 
 /// The same of new services and no other plans.
@@ -389,7 +422,7 @@ fn is_taken_once(alloc: Global, plans: &mut Plans, bench: &mut Bench) -> bool
     requires awaited { plans.old.awaited ≡ [] }
 {
     let events = [Settled, Put(0, RUNNING), Settled];
-    if begin(alloc, plans, 3, BOTH).is_err() {
+    if begin(alloc, plans, 7, 3, BOTH).is_err() {
         return false;
     }
     befall_all(plans, bench, &events);
@@ -414,4 +447,48 @@ fn the_words_go_with_the_target_and_a_plan_is_taken_once(rt: HostRuntime) -> Res
     drop(plans);
     assert!(rt; is_so);
     Ok(())
+}
+
+/// Plan 7 is to start `a` and then `b`, plan 8 `b` and then `a`, and plan 9 `b` alone.
+fn begin_three(alloc: Global, plans: &mut Plans) -> Result<(), OutOfMemory>
+    requires { plans.old.plans ≡ [] }
+    ensures { plans.new.awaited ≡ plans.old.awaited }
+{
+    begin(alloc, plans, 7, 3, BOTH)?;
+    begin(alloc, plans, 8, 3, &[2, 1])?;
+    begin(alloc, plans, 9, 3, &[2])
+}
+
+/// Whether plans 7 and 9 succeed at once: while `a` is starting and plan 7 waits for it, plan 8
+/// enters `b` into the process of `a`.
+fn is_met(alloc: Global, plans: &mut Plans, bench: &mut Bench) -> bool
+    requires plans { plans.old.plans ≡ [] }
+    requires awaited { plans.old.awaited ≡ [] }
+{
+    let events = [Put(0, START_PENDING), Settled];
+    if begin_three(alloc, plans).is_err() {
+        return false;
+    }
+    bench.launch_shared(0);
+    befall_all(plans, bench, &events);
+    let fates = (fate_of(plans, 7), fate_of(plans, 8), fate_of(plans, 9));
+    fates == (Decided(0), Undecided, Decided(0))
+        && bench.states() == [START_PENDING, START_PENDING]
+        && wanted(bench) == [(0, 0), (0, 0)]
+}
+
+#[test]
+fn plans_before_and_after_succeed_as_their_target_enters_a_launched_process(rt: HostRuntime) {
+    let alloc = rt.alloc();
+    let mut plans = Plans::none(alloc);
+    let is_so = match bench(alloc, Shared) {
+        Ok(mut bench) => {
+            let is_so = is_met(alloc, &mut plans, &mut bench);
+            drop(bench);
+            is_so
+        }
+        Err(OutOfMemory) => false,
+    };
+    drop(plans);
+    assert!(rt; is_so);
 }

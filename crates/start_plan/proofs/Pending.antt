@@ -5,12 +5,13 @@ use Rattle.scm_model.specs.declared.flat.Limits.{Limits}
 use Rattle.scm_model.specs.declared.flat.Plan.{Plan}
 use Rattle.scm_model.specs.declared.flat.Service.{Service}
 use Rattle.start_plan.specs.Asleep.{AreAmong, ArePending, IsPending}
-use Rattle.start_plan.specs.Entered.{started_if}
+use Rattle.start_plan.specs.Entered.{process_for, started_if}
+use Rattle.start_plan.specs.Hosts.{host}
 use Rattle.start_plan.specs.Moves.{is_pending}
 use Rattle.start_plan.specs.Resting.{Rests}
-use Rattle.start_plan.specs.Settle.{settle_plan}
+use Rattle.start_plan.specs.Settle.{settle_plan, unmoved}
 use Rattle.start_plan.proofs.Fewer.{pending_rests}
-use Rattle.start_plan.proofs.Keeps.{keeps_all}
+use Rattle.start_plan.proofs.Keeps.{keeps_turn}
 use Rattle.start_plan.proofs.Rests.{plan_still, state_after}
 use Rattle.scm_text.specs.Numbers.{has}
 
@@ -35,13 +36,14 @@ pending_entered n p rows ns all = pending_by rows (map (started_if n p) rows) (o
 
 -- settling a plan
 pub pending_settled : (l : Limits) (f : Flat) (plan : Plan) (ns : List ℕ) → ArePending f.services ns
-    → ArePending (settle_plan l f plan).0.services ns
+    → ArePending (settle_plan l f plan).flat.services ns
 pending_settled l f plan ns all =
-    (keeps_all l (λ g. ArePending g.services ns) (λ p. Unit {0}) (record {
-      enters = λ g p s words entry pending. pending_entered s g.next.process g.services ns pending;
+    keeps_turn l (λ g. ArePending g.services ns) (record {
+      enters = λ g p s words entry pending. pending_entered s (process_for g (host g s)) g.services ns pending;
       tries = λ g p s entry q. tt;
       drops = λ p s rest code q. tt;
-    }) f (plan ∷ []) all (tt, tt)).flat
+      meets = λ p services q. tt;
+    }) f plan all
 
 among_one : (rows : List Service) (others : List ℕ) (n : ℕ) → ArePending rows others → has others n ≡ true → IsPending rows n
 among_one rows [] n all there = absurd cc
@@ -64,5 +66,5 @@ rests_for l f plan [] e all = inr (rw e tt)
 rests_for l f plan (front ∷ rest) e all = pending_rests l f plan front rest e all.0
 
 -- a plan whose front entry is so is left as it is
-pub still : (l : Limits) (f : Flat) (plan : Plan) → ArePending f.services (take 1 plan.entries) → settle_plan l f plan ≡ (f, plan)
+pub still : (l : Limits) (f : Flat) (plan : Plan) → ArePending f.services (take 1 plan.entries) → settle_plan l f plan ≡ unmoved f plan
 still l f plan all = plan_still l f plan (rests_for l f plan plan.entries refl all)

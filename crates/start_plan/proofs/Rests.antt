@@ -1,25 +1,27 @@
 -- What was settled is settled: settling again changes nothing.
-use Rattle.std.proofs.Common.{ℕ, ◌≡◌, ◌⊎◌, ◌∙◌, ◌==◌, ◌&&◌, Bool, true, false, cond, List, [], ◌∷◌, ◌++◌, Some, refl, ap, find, map, filter}
-use Rattle.std.proofs.Common.{inl, inr, arith}
-use Rattle.std.specs.Prelude.{is_some}
+use Rattle.std.proofs.Common.{ℕ, ◌≡◌, ◌⊎◌, ◌∙◌, ◌==◌, ◌&&◌, Bool, true, false, cond, List, [], ◌∷◌, ◌++◌, Option, None, Some, refl, ap}
+use Rattle.std.proofs.Common.{find}
+use Rattle.std.proofs.Common.{map, filter, inl, inr, arith}
+use Rattle.std.specs.Prelude.{is_none, is_some}
 use Rattle.std.specs.List.{AllByRecursion}
+use Rattle.std.specs.Option.{option_to_list}
 use Rattle.std.proofs.lemmas.Bool.{eq-eqb}
 use Rattle.scm_model.specs.declared.flat.Flat.{Flat}
 use Rattle.scm_model.specs.declared.flat.Limits.{Limits}
 use Rattle.scm_model.specs.declared.flat.Plan.{Plan}
 use Rattle.scm_model.specs.declared.flat.Due.{Due}
 use Rattle.scm_model.specs.declared.flat.Service.{Service}
-use Rattle.start_plan.specs.Entered.{starting_in, started_if, with_entered}
+use Rattle.start_plan.specs.Entered.{process_for, started_if, starting_in, with_entered}
+use Rattle.start_plan.specs.Hosts.{host}
 use Rattle.start_plan.specs.Moves.{cause_of, entering_at, is_pending, move_by, move_of}
 use Rattle.scm_model.specs.Ready.{state_in, state_of}
 use Rattle.start_plan.specs.Resting.{Rests, RestsAt}
-use Rattle.start_plan.specs.Settle.{moved, dropped, words_for, move_code, settle_entries, settle_plan, settle_all, settled, tidied, stays}
-use Rattle.start_plan.specs.Settle.{is_due_still}
+use Rattle.start_plan.specs.Settle.{Turns, all_succeeded, dropped, is_due_still, move_code, moved, settle_all, settle_entries, settle_from}
+use Rattle.start_plan.specs.Settle.{settle_plan, settled, stays, succeeded, tidied, unmoved, words_for}
 use Rattle.start_plan.specs.declared.field.Entering.{Entering}
 use Rattle.start_plan.specs.declared.field.Entering.TheVariants as entering
 use Rattle.start_plan.specs.declared.settling.Move.TheVariants as moves
-use Rattle.start_plan.proofs.Keeps.{Keeps, IsEntry, all_filter, is_entry, keeps_all, was_stopped}
-use Rattle.start_plan.proofs.Enterings.{all_units}
+use Rattle.start_plan.proofs.Keeps.{Keeps, IsEntry, all_filter, all_succeed, is_entry, keeps_state, was_stopped}
 use Rattle.start_plan.proofs.Rows.{same_number, started_or}
 use Rattle.scm_text.specs.Numbers.{has}
 
@@ -76,7 +78,7 @@ waits_kept l f n words tried tried' x entry waits =
           let no = entry.free in
           absurd cc
       | inl pending ↦
-          elim (state_after n f.next.process x f.services) as (λ _. move_of l (with_entered f n words) tried x ≡ moves.Waits) [
+          elim (state_after n (process_for f (host f n)) x f.services) as (λ _. move_of l (with_entered f n words) tried x ≡ moves.Waits) [
             | inl stopped ↦ let yes : is_pending 1 ≡ true = rw stopped at pending.1 in absurd cc
             | inr same ↦ rw (same, pending.0, pending.1) refl
           ]
@@ -96,27 +98,28 @@ rests_kept l plan = record {
   ];
   tries = λ f plan n entry q. tt;
   drops = λ plan n rest code q. tt;
+  meets = λ plan services q. tt;
 }
 
 -- ## A plan that was settled rests
 
 now_waits : (l : Limits) (f : Flat) (n : ℕ) (words : List (List ℕ)) (tried : List ℕ) → state_of f n ≡ 1
     → move_of l (with_entered f n words) tried n ≡ moves.Waits
-now_waits l f n words tried stopped = rw (entered_state n f.next.process f.services stopped) refl
+now_waits l f n words tried stopped = rw (entered_state n (process_for f (host f n)) f.services stopped) refl
 
 entries_rest : (l : Limits) (f : Flat) (plan : Plan) (entries : List ℕ) → plan.entries ≡ entries
-    → Rests l (settle_entries l f plan entries).0 (settle_entries l f plan entries).1
+    → Rests l (settle_entries l f plan entries).flat (settle_entries l f plan entries).plan
 entries_rest l f plan [] e = inr (rw e tt)
 entries_rest l f plan (s ∷ rest) e =
-    elim (is_some plan.code) as (λ b. is_some plan.code ≡ b → Rests l (cond b (f, plan)
+    elim (is_some plan.code) as (λ b. is_some plan.code ≡ b → Rests l (cond b (unmoved f plan)
     (moved f plan s (settle_entries l f (dropped plan s rest (move_code (move_of l f plan.tried s))) rest)
-    (move_of l f plan.tried s))).0
-    (cond b (f, plan) (moved f plan s (settle_entries l f (dropped plan s rest (move_code (move_of l f plan.tried s))) rest)
-    (move_of l f plan.tried s))).1) [
+    (move_of l f plan.tried s))).flat
+    (cond b (unmoved f plan) (moved f plan s (settle_entries l f (dropped plan s rest (move_code (move_of l f plan.tried s))) rest)
+    (move_of l f plan.tried s))).plan) [
       | true ↦ λ decided. inl decided
       | false ↦ λ undecided. elim (move_of l f plan.tried s) as (λ m. move_of l f plan.tried s ≡ m
-          → Rests l (moved f plan s (settle_entries l f (dropped plan s rest (move_code m)) rest) m).0
-          (moved f plan s (settle_entries l f (dropped plan s rest (move_code m)) rest) m).1) [
+          → Rests l (moved f plan s (settle_entries l f (dropped plan s rest (move_code m)) rest) m).flat
+          (moved f plan s (settle_entries l f (dropped plan s rest (move_code m)) rest) m).plan) [
             | moves.Passes ↦ λ h. entries_rest l f (dropped plan s rest 0) rest refl
             | moves.Waits ↦ λ h. inr (rw e h)
             | moves.Enters ↦ λ h. inr (rw e (now_waits l f s (words_for plan s) (plan.tried ++ s ∷ [])
@@ -125,37 +128,65 @@ entries_rest l f plan (s ∷ rest) e =
           ] refl
     ] refl
 
-plan_rests : (l : Limits) (f : Flat) (plan : Plan) → Rests l (settle_plan l f plan).0 (settle_plan l f plan).1
+plan_rests : (l : Limits) (f : Flat) (plan : Plan) → Rests l (settle_plan l f plan).flat (settle_plan l f plan).plan
 plan_rests l f plan = entries_rest l f plan plan.entries refl
 
-all_rest : (l : Limits) (f : Flat) (plans : List Plan) → AllByRecursion (Rests l (settle_all l f plans).0) (settle_all l f plans).1
-all_rest l f [] = tt
-all_rest l f (plan ∷ plans) =
-    let first = settle_plan l f plan in (
-      (keeps_all l (λ g. Rests l g first.1) (λ plan. Unit {0}) (rests_kept l first.1) first.0 plans (plan_rests l f plan)
-          (all_units plans)).flat,
-      all_rest l first.0 plans,
+from_rest : (l : Limits) (f : Flat) (hosted : List ℕ) (plans : List Plan)
+    → AllByRecursion (Rests l (settle_from l f hosted plans).flat) (settle_from l f hosted plans).plans
+from_rest l f hosted [] = tt
+from_rest l f hosted (plan ∷ plans) =
+    let turn = settle_plan l f (succeeded hosted plan) in
+    let after = hosted ++ option_to_list turn.hosted in (
+      keeps_state l (λ g. Rests l g turn.plan) (rests_kept l turn.plan) turn.flat after plans (plan_rests l f (succeeded hosted plan)),
+      from_rest l turn.flat after plans,
     )
+
+pub still_decided : (b : Bool) (code : Option ℕ) → is_some code ≡ true → is_some (cond (b && is_none code) (Some 0) code) ≡ true
+still_decided b None e = absurd cc
+still_decided true (Some c) e = refl
+still_decided false (Some c) e = refl
+
+-- a decision leaves a plan at rest
+pub rests_succeeded : (l : Limits) (f : Flat) (services : List ℕ) (plan : Plan) → Rests l f plan → Rests l f (succeeded services plan)
+rests_succeeded l f services plan (inr waits) = inr waits
+rests_succeeded l f services plan (inl decided) = inl (still_decided (has services plan.target) plan.code decided)
+
+all_rest : (l : Limits) (f : Flat) (plans : List Plan) → AllByRecursion (Rests l (settle_all l f plans).flat) (settle_all l f plans).plans
+all_rest l f plans =
+    let end = settle_from l f [] plans in
+    all_succeed (Rests l end.flat) (λ plan services. rests_succeeded l end.flat services plan) end.hosted end.plans (from_rest l f [] plans)
 
 -- ## What rests is settled
 
 pub entries_still : (l : Limits) (f : Flat) (plan : Plan) (entries : List ℕ) → (is_some plan.code ≡ true) ⊎ RestsAt l f plan entries
-    → settle_entries l f plan entries ≡ (f, plan)
+    → settle_entries l f plan entries ≡ unmoved f plan
 entries_still l f plan [] rests = refl
 entries_still l f plan (x ∷ xs) (inl decided) = rw decided refl
 entries_still l f plan (x ∷ xs) (inr waits) =
-    elim (is_some plan.code) as (λ b. cond b (f, plan) (moved f plan x (settle_entries l f
-    (dropped plan x xs (move_code (move_of l f plan.tried x))) xs) (move_of l f plan.tried x)) ≡ (f, plan)) [
+    elim (is_some plan.code) as (λ b. cond b (unmoved f plan) (moved f plan x (settle_entries l f
+    (dropped plan x xs (move_code (move_of l f plan.tried x))) xs) (move_of l f plan.tried x)) ≡ unmoved f plan) [
       | true ↦ refl
       | false ↦ rw waits refl
     ]
 
-pub plan_still : (l : Limits) (f : Flat) (plan : Plan) → Rests l f plan → settle_plan l f plan ≡ (f, plan)
+pub plan_still : (l : Limits) (f : Flat) (plan : Plan) → Rests l f plan → settle_plan l f plan ≡ unmoved f plan
 plan_still l f plan rests = entries_still l f plan plan.entries rests
 
-pub all_still : (l : Limits) (f : Flat) (plans : List Plan) → AllByRecursion (Rests l f) plans → settle_all l f plans ≡ (f, plans)
-all_still l f [] rests = refl
-all_still l f (plan ∷ plans) rests = rw (plan_still l f plan rests.0, all_still l f plans rests.1) refl
+-- plans at rest, that don't aim at what was hosted before
+pub from_still : (l : Limits) (f : Flat) (plans : List Plan) → AllByRecursion (Rests l f) plans
+    → settle_from l f [] plans ≡ record { flat = f; plans = plans; hosted = [] }
+from_still l f [] rests = refl
+from_still l f (plan ∷ plans) rests = rw (plan_still l f plan rests.0, from_still l f plans rests.1) refl
+
+pub none_succeeded : (plans : List Plan) → map (succeeded []) plans ≡ plans
+none_succeeded [] = refl
+none_succeeded (plan ∷ plans) = ap (λ others. plan ∷ others) (none_succeeded plans)
+
+pub all_still : (l : Limits) (f : Flat) (plans : List Plan) → AllByRecursion (Rests l f) plans
+    → settle_all l f plans ≡ record { flat = f; plans = plans; hosted = [] }
+all_still l f plans rests =
+    ap all_succeeded (from_still l f plans rests)
+    ∙ ap (λ (others : List Plan). record { flat = f; plans = others; hosted = [] }) (none_succeeded plans)
 
 filter_twice : {A : Type 0} (p : A → Bool) (xs : List A) → filter p (filter p xs) ≡ filter p xs
 filter_twice p [] = refl
@@ -187,11 +218,15 @@ tidied_twice f plans =
     ap (λ kept. record g { plans = kept; dues = filter (λ (due : Due). is_due_still kept due.kind) g.dues }) (filter_twice stays plans)
     ∙ ap (λ dues. record g { dues = dues }) (filter_twice (λ (due : Due). is_due_still (filter stays plans) due.kind) f.dues)
 
+-- the plans of a settled state rest
+pub settled_rest : (l : Limits) (f : Flat) → AllByRecursion (Rests l (settled l f)) (settled l f).plans
+settled_rest l f =
+    let end = settle_all l f f.plans in
+    rests_tidied l end.flat end.plans (filter stays end.plans) (all_filter (Rests l end.flat) stays end.plans (all_rest l f f.plans))
+
 -- settling again changes nothing
 pub settled_twice : (l : Limits) (f : Flat) → settled l (settled l f) ≡ settled l f
 settled_twice l f =
-    let ends = settle_all l f f.plans in
-    let kept = filter stays ends.1 in
-    let g = tidied ends.0 ends.1 in
-    let rests = rests_tidied l ends.0 ends.1 kept (all_filter (Rests l ends.0) stays ends.1 (all_rest l f f.plans)) in
-    ap (λ (r : Flat × List Plan). tidied r.0 r.1) (all_still l g kept rests) ∙ tidied_twice ends.0 ends.1
+    let end = settle_all l f f.plans in
+    ap (λ (end : Turns). tidied end.flat end.plans) (all_still l (settled l f) (settled l f).plans (settled_rest l f))
+    ∙ tidied_twice end.flat end.plans

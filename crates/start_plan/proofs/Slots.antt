@@ -1,15 +1,15 @@
 -- Plans with whether they sleep.
 use Rattle.std.proofs.Common.{ℕ, ◌≡◌, ◌∙◌, ◌==◌, ◌||◌, ◌&&◌, ◌<◌, ◌+◌, Bool, true, false, cond, suc, zero, not, List, [], ◌∷◌, ◌++◌, refl}
 use Rattle.std.proofs.Common.{sym, ap, subst, eqb, filter, length, map, get_or, set, take, drop, arith}
-use Rattle.std.specs.Prelude.{IsTrue, position}
+use Rattle.std.specs.Prelude.{IsTrue, Some, is_none, position}
 use Rattle.std.specs.List.{AllByRecursion, position_or_len}
 use Rattle.std.proofs.lemmas.Bool.{eq-eqb}
 use Rattle.std.proofs.lemmas.List.{length-map}
 use Rattle.std.proofs.lemmas.List.Elements.{filter-append}
 use Rattle.scm_model.specs.declared.flat.Plan.{Plan}
 use Rattle.start_plan.specs.Asleep.{all_but, AreAmong, awaited_by, awaited_in, runnable, decided_slot, is_front, plans_in, woken}
-use Rattle.start_plan.specs.Decided.{decided_if, is_numbered}
-use Rattle.start_plan.specs.Settle.{stays}
+use Rattle.start_plan.specs.Decided.{aims_at, decided_if, is_numbered}
+use Rattle.start_plan.specs.Settle.{stays, succeeded}
 use Rattle.start_plan.specs.declared.slot.PlanSlot.{PlanSlot}
 use Rattle.scm_text.specs.Numbers.{has}
 
@@ -29,6 +29,18 @@ pub plans_decided : (test : Plan → Bool) (code : ℕ) (slots : List PlanSlot)
     → plans_in (map (decided_slot test code) slots) ≡ map (decided_if test code) (plans_in slots)
 plans_decided test code [] = refl
 plans_decided test code (slot ∷ slots) = ap (λ (plans : List Plan). decided_if test code slot.row ∷ plans) (plans_decided test code slots)
+
+-- those that aim at one service
+pub plans_succeeded : (service : ℕ) (slots : List PlanSlot)
+    → plans_in (map (decided_slot (aims_at service) 0) slots) ≡ map (succeeded (service ∷ [])) (plans_in slots)
+plans_succeeded service [] = refl
+plans_succeeded service (slot ∷ slots) =
+    let rest = map (succeeded (service ∷ [])) (plans_in slots) in
+    let one : decided_if (aims_at service) 0 slot.row ≡ succeeded (service ∷ []) slot.row =
+    elim (slot.row.target == service) as (λ b. record slot.row { code = cond (b && is_none slot.row.code) (Some 0) slot.row.code }
+    ≡ record slot.row { code = cond ((b || false) && is_none slot.row.code) (Some 0) slot.row.code }) [ true ↦ refl | false ↦ refl ] in
+    ap (λ (plans : List Plan). decided_if (aims_at service) 0 slot.row ∷ plans) (plans_succeeded service slots)
+    ∙ ap (λ (plan : Plan). plan ∷ rest) one
 
 pub plans_woken : (service : ℕ) (slots : List PlanSlot) → plans_in (map (woken service) slots) ≡ plans_in slots
 plans_woken service [] = refl

@@ -1,11 +1,16 @@
 -- Plans that sleep: each is left alone until the state of its front entry changes.
-use Rattle.std.specs.Prelude.{ℕ, Bool, false, not, ◌&&◌, ◌==◌, ◌++◌, IsTrue, List, [], ◌∷◌, if◌then◌else◌, filter, find, map, take}
+use Rattle.std.specs.Prelude.{ℕ, Bool, false, not, ◌&&◌, ◌≡◌, ◌==◌, ◌++◌, IsTrue, List, [], ◌∷◌, if◌then◌else◌, filter, find, map}
+use Rattle.std.specs.Prelude.{set, take}
 use Rattle.std.specs.List.{AllByRecursion}
+use Rattle.std.specs.Option.{option_to_list}
+use Rattle.scm_model.specs.declared.flat.Flat.{Flat}
+use Rattle.scm_model.specs.declared.flat.Limits.{Limits}
 use Rattle.scm_model.specs.declared.flat.Plan.{Plan}
 use Rattle.scm_model.specs.declared.flat.Service.{Service}
 use Rattle.scm_model.specs.Ready.{state_in}
 use Rattle.start_plan.specs.Decided.{decided_if}
 use Rattle.start_plan.specs.Moves.{is_pending}
+use Rattle.start_plan.specs.Settle.{Turn, settle_plan, succeeded}
 use Rattle.start_plan.specs.declared.slot.PlanSlot.{PlanSlot}
 use Rattle.scm_text.specs.Numbers.{has}
 
@@ -50,3 +55,14 @@ runnable slot = record slot { is_blocked = false }
 
 abbrev pub decided_slot : (Plan → Bool) → ℕ → PlanSlot → PlanSlot
 decided_slot test code slot = record slot { row = decided_if test code slot.row }
+
+-- ## Turns
+
+-- the plans after the turn of the one at a place: those succeed that aim at the service that it entered into a launched host
+abbrev pub after_turn : Turn → ℕ → List Plan → List Plan
+after_turn turn place plans = map (succeeded (option_to_list turn.hosted)) (set plans place turn.plan)
+
+-- a plan had its turn
+pub record TakesTurn (l : Limits) (before after : Flat) (place : ℕ) (old new : List Plan) (plan : Plan) : Type 0 where
+  pub flat : after ≡ (settle_plan l before plan).flat
+  pub plans : new ≡ after_turn (settle_plan l before plan) place old

@@ -1,5 +1,6 @@
-ghost use Rattle.std.specs.Prelude.{◌≡◌, IsFalse};
-ghost use Rattle.start_plan.specs.Asleep.{woken};
+ghost use Rattle.std.specs.Prelude.{◌≡◌, ◌-◌, IsFalse, map, vec_capacity, vec_len};
+ghost use Rattle.start_plan.specs.Asleep.{decided_slot, woken};
+ghost use Rattle.start_plan.specs.Decided.{aims_at};
 
 use super::row::PlanRow;
 
@@ -18,5 +19,16 @@ impl PlanSlot {
         if self.is_blocked && self.row.front() == Some(service) {
             self.is_blocked = false;
         }
+    }
+}
+
+/// Decides the undecided plans with a target.
+pub fn decide_in(slots: &mut Vec<PlanSlot>, target: u64, code: u32)
+    ensures slots { slots.new.items ≡ map (decided_slot (aims_at target) code) slots.old.items }
+    ensures room { vec_capacity slots.new - vec_len slots.new ≡ vec_capacity slots.old - vec_len
+        slots.old }
+{
+    for slot in slots.iter_mut() {
+        slot.row.decide_for(target, code);
     }
 }
