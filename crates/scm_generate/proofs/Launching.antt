@@ -194,9 +194,10 @@ module _ (l : Limits) (n : ℕ) (look : ℕ → Live) (plan target s : ℕ) (res
       (parts_by p (row_at s (look s)) (ne_eqb p 0 (λ e. omega (arith, e, low))) own)
       (λ k first_one le other. not_by_it p k (look k) (not_its k (climbing.others k other)))
 
-  or_none : (b : Bool) → (b || false) ≡ b
-  or_none true = refl
-  or_none false = refl
+  -- the test alone decides an undecided plan
+  test_alone : (b : Bool) → ((b || false) && true) ≡ b
+  test_alone true = refl
+  test_alone false = refl
 
   launches : (b : Bool) → (target == s) ≡ b → launched taking p p ≡ launched_with b
   launches b is =
@@ -211,7 +212,7 @@ module _ (l : Limits) (n : ℕ) (look : ℕ → Live) (plan target s : ℕ) (res
             (plan_with plan target (s ∷ rest) tried None ∷ []);
       })
       launched_last
-      ∙ ap launched_with (or_none (target == s) ∙ is)
+      ∙ ap launched_with (test_alone (target == s) ∙ is)
 
   may_launch : may l taking 0 (Launched p p) ≡ true
   may_launch = ap (λ o. is_taken o && true) found

@@ -3,6 +3,7 @@ use Rattle.std.proofs.Common.{ℕ, ◌≡◌, ◌∙◌, ◌+◌, ◌/◌, ◌<�
 use Rattle.std.proofs.Common.{Option, None, Some, find, length, map, ap, sym, refl, subst, arith, eq-eqb, eqb-true}
 use Rattle.std.specs.Prelude.{is_some}
 use Rattle.std.specs.List.{list_all}
+use Rattle.std.specs.Option.{option_to_list}
 use Rattle.std.proofs.lemmas.Bool.{lt-leb, and_right, eqb-false}
 use Rattle.scm_text.specs.Fold.{same_text}
 use Rattle.scm_text.specs.Numbers.{has}
@@ -19,10 +20,12 @@ use Rattle.scm_model.specs.Ready.{is_ready, is_fulfilled, is_up, state_in, state
 use Rattle.scm_model.specs.Refused.{first_refusal}
 use Rattle.scm_model.specs.Rows.{service_of}
 use Rattle.start_plan.specs.declared.settling.Move.TheVariants as moves
-use Rattle.start_plan.specs.Entered.{is_shared_by, notified_of_start, started_if, starting_in, wanted_process, wanted_row, with_entered}
+use Rattle.start_plan.specs.Entered.{entered_at, is_shared_by, notified_of_start, started_if, starting_in, wanted_process, wanted_row}
+use Rattle.start_plan.specs.Entered.{with_entered}
+use Rattle.start_plan.specs.Hosts.{host, host_at, is_launched_at}
 use Rattle.start_plan.specs.Moves.{cause_at, cause_of, entering_at, is_full, is_pending, move_by, move_of}
-use Rattle.start_plan.specs.Settle.{dropped, move_code, moved, settle_all, settle_entries, settle_plan, settled, tidied, with_tried}
-use Rattle.start_plan.specs.Settle.{words_for}
+use Rattle.start_plan.specs.Settle.{Turn, dropped, hosted_at, move_code, moved, settle_all, settle_entries, settle_plan, settled, tidied}
+use Rattle.start_plan.specs.Settle.{succeeded, unmoved, with_tried, words_for}
 use Rattle.scm_generate.specs.Listed.{nth_name, told}
 use Rattle.scm_generate.proofs.Built.{Each, find_built, map_built}
 use Rattle.scm_generate.proofs.Graph.{half_within, positive}
@@ -92,11 +95,11 @@ pub record IsAtRest (live : Live) : Type 0 where
 
 -- ## What settles
 
-settles_one : (l : Limits) (f : Flat) (plan : Plan) (to : Flat × Plan) → f.plans ≡ plan ∷ [] → settle_plan l f plan ≡ to
-    → settled l f ≡ tidied to.0 (to.1 ∷ [])
-settles_one l f plan to is e =
-    ap (λ plans. tidied (settle_all l f plans).0 (settle_all l f plans).1) is
-    ∙ ap (λ (r : Flat × Plan). tidied r.0 (r.1 ∷ [])) e
+settles_one : (l : Limits) (f : Flat) (plan : Plan) (to : Flat) (left : Plan) → f.plans ≡ plan ∷ []
+    → settle_plan l f plan ≡ unmoved to left → settled l f ≡ tidied to (left ∷ [])
+settles_one l f plan to left is e =
+    ap (λ plans. tidied (settle_all l f plans).flat (settle_all l f plans).plans) is
+    ∙ ap (λ (r : Turn). tidied r.flat (succeeded (option_to_list r.hosted) r.plan ∷ [])) e
 
 tidy : (n : ℕ) (look : ℕ → Live) (processes : List Process) (wanted : List Wanted) (plans : List Plan) (plan target : ℕ)
     (entries tried : List ℕ) (process due : ℕ)
@@ -120,8 +123,9 @@ waits l n look processes wanted plan target s rest tried process due some lt sta
     let move : move_of l f tried s ≡ moves.Waits =
     ap (λ v. cond (v == 4) moves.Passes (cond (is_pending v) moves.Waits
     (move_by (entering_at (cause_of l f (has tried s) s) (is_some f.lock))))) stands in
-    let settles : settle_plan l f p ≡ (f, p) = ap (λ m. moved f p s (settle_entries l f (dropped p s rest (move_code m)) rest) m) move in
-    settles_one l f p (f, p) refl settles ∙ tidy n look processes wanted (p ∷ []) plan target (s ∷ rest) tried process due
+    let settles : settle_plan l f p ≡ unmoved f p =
+    ap (λ m. moved f p s (settle_entries l f (dropped p s rest (move_code m)) rest) m) move in
+    settles_one l f p f p refl settles ∙ tidy n look processes wanted (p ∷ []) plan target (s ∷ rest) tried process due
 
 -- a plan that is decided loses its deadline
 pub decides : (l : Limits) (n : ℕ) (look : ℕ → Live) (processes : List Process) (plan target s : ℕ) (rest tried : List ℕ) (process due : ℕ)
@@ -165,15 +169,19 @@ module _ (l : Limits) (n : ℕ) (look : ℕ → Live) (processes : List Process)
             ap (λ o. is_up o && true) there ∙ ap (λ v. (v == 4) && true) (up e)
       ] refl
 
+  -- it is of a type that has a process of its own
+  alone : host before t ≡ None
+  alone = ap (host_at before) (found_service look n t some lt)
+
   cause : cause_of l before (has tried t) t ≡ 0
   cause =
       ap (cause_at l before (has tried t)) (found_service look n t some lt)
       ∙ ap (λ b. first_refusal ((false, 1072) ∷ (false, 1058) ∷ (not b || not ((look t).status.state == 1) || has tried t, 1068) ∷
-      (is_full l before, 1054) ∷ [])) ready
-      ∙ ap (λ v. first_refusal ((false, 1072) ∷ (false, 1058) ∷ (not (v == 1) || has tried t, 1068) ∷ (is_full l before, 1054) ∷ []))
-      still.state
-      ∙ ap (λ b. first_refusal ((false, 1072) ∷ (false, 1058) ∷ (b, 1068) ∷ (is_full l before, 1054) ∷ [])) untried
-      ∙ ap (λ b. first_refusal ((false, 1072) ∷ (false, 1058) ∷ (false, 1068) ∷ (b, 1054) ∷ []))
+      (is_full l before && true, 1054) ∷ [])) ready
+      ∙ ap (λ v. first_refusal ((false, 1072) ∷ (false, 1058) ∷ (not (v == 1) || has tried t, 1068) ∷ (is_full l before && true, 1054)
+      ∷ [])) still.state
+      ∙ ap (λ b. first_refusal ((false, 1072) ∷ (false, 1058) ∷ (b, 1068) ∷ (is_full l before && true, 1054) ∷ [])) untried
+      ∙ ap (λ b. first_refusal ((false, 1072) ∷ (false, 1058) ∷ (false, 1068) ∷ (b && true, 1054) ∷ []))
       (lt-leb l.processes (length processes) space)
 
   move : move_of l before tried t ≡ moves.Enters
@@ -214,9 +222,10 @@ module _ (l : Limits) (n : ℕ) (look : ℕ → Live) (processes : List Process)
 
   entered : with_entered before t (words_for at_front t) ≡ after
   entered =
-      ap (λ shared. record after {
+      ap (entered_at before t (words_for at_front t)) alone
+      ∙ ap (λ shared. record after {
         services = map (started_if t process) (rows look n);
-        registrations = notified_of_start t process (service_of before t) [];
+        registrations = notified_of_start t process 0 (service_of before t) [];
         processes = processes ++ wanted_process process t shared ∷ [];
         wanted = wanted_row process (cond (target == t) [] []) ∷ [];
       }) (ap is_shared_by (found_service look n t some lt))
@@ -224,7 +233,7 @@ module _ (l : Limits) (n : ℕ) (look : ℕ → Live) (processes : List Process)
         services = map (started_if t process) (rows look n);
         registrations = heard;
         wanted = wanted_row process (cond (target == t) [] []) ∷ [];
-      }) (start_untold t process (service_of before t))
+      }) (start_untold t process 0 (service_of before t))
       ∙ ap (λ all. record after { services = all; wanted = wanted_row process (cond (target == t) [] []) ∷ [] })
       (map_built (started_if t process) [] (λ k. row_at k (look k)) [] (λ k. row_at k (at_one look t (pending process) k)) n refl
       starts_row)
@@ -233,11 +242,12 @@ module _ (l : Limits) (n : ℕ) (look : ℕ → Live) (processes : List Process)
   abbrev now_tried : Plan
   now_tried = plan_with plan target (t ∷ rest) (tried ++ t ∷ []) None
 
-  pub enters : settle_entries l before at_front (t ∷ rest) ≡ (after, now_tried)
+  pub enters : settle_entries l before at_front (t ∷ rest) ≡ unmoved after now_tried
   enters =
       ap (λ m. moved before at_front t (settle_entries l before (dropped at_front t rest (move_code m)) rest) m) move
-      ∙ ap (λ (f : Flat). (f, with_tried at_front t)) entered
-      ∙ ap (λ words. (after, record now_tried { words = words })) (no_words (target == t))
+      ∙ ap (λ (f : Flat). record { flat = f; plan = with_tried at_front t; hosted = hosted_at before t }) entered
+      ∙ ap (λ o. record { flat = after; plan = with_tried at_front t; hosted = cond (is_launched_at before o) (Some t) None }) alone
+      ∙ ap (λ words. unmoved after (record now_tried { words = words })) (no_words (target == t))
 
 -- the first service of a start is entered
 pub enters_first : (l : Limits) (n : ℕ) (look : ℕ → Live) (processes : List Process) (plan target t : ℕ) (rest tried : List ℕ)
@@ -250,7 +260,7 @@ pub enters_first : (l : Limits) (n : ℕ) (look : ℕ → Live) (processes : Lis
 enters_first l n look processes plan target t rest tried process due small some lt still up untried space =
     let held = plan_with plan target (t ∷ rest) tried None ∷ [] in
     settles_one l (under_way n look processes [] plan target (t ∷ rest) tried process due)
-    (plan_with plan target (t ∷ rest) tried None) _ refl
+    (plan_with plan target (t ∷ rest) tried None) _ _ refl
     (enters l n look processes held plan target t rest tried process due small some lt still up untried space)
     ∙ tidy n (at_one look t (pending process)) (processes ++ wanted_process process t false ∷ [])
     (wanted_row process [] ∷ []) held plan target
@@ -276,7 +286,7 @@ enters_next l n look processes plan target s t rest tried process due small some
     ap (λ m. moved f p s (settle_entries l f (dropped p s (t ∷ rest) (move_code m)) (t ∷ rest)) m) move in
     let drops : dropped p s (t ∷ rest) 0 ≡ plan_with plan target (t ∷ rest) tried None =
     ap (λ b. record p { entries = t ∷ rest; code = cond b (Some 0) None }) passed in
-    settles_one l f p _ refl
+    settles_one l f p _ _ refl
     (passes ∙ ap (λ (q : Plan). settle_entries l f q (t ∷ rest)) drops
     ∙ enters l n look processes (p ∷ []) plan target t rest tried process due small first within still up untried space)
     ∙ tidy n (at_one look t (pending process)) (processes ++ wanted_process process t false ∷ []) (wanted_row process [] ∷ [])

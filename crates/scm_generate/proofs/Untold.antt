@@ -27,9 +27,9 @@ move_untold pid old new =
       | false ↦ refl
     ]
 
-pub start_untold : (number process : ℕ) (found : Option Service) → notified_of_start number process found [] ≡ []
-start_untold number process None = refl
-start_untold number process (Some row) = move_untold 0 row (started_if number process row)
+pub start_untold : (number process pid : ℕ) (found : Option Service) → notified_of_start number process pid found [] ≡ []
+start_untold number process pid None = refl
+start_untold number process pid (Some row) = move_untold pid row (started_if number process row)
 
 fall_untold : (code : ℕ) (falling : List Service) → notified_of_falls code falling [] ≡ []
 fall_untold code [] = refl

@@ -69,7 +69,7 @@ waits_there g number caller target (Some code) there = tt
 settled_there : (l : Limits) (g : Flat) (number caller target : ℕ) → (caller == 0) ≡ false → IsThere number caller target g.plans
     → IsThere number caller target (settled l g).plans
 settled_there l g number caller target somebody there =
-    (lasts number caller target somebody).tidies (settle_all l g g.plans).1
+    (lasts number caller target somebody).tidies (settle_all l g g.plans).plans
     ((lasts number caller target somebody).settles l g g.plans there)
 
 of_held : (l : Limits) (f : Flat) (moment caller handle : ℕ) (words : Option (List (List ℕ))) → Sound f → is_caller f caller ≡ true

@@ -73,11 +73,12 @@ stays_other l number caller = record {
   enters = λ f plan service words entry p. tt;
   tries = λ f plan service entry other. other;
   drops = λ plan service rest code other. other;
+  meets = λ plan services other. other;
 }
 
 settles : (l : Limits) (f : Flat) (number caller : ℕ) → AreOther number caller f.plans → AreOther number caller (settled l f).plans
 settles l f number caller all =
-    all_filter (IsOther number caller) stays (settle_all l f f.plans).1
+    all_filter (IsOther number caller) stays (settle_all l f f.plans).plans
     (keeps_all l (λ f. Unit {0}) (IsOther number caller) (stays_other l number caller) f f.plans tt all).plans
 
 -- the plan with the number leaves

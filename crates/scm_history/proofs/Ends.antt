@@ -52,7 +52,7 @@ ended_none l f moment (EndStart caller plan) number ends =
     let g = (effect_of l (with_moment f moment) (EndStart caller plan)).flat in
     let none : IsNone number g.plans = subst (λ n. IsNone number (without_plan f.plans n)) (eqb-true number plan ends)
     (none_left number f.plans) in
-    (none_last number).tidies (settle_all l g g.plans).1 ((none_last number).settles l g g.plans none)
+    (none_last number).tidies (settle_all l g g.plans).plans ((none_last number).settles l g g.plans none)
 ended_none l f moment step number ends = absurd cc
 
 never : (l : Limits) (f : Flat) (number : ℕ) (es : List Entry) → IsLegal l f es → number < f.next.plan

@@ -2,6 +2,7 @@
 use Rattle.std.proofs.Common.{ℕ, ◌≡◌, ◌∙◌, ◌<◌, ◌==◌, Bool, true, false, cond, List, [], ◌∷◌, ◌++◌, Option, None, Some, find, map, filter}
 use Rattle.std.proofs.Common.{ap, sym, refl, subst, arith, ne_eqb}
 use Rattle.std.specs.Prelude.{IfSome, Result, Ok, Err, option_map}
+use Rattle.std.specs.Option.{option_to_list}
 use Rattle.scm_model.specs.declared.flat.DueKind.{DueKind}
 use Rattle.scm_model.specs.declared.flat.DueKind.TheVariants as dues
 use Rattle.scm_model.specs.declared.flat.Flat.{Flat}
@@ -21,8 +22,8 @@ use Rattle.scm_model.specs.declared.steps.Step.TheVariants.{Call, EndStart, Laun
 use Rattle.scm_model.specs.declared.steps.Step.TheVariants.{LaunchTaken, ControlTaken}
 use Rattle.scm_model.specs.Changes.{with_moment}
 use Rattle.start_plan.specs.Decided.{aims_among, code_of, decided_if, decided_in, is_numbered, without_plan, without_plans_of}
-use Rattle.start_plan.specs.Settle.{settle_all, settle_plan, settled, stays}
-use Rattle.start_plan.proofs.Keeps.{Keeps, keeps_all}
+use Rattle.start_plan.specs.Settle.{settle_all, settle_from, settle_plan, settled, stays, succeeded}
+use Rattle.start_plan.proofs.Keeps.{Keeps, keeps_plan}
 use Rattle.scm_rules.specs.Launches.{currents, currents_in, first_wanted, launch_told}
 use Rattle.scm_rules.specs.Reports.{report_answer, report_told, reporting}
 use Rattle.scm_rules.specs.Ends.{end_told}
@@ -44,7 +45,7 @@ use Rattle.scm_rules.specs.Launches.{with_fallen}
 pub record Lasts (number : ℕ) (Over Left : ℕ → Type 0) (P : List Plan → Type 0) : Type 0 where
   pub codes : (test : Plan → Bool) (code : ℕ) (plans : List Plan) → P plans → P (map (decided_if test code) plans)
   pub tidies : (plans : List Plan) → P plans → P (filter stays plans)
-  pub settles : (l : Limits) (f : Flat) (plans : List Plan) → P plans → P (settle_all l f plans).1
+  pub settles : (l : Limits) (f : Flat) (plans : List Plan) → P plans → P (settle_all l f plans).plans
   pub begins : (plans : List Plan) (plan : Plan) → (plan.number == number) ≡ false → P plans → P (plans ++ plan ∷ [])
   pub ends : (plan : ℕ) (plans : List Plan) → Over plan → P plans → P (without_plan plans plan)
   pub leaves : (caller : ℕ) (plans : List Plan) → Left caller → P plans → P (without_plans_of plans caller)
@@ -197,7 +198,7 @@ of_step number Over Left P lasts l f moment step low last allowed p =
     let effect = of_effect number Over Left P lasts l f moment step low allowed p in
     finishes number Over Left P lasts (settled l done.flat) done.answer
     (next_ended Over f.next.plan (plan_made done.answer) (begins_next l f moment step) last)
-    (lasts.tidies (settle_all l done.flat done.flat.plans).1 (lasts.settles l done.flat done.flat.plans effect))
+    (lasts.tidies (settle_all l done.flat done.flat.plans).plans (lasts.settles l done.flat done.flat.plans effect))
 
 -- ## What settling leaves of a plan
 
@@ -212,12 +213,12 @@ keeps_same l plan = record {
   enters = λ f row service words entry p. tt;
   tries = λ f row service entry same. record { number = same.number; caller = same.caller; target = same.target };
   drops = λ row service rest code same. record { number = same.number; caller = same.caller; target = same.target };
+  meets = λ row services same. record { number = same.number; caller = same.caller; target = same.target };
 }
 
-settles_one : (l : Limits) (f : Flat) (plan : Plan) → IsSame plan (settle_plan l f plan).1
+settles_one : (l : Limits) (f : Flat) (plan : Plan) → IsSame plan (settle_plan l f plan).plan
 settles_one l f plan =
-    (keeps_all l (λ f. Unit {0}) (IsSame plan) (keeps_same l plan) f (plan ∷ []) tt
-    ((record { number = refl; caller = refl; target = refl }), tt)).plans.0
+    (keeps_plan l (λ f. Unit {0}) (IsSame plan) (keeps_same l plan) f plan tt (record { number = refl; caller = refl; target = refl })).plan
 
 -- the caller and the target of a plan
 abbrev pub sides : Plan → ℕ × ℕ
@@ -225,21 +226,6 @@ sides plan = (plan.caller, plan.target)
 
 abbrev pub sides_of : List Plan → ℕ → Option (ℕ × ℕ)
 sides_of plans number = option_map sides (find (is_numbered number) plans)
-
-pub settled_sides : (l : Limits) (f : Flat) (plans : List Plan) (number : ℕ)
-    → sides_of (settle_all l f plans).1 number ≡ sides_of plans number
-settled_sides l f [] number = refl
-settled_sides l f (plan ∷ plans) number =
-    let first = settle_plan l f plan in
-    let rest = settled_sides l first.0 plans number in
-    let same = settles_one l f plan in
-    ap (λ n. option_map sides (cond (n == number) (Some first.1) (find (is_numbered number) (settle_all l first.0 plans).1))) same.number
-    ∙ elim (plan.number == number) as (λ b. option_map sides (cond b (Some first.1)
-    (find (is_numbered number) (settle_all l first.0 plans).1)) ≡ option_map sides
-    (cond b (Some plan) (find (is_numbered number) plans))) [
-      | true ↦ ap (λ c. Some (c, first.1.target)) same.caller ∙ ap (λ t. Some (plan.caller, t)) same.target
-      | false ↦ rest
-    ]
 
 pub coded_sides : (test : Plan → Bool) (code : ℕ) (plans : List Plan) (number : ℕ)
     → sides_of (map (decided_if test code) plans) number ≡ sides_of plans number
@@ -250,3 +236,24 @@ coded_sides test code (plan ∷ plans) number =
     (find (is_numbered number) (map (decided_if test code) plans))) ≡ option_map sides
     (cond b (Some plan) (find (is_numbered number) plans)))
     [ true ↦ refl | false ↦ rest ]
+
+from_sides : (l : Limits) (f : Flat) (hosted : List ℕ) (plans : List Plan) (number : ℕ)
+    → sides_of (settle_from l f hosted plans).plans number ≡ sides_of plans number
+from_sides l f hosted [] number = refl
+from_sides l f hosted (plan ∷ plans) number =
+    let turn = settle_plan l f (succeeded hosted plan) in
+    let after = hosted ++ option_to_list turn.hosted in
+    let others = (settle_from l turn.flat after plans).plans in
+    let same = settles_one l f (succeeded hosted plan) in
+    ap (λ n. option_map sides (cond (n == number) (Some turn.plan) (find (is_numbered number) others))) same.number
+    ∙ elim (plan.number == number) as (λ b. option_map sides (cond b (Some turn.plan) (find (is_numbered number) others))
+    ≡ option_map sides (cond b (Some plan) (find (is_numbered number) plans))) [
+      | true ↦ ap (λ c. Some (c, turn.plan.target)) same.caller ∙ ap (λ t. Some (plan.caller, t)) same.target
+      | false ↦ from_sides l turn.flat after plans number
+    ]
+
+pub settled_sides : (l : Limits) (f : Flat) (plans : List Plan) (number : ℕ)
+    → sides_of (settle_all l f plans).plans number ≡ sides_of plans number
+settled_sides l f plans number =
+    let end = settle_from l f [] plans in
+    coded_sides (aims_among end.hosted) 0 end.plans number ∙ from_sides l f [] plans number

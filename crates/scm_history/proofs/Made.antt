@@ -17,6 +17,7 @@ use Rattle.scm_model.specs.Changes.{with_moment}
 use Rattle.start_plan.specs.Entered.{is_shared_by, wanted_process}
 use Rattle.start_plan.specs.Settle.{settled}
 use Rattle.start_plan.proofs.Enterings.{all_units}
+use Rattle.start_plan.proofs.Hosts.{entered_keeps}
 use Rattle.start_plan.proofs.Keeps.{Keeps, keeps_all}
 use Rattle.scm_rules.specs.Controls.{first_asked}
 use Rattle.scm_rules.specs.Reports.{reporting}
@@ -173,10 +174,11 @@ not_begun l f moment step number ok other none = none
 
 stays_not : (l : Limits) (number : ℕ) → Keeps l (IsNotBegun number) (λ plan. Unit {0})
 stays_not l number = record {
-  enters = λ f plan service words entry none. wanted_not number f.next.process service
-      (is_shared_by (service_of f service)) f.processes none;
+  enters = λ f plan service words entry none. entered_keeps (IsNotBegun number) f service words
+      (λ new. wanted_not number f.next.process service (is_shared_by (service_of f service)) f.processes none) (λ process is. none);
   tries = λ f plan service entry q. tt;
   drops = λ plan service rest code q. tt;
+  meets = λ plan services q. tt;
 }
 
 step_not : (l : Limits) (f : Flat) (moment : ℕ) (step : Step) (number : ℕ) → IsTrue (may l f moment step)

@@ -1,6 +1,6 @@
 -- Each process keeps its place in the list.
 use Rattle.std.proofs.Common.{ℕ, ◌≡◌, ◌∙◌, ◌≤◌, ◌==◌, ◌||◌, Bool, true, false, not, cond, List, [], ◌∷◌, ◌++◌, filter, map, ap, sym, refl}
-use Rattle.std.proofs.Common.{arith, ◌+◌}
+use Rattle.std.proofs.Common.{None, arith, ◌+◌}
 use Rattle.std.specs.Prelude.{All}
 use Rattle.std.proofs.lemmas.List.Elements.{All-nil, All-push}
 use Rattle.scm_model.specs.declared.flat.Flat.{Flat}
@@ -11,9 +11,10 @@ use Rattle.scm_model.specs.declared.steps.Step.TheVariants.{Call, LaunchTaken, L
 use Rattle.scm_model.specs.declared.steps.Step.TheVariants.{Raised}
 use Rattle.scm_model.specs.Changes.{with_moment}
 use Rattle.scm_model.specs.Rows.{service_of}
-use Rattle.start_plan.specs.Entered.{is_shared_by, wanted_process}
+use Rattle.start_plan.specs.Entered.{entered_at, is_shared_by, wanted_process}
 use Rattle.start_plan.specs.Settle.{settled}
 use Rattle.start_plan.proofs.Enterings.{all_units}
+use Rattle.start_plan.proofs.Hosts.{entered_keeps}
 use Rattle.start_plan.proofs.Keeps.{Keeps, keeps_all}
 use Rattle.scm_rules.specs.Controls.{first_asked}
 use Rattle.scm_rules.specs.Reports.{reporting}
@@ -213,9 +214,12 @@ one_grown bound old g service shared is h more next = record {
 
 grows : (l : Limits) (bound : ℕ) (old : List Process) → Keeps l (Grown bound old) (λ plan. Unit {0})
 grows l bound old = record {
-  enters = λ g plan service words entry is. one_grown bound old g service (is_shared_by (service_of g service)) is _ refl refl;
+  enters = λ g plan service words entry is. entered_keeps (Grown bound old) g service words
+      (λ none. one_grown bound old g service (is_shared_by (service_of g service)) is (entered_at g service words None) refl refl)
+      (λ process host. record { new = is.new; listed = is.listed; given = is.given; up = is.up });
   tries = λ g plan service entry q. tt;
   drops = λ plan service rest code q. tt;
+  meets = λ plan services q. tt;
 }
 
 none_new : (bound : ℕ) (g : Flat) → bound ≤ g.next.process → Grown bound g.processes g

@@ -14,7 +14,8 @@ use Rattle.scm_model.specs.Changes.{with_moment}
 use Rattle.scm_model.specs.Rows.{service_of}
 use Rattle.start_plan.specs.Entered.{is_shared_by, wanted_process}
 use Rattle.start_plan.specs.Settle.{settled}
-use Rattle.start_plan.proofs.Enterings.{all_units}
+use Rattle.start_plan.proofs.Enterings.{all_units, up_entered}
+use Rattle.start_plan.proofs.Hosts.{entered_keeps}
 use Rattle.start_plan.proofs.Keeps.{Keeps, keeps_all}
 use Rattle.scm_rules.specs.Controls.{first_asked}
 use Rattle.scm_rules.specs.Reports.{reporting}
@@ -234,13 +235,15 @@ process_effect l f moment step = omega arith
 
 stays_as : (l : Limits) (bound number : ℕ) (row : Option Process) → number < bound → Keeps l (IsAs bound number row) (λ plan. Unit {0})
 stays_as l bound number row low = record {
-  enters = λ g plan service words entry is. record {
-    up = (let up = is.up in omega arith);
-    same = find_push (has number) g.processes (wanted_process g.next.process service (is_shared_by (service_of g service)))
-        (ne_eqb g.next.process number (λ e. absurd (let up = is.up in omega (arith, e, up, low)))) ∙ is.same;
-  };
+  enters = λ g plan service words entry is. entered_keeps (IsAs bound number row) g service words
+      (λ none. record {
+        up = (let up = is.up in omega arith);
+        same = find_push (has number) g.processes (wanted_process g.next.process service (is_shared_by (service_of g service)))
+            (ne_eqb g.next.process number (λ e. absurd (let up = is.up in omega (arith, e, up, low)))) ∙ is.same;
+      }) (λ process host. record { up = is.up; same = is.same });
   tries = λ g plan service entry q. tt;
   drops = λ plan service rest code q. tt;
+  meets = λ plan services q. tt;
 }
 
 settled_as : (l : Limits) (g : Flat) (bound number : ℕ) → number < bound → bound ≤ g.next.process
@@ -277,9 +280,10 @@ gives l f e s ok number named taken = record {
 
 up : (l : Limits) (bound : ℕ) → Keeps l (λ g. bound ≤ g.next.process) (λ plan. Unit {0})
 up l bound = record {
-  enters = λ g plan service words entry is. omega arith;
+  enters = λ g plan service words entry is. up_entered bound g service words is;
   tries = λ g plan service entry q. tt;
   drops = λ plan service rest code q. tt;
+  meets = λ plan services q. tt;
 }
 
 -- it never falls

@@ -3,6 +3,7 @@ use Rattle.std.proofs.Common.{ℕ, ◌≡◌, ◌∙◌, Bool, true, false, cond
 use Rattle.std.specs.List.{AllZip}
 use Rattle.scm_model.specs.declared.flat.Config.{Config}
 use Rattle.scm_model.specs.declared.flat.HandleRow.{HandleRow}
+use Rattle.scm_model.specs.declared.flat.Process.{Process}
 use Rattle.scm_model.specs.declared.flat.Service.{Service}
 use Rattle.scm_model.specs.Purge.{leaves}
 use Rattle.scm_runs.proofs.Settling.{AreSettled, IsSettled}
@@ -32,18 +33,22 @@ bare_unmarked (old ∷ olds) (new ∷ news) each =
 
 -- ## Settling
 
-one_settled : (next bound : ℕ) (old new : Service) → IsSettled next bound old new → IsBare old new
-one_settled next bound old new (inl same) = record { mark = ap (λ (row : Service). row.marked) same; config = ap config_of same }
-one_settled next bound old new (inr is) = record { mark = ap (λ (row : Service). row.marked) is.entered; config = ap config_of is.entered }
+one_settled : (next bound : ℕ) (listed : List Process) (old new : Service) → IsSettled next bound listed old new → IsBare old new
+one_settled next bound listed old new (inl same) = record { mark = ap (λ (row : Service). row.marked) same; config = ap config_of same }
+one_settled next bound listed old new (inr is) =
+    record { mark = ap (λ (row : Service). row.marked) is.entered; config = ap config_of is.entered }
 
-all_settled : (next bound : ℕ) (olds news : List Service) → AreSettled next bound olds news → AllZip IsBare olds news
-all_settled next bound [] [] each = tt
-all_settled next bound [] (new ∷ news) each = absurd each
-all_settled next bound (old ∷ olds) [] each = absurd each
-all_settled next bound (old ∷ olds) (new ∷ news) each = (one_settled next bound old new each.0, all_settled next bound olds news each.1)
+all_settled : (next bound : ℕ) (listed : List Process) (olds news : List Service) → AreSettled next bound listed olds news
+    → AllZip IsBare olds news
+all_settled next bound listed [] [] each = tt
+all_settled next bound listed [] (new ∷ news) each = absurd each
+all_settled next bound listed (old ∷ olds) [] each = absurd each
+all_settled next bound listed (old ∷ olds) (new ∷ news) each =
+    (one_settled next bound listed old new each.0, all_settled next bound listed olds news each.1)
 
-pub settled_unmarked : (next bound : ℕ) (olds news : List Service) → AreSettled next bound olds news → unmarked news ≡ unmarked olds
-settled_unmarked next bound olds news each = bare_unmarked olds news (all_settled next bound olds news each)
+pub settled_unmarked : (next bound : ℕ) (listed : List Process) (olds news : List Service) → AreSettled next bound listed olds news
+    → unmarked news ≡ unmarked olds
+settled_unmarked next bound listed olds news each = bare_unmarked olds news (all_settled next bound listed olds news each)
 
 -- ## Services that leave
 

@@ -43,7 +43,8 @@ of_effect l f moment step s ok =
     purged_unmarked before.handles before.services
     ∙ finished_keeps (λ (g : Flat). unmarked g.services ≡ unmarked done.flat.services) (λ g plans same. same)
     (settled l done.flat) done.answer
-    (settled_unmarked f.next.process f.next.service done.flat.services (settled l done.flat).services (step_settled l f moment step s ok))
+    (settled_unmarked f.next.process f.next.service done.flat.processes done.flat.services (settled l done.flat).services
+    (step_settled l f moment step s ok))
 
 by_effect : (l : Limits) (f : Flat) (moment : ℕ) (step : Step) → Sound f → IsTrue (may l f moment step)
     → KeptBy f.services (kept_change l f step) (effect_of l (at_moment f moment step) step).flat.services

@@ -31,8 +31,8 @@ pub fn law_1(limits: &Limits, steps: &Items<(u64, Step)>, opening: &Flat)
     law_of_moves(limits, steps, opening)
 }
 
-/// Of starts: a service gets a new process only where all that it needs is up and nothing is in its
-/// way.
+/// Of starts: a service is entered, by a new process or by one of another service, only where all
+/// that it needs is up and nothing is in its way.
 pub fn law_2(limits: &Limits, steps: &Items<(u64, Step)>, opening: &Flat)
     requires begins { IsOpening limits.now opening.now }
     requires legal { IsLegal limits.now opening.now steps.now }
@@ -83,7 +83,7 @@ pub fn law_7(limits: &Limits, steps: &Items<(u64, Step)>, opening: &Flat)
     requires begins { IsOpening limits.now opening.now }
     requires legal { IsLegal limits.now opening.now steps.now }
     ensures plans { EachStep (LawOfPlans limits.now) limits.now opening.now steps.now }
-    ensures entered { EachStep LawOfEntering limits.now opening.now steps.now }
+    ensures entered { EachStep (LawOfEntering limits.now) limits.now opening.now steps.now }
 {
     law_of_plans(limits, steps, opening)
 }

@@ -1,10 +1,9 @@
 -- The law of controls.
 use Rattle.std.proofs.Common.{ℕ, ◌≡◌, ◌∙◌, ◌<◌, ◌≤◌, ◌==◌, ◌&&◌, ◌||◌, true, false, cond, IsTrue, List, [], ◌∷◌, ◌++◌, append_assoc, Option}
-use Rattle.std.proofs.Common.{None, Some, drop, find, get_or, length, map, not, ap, sym, refl, subst, arith, eq-eqb, eqb-true, inl, inr}
-use Rattle.std.proofs.Common.{ne_eqb}
+use Rattle.std.proofs.Common.{None, Some, drop, find, get_or, map, not, ap, sym, refl, subst, arith, eq-eqb, eqb-true, inl, inr, ne_eqb}
 use Rattle.std.specs.Prelude.{All, is_none, is_some, max, nat_le, nat_lt, option_and_then}
 use Rattle.std.proofs.lemmas.Bool.Decides.{nat_tests}
-use Rattle.std.proofs.lemmas.List.{append-nil, length-map}
+use Rattle.std.proofs.lemmas.List.{append-nil}
 use Rattle.std.proofs.lemmas.List.Elements.{All-cons, All-filter, All-head, All-map, All-nil, All-push, All-tail}
 use Rattle.scm_model.specs.declared.flat.Flat.{Flat}
 use Rattle.scm_model.specs.declared.flat.HandleKind.{HandleKind}
@@ -25,8 +24,8 @@ use Rattle.scm_model.specs.Purge.{purged}
 use Rattle.scm_model.specs.Rows.{handle_of, opened, opened_at, opened_by, service_of, held_service}
 use Rattle.start_plan.specs.Settle.{settled}
 use Rattle.scm_rules.specs.Controls.{active_among, control_done, control_told, control_verdict, controlled_if, controls_in, controls_of}
-use Rattle.scm_rules.specs.Controls.{first_control, granted_in, waiting_for, with_control, with_control_taken, control_sent}
-use Rattle.scm_rules.specs.Controls.{controlled_in, dequeued_in, first_asked, is_asked_by, next_by, order_to, unasked_if, unasked_in}
+use Rattle.scm_rules.specs.Controls.{first_control, granted_in, waiting_for, with_control, with_control_taken, control_sent, controlled_in}
+use Rattle.scm_rules.specs.Controls.{dequeued_in, first_asked, is_asked_by, next_by, order_to, unasked_if, unasked_in}
 use Rattle.scm_rules.specs.Launches.{is_by, process_of}
 use Rattle.scm_rules.specs.Reports.{is_stopped_by, released_by, released_if, reporting, set_status_done, set_status_verdict, with_report_of}
 use Rattle.scm_rules.specs.Failures.{failed_by}
@@ -49,12 +48,12 @@ use Rattle.scm_moves.specs.Controls.{OneMoreWaits, OneMoreWaitsFor, changes_cont
 use Rattle.scm_moves.proofs.Judged.{IsTaken, held, holds_up, is_taken}
 use Rattle.scm_moves.proofs.Known.{IsBelow, IsOfOne, Known, all_below}
 use Rattle.scm_moves.proofs.Needed.{needed_same}
-use Rattle.scm_moves.proofs.Still.{stays_put}
+use Rattle.scm_moves.proofs.Still.{Lists, lists_mapped, lists_same, stays_put}
 use Rattle.scm_moves.proofs.Found.{found_mapped}
 use Rattle.scm_rules.specs.Raise.{raised}
 use Rattle.scm_runs.proofs.Unasked.{raised_by}
-use Rattle.scm_moves.proofs.Waiting.{controlled, controlled_number, controlled_others, one_behind, ended_none, found, others_wait, released}
-use Rattle.scm_moves.proofs.Waiting.{released_number, relieved, waiting_after, waiting_settled}
+use Rattle.scm_moves.proofs.Waiting.{controlled, controlled_number, controlled_others, controlled_shared, one_behind, ended_none, found}
+use Rattle.scm_moves.proofs.Waiting.{others_wait, released, released_number, relieved, waiting_after, waiting_settled}
 use Rattle.std.proofs.lemmas.Bool.{and_parts}
 use Rattle.scm_model.proofs.Found.{found_keeps}
 use Rattle.scm_model.specs.declared.flat.Opened.{Opened}
@@ -167,12 +166,12 @@ needed_still l f caller handle control is =
     (waiting_for f service) l.controls
     (record { stop = is.stop; taken = is.taken; needed = needed_same f service ∙ is.needed })
 
-as_many : (l : Limits) (control : ℕ) (service : Option Service) (rows : List Process)
-    → length (controlled_in l control service rows) ≡ length rows
-as_many l control service rows =
-    found_keeps (λ (more : List Process). length more ≡ length rows)
-    (λ (row : Service). map (controlled_if l.controls row.process (order_to row.number control))) service rows refl
-    (λ row is. length-map rows (controlled_if l.controls row.process (order_to row.number control)))
+lists_controlled : (l : Limits) (f : Flat) (control : ℕ) (service : Option Service) → Lists f (controlled_in l control service f.processes)
+lists_controlled l f control service =
+    found_keeps (Lists f) (λ (row : Service). map (controlled_if l.controls row.process (order_to row.number control))) service f.processes
+    (lists_same f) (λ row is. lists_mapped f (controlled_if l.controls row.process (order_to row.number control))
+    (controlled_number l.controls row.process (order_to row.number control))
+    (controlled_shared l.controls row.process (order_to row.number control)))
 
 controlled_call : (l : Limits) (f : Flat) (moment caller handle control : ℕ) (append : Kept) → IsValid l f → Known f
     → IsControlled l f caller handle control (step_of l f moment (Call caller (request.Control handle control) append)).answer
@@ -189,8 +188,7 @@ controlled_call l f moment caller handle control append v known =
       taken = λ same. one_more l f moment caller handle control (held_service f caller handle) v known refl e;
       refused = λ other. absurd cc;
       services = stays_put l f (controlled_in l control (held_service f caller handle) f.processes) f.wanted f.registrations
-          (max f.moment moment) v
-          (let long = as_many l control (held_service f caller handle) f.processes in omega (arith, long));
+          (max f.moment moment) v (lists_controlled l f control (held_service f caller handle));
       needed = (λ h. absurd cc, λ is. sym e ∙ needed_still l f caller handle control is);
     })
     (λ e. record {
@@ -199,7 +197,7 @@ controlled_call l f moment caller handle control append v known =
       answers = ap answer.Reply (shown_zero f caller handle code e);
       taken = λ zero. absurd (let yes = eq-eqb code 0 zero in cc);
       refused = λ other number. waiting_settled l g number;
-      services = stays_put l f f.processes f.wanted f.registrations (max f.moment moment) v (omega arith);
+      services = stays_put l f f.processes f.wanted f.registrations (max f.moment moment) v (lists_same f);
       needed = (still_needed l f caller handle control, needed_still l f caller handle control);
     })
 
@@ -232,17 +230,17 @@ told_row number row runs =
       }
     ] refl
 
-told_settled : (number next : ℕ) (mids news : List Service) → All (IsTold number) mids → AllZip (IsSettled next) mids news
+told_settled : (number : ℕ) (mids news : List Service) → All (IsTold number) mids → AllZip IsSettled mids news
     → All (λ (new : Service). new.number ≡ number → new.asked ≡ false) news
-told_settled number next [] [] told settled = All-nil (λ (new : Service). new.number ≡ number → new.asked ≡ false)
-told_settled number next [] (new ∷ news) told settled = absurd settled
-told_settled number next (mid ∷ mids) [] told settled = absurd settled
-told_settled number next (mid ∷ mids) (new ∷ news) told settled =
+told_settled number [] [] told settled = All-nil (λ (new : Service). new.number ≡ number → new.asked ≡ false)
+told_settled number [] (new ∷ news) told settled = absurd settled
+told_settled number (mid ∷ mids) [] told settled = absurd settled
+told_settled number (mid ∷ mids) (new ∷ news) told settled =
     All-cons (λ (row : Service). row.number ≡ number → row.asked ≡ false) new news
     (one_told mid new (All-head (IsTold number) mid mids told) settled.0)
-    (told_settled number next mids news (All-tail (IsTold number) mid mids told) settled.1)
+    (told_settled number mids news (All-tail (IsTold number) mid mids told) settled.1)
   where
-    one_told : (mid new : Service) → IsTold number mid → IsSettled next mid new → new.number ≡ number → new.asked ≡ false
+    one_told : (mid new : Service) → IsTold number mid → IsSettled mid new → new.number ≡ number → new.asked ≡ false
     one_told mid new told (inl same) is = ap (λ (r : Service). r.asked) same ∙ told.unasked (ap (λ (r : Service). r.number) (sym same) ∙ is)
     one_told mid new told (inr entered) is =
         absurd (let runs = told.runs (ap (λ (r : Service). r.number) (sym entered.entered) ∙ is) in
@@ -272,7 +270,7 @@ unasked_after l f moment process row v e =
     (λ (new : Service). new.number ≡ row.number → new.asked ≡ false) (finished_step l f moment step).flat.services
     (subst (λ services. All (λ (new : Service). new.number ≡ row.number → new.asked ≡ false) services)
     (sym (finished_services (settled l done.flat) done.answer))
-    (told_settled row.number 0 done.flat.services (settled l done.flat).services told (rows_settled l 0 done.flat (omega arith))))
+    (told_settled row.number done.flat.services (settled l done.flat).services told (rows_settled l done.flat)))
 
 sent_by : (l : Limits) (f g : Flat) (moment process : ℕ) (asked : Option Service) → IsValid l f → first_asked f process ≡ asked
     → is_some (next_by asked (first_control (controls_of f process))) ≡ true

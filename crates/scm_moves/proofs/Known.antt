@@ -1,6 +1,6 @@
 -- Each handle of a service is of one that is there; each step keeps that.
-use Rattle.std.proofs.Common.{ℕ, ◌≡◌, ◌⊎◌, ◌∙◌, ◌<◌, ◌+◌, ◌==◌, ◌&&◌, ◌||◌, Bool, true, false, not, List, [], ◌∷◌, ◌++◌, Option, None}
-use Rattle.std.proofs.Common.{Some, filter, find, map, get_or, ap, sym, refl, subst, inl, inr, eq-eqb, eqb-true}
+use Rattle.std.proofs.Common.{ℕ, ◌≡◌, ◌⊎◌, ◌∙◌, ◌<◌, ◌==◌, ◌&&◌, ◌||◌, Bool, true, false, not, List, [], ◌∷◌, ◌++◌, Option, None, Some}
+use Rattle.std.proofs.Common.{filter, find, map, get_or, ap, sym, refl, subst, inl, inr, eq-eqb, eqb-true}
 use Rattle.std.specs.Prelude.{All, is_some}
 use Rattle.std.specs.List.{list_any}
 use Rattle.std.proofs.lemmas.List.Elements.{All-filter, All-head, All-push, All-tail, All-weaker}
@@ -22,7 +22,8 @@ use Rattle.scm_model.specs.Changes.{configured_if, marked_if, with_moment}
 use Rattle.scm_model.specs.Purge.{leaves}
 use Rattle.scm_model.specs.Rows.{is_of_service, named, held_service}
 use Rattle.start_plan.specs.Decided.{code_of}
-use Rattle.start_plan.specs.Entered.{started_if}
+use Rattle.start_plan.specs.Entered.{process_for, started_if}
+use Rattle.start_plan.specs.Hosts.{host}
 use Rattle.start_plan.specs.Settle.{settled}
 use Rattle.start_plan.proofs.Enterings.{all_units}
 use Rattle.start_plan.proofs.Keeps.{Keeps, keeps_all}
@@ -231,10 +232,12 @@ known_effect l f moment step h = record { opened = h.opened }
 lasts : (l : Limits) → Keeps l Known (λ plan. Unit {0})
 lasts l = record {
   enters = λ g plan n words entry h. record {
-    opened = opened_mapped (started_if n g.next.process) g.services g.handles (same_number n g.next.process) h.opened;
+    opened = opened_mapped (started_if n (process_for g (host g n))) g.services g.handles (same_number n (process_for g (host g n)))
+        h.opened;
   };
   tries = λ g plan n entry q. tt;
   drops = λ plan n rest code q. tt;
+  meets = λ plan services q. tt;
 }
 
 known_settled : (l : Limits) (g : Flat) → Known g → Known (settled l g)

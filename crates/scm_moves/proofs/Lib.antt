@@ -4,8 +4,8 @@ pub mod Own
 pub mod Moved
 pub mod Known
 pub mod Still
-pub mod Stale
 pub mod Waiting
+pub mod Stale
 pub mod Needed
 pub mod Judged
 pub mod Controlled

@@ -1,8 +1,7 @@
 -- A stale step and a report that is refused move no service.
-use Rattle.std.proofs.Common.{ℕ, ◌≡◌, ◌∙◌, ◌≤◌, ◌==◌, ◌&&◌, Bool, true, false, not, cond, List, [], ◌∷◌, Option, None, Some}
-use Rattle.std.proofs.Common.{Ok, Err, filter, length, map, ap, sym, refl, subst, arith, eqb-true, eq-eqb}
+use Rattle.std.proofs.Common.{ℕ, ◌≡◌, ◌∙◌, ◌==◌, ◌&&◌, Bool, true, false, not, cond, List, [], ◌∷◌, Option, None, Some, Ok, Err, filter}
+use Rattle.std.proofs.Common.{map, ap, sym, refl, subst, eqb-true, eq-eqb}
 use Rattle.std.specs.Prelude.{All, max}
-use Rattle.std.proofs.lemmas.List.{length-map}
 use Rattle.std.proofs.lemmas.List.Elements.{All-cons, All-head, All-nil, All-tail, All-weaker}
 use Rattle.scm_model.specs.declared.flat.Flat.{Flat}
 use Rattle.scm_model.specs.declared.flat.Limits.{Limits}
@@ -35,10 +34,10 @@ use Rattle.scm_rules.specs.Steps.{call_answer, answered_by, at_moment, effect_of
 use Rattle.scm_rules.specs.Valid.{IsValid}
 use Rattle.scm_rules.specs.Verdicts.{verdict}
 use Rattle.scm_runs.proofs.Calls.{by_verdict}
-use Rattle.scm_runs.proofs.Lists.{filter_short}
 use Rattle.scm_moves.specs.Moves.{is_called_report}
 use Rattle.scm_moves.proofs.Own.{only_one}
-use Rattle.scm_moves.proofs.Still.{stays_put}
+use Rattle.scm_moves.proofs.Still.{Lists, lists_mapped, lists_same, lists_without, stays_put}
+use Rattle.scm_moves.proofs.Waiting.{released_number, released_shared}
 use Rattle.scm_rules.specs.Controls.{control_sent, next_order}
 
 -- ## Rows that stay
@@ -66,14 +65,15 @@ not_taken number report row none =
       | false ↦ λ e. refl
     ] refl
 
--- a report leaves as many processes
-as_many : (report : Status) (service : Option Service) (rows : List Process)
-    → length (if_found (released_by report) service rows) ≤ length rows
-as_many report service rows =
-    found_keeps (λ (left : List Process). length left ≤ length rows) (released_by report) service rows (omega arith)
-    (λ row is. elim (is_stopped_by report row) as (λ b. length (cond b (map (released_if row.process row.number) rows) rows) ≤ length rows) [
-      | true ↦ (let same = length-map rows (released_if row.process row.number) in omega (arith, same))
-      | false ↦ omega arith
+-- a report leaves each process, shared as it was
+lists_left : (f : Flat) (report : Status) (service : Option Service) → Lists f (if_found (released_by report) service f.processes)
+lists_left f report service =
+    found_keeps (Lists f) (released_by report) service f.processes (lists_same f)
+    (λ row is. elim (is_stopped_by report row) as (λ b. Lists f (cond b (map (released_if row.process row.number) f.processes)
+    f.processes)) [
+      | true ↦ lists_mapped f (released_if row.process row.number) (released_number row.process row.number)
+          (released_shared row.process row.number)
+      | false ↦ lists_same f
     ])
 
 -- a report that changes no row, and is no failure
@@ -95,7 +95,7 @@ put_by_report l f moment service report v same fine =
       registrations = told;
       moment = max f.moment moment;
     }))).services) same
-    ∙ stays_put l f left f.wanted told (max f.moment moment) v (as_many report service f.processes)
+    ∙ stays_put l f left f.wanted told (max f.moment moment) v (lists_left f report service)
 
 stale_report : (l : Limits) (f : Flat) (moment : ℕ) (report : Status) (service : Option Service) → IsValid l f
     → (finished (settled l (with_report_of (with_moment f moment) service report)) (report_told service report)).answer ≡ answer.Stale
@@ -178,7 +178,7 @@ stale_end l f moment process [] v e told =
     (All-weaker (λ (row : Service). is_by process row ≡ false) (λ (row : Service). fallen_if process 1067 row ≡ row)
     (not_fallen process 1067) f.services (none_of (is_by process) f.services e)))
     ∙ stays_put l f others (wanted_of_others process f.wanted) f.registrations (max f.moment moment) v
-    (filter_short (λ (row : Process). not (row.number == process)) f.processes)
+    (lists_without f process v.processes.positive (none_of (is_by process) f.services e))
 stale_end l f moment process (row ∷ rows) v e told = absurd cc
 
 -- ## Other steps
@@ -266,7 +266,7 @@ unheard_by l f moment caller handle report append code v =
     by_verdict (λ r. answer.Reply r.reply ≡ answer.Reply (reply.Code code) → (code == 0) ≡ false
     → (purged (settled l r.flat)).services ≡ f.services) refusal (reply.Code refusal) g (set_status_done g caller handle report)
     (λ e told some. absurd (let none : code ≡ 0 = cc in let yes = eq-eqb code 0 none in not_off (code == 0) yes some))
-    (λ e told some. stays_put l f f.processes f.wanted f.registrations (max f.moment moment) v (omega arith))
+    (λ e told some. stays_put l f f.processes f.wanted f.registrations (max f.moment moment) v (lists_same f))
 
 pub unheard : (l : Limits) (f : Flat) (moment : ℕ) (step : Step) (code : ℕ) → IsValid l f → is_called_report step ≡ true
     → (step_of l f moment step).answer ≡ answer.Reply (reply.Code code) → (code == 0) ≡ false

@@ -22,6 +22,7 @@ use Rattle.start_plan.specs.Decided.{code_of}
 use Rattle.start_plan.specs.Entered.{is_shared_by, wanted_process}
 use Rattle.start_plan.specs.Settle.{settled}
 use Rattle.start_plan.proofs.Enterings.{all_units}
+use Rattle.start_plan.proofs.Hosts.{entered_keeps}
 use Rattle.start_plan.proofs.Keeps.{Keeps, keeps_all}
 use Rattle.scm_rules.specs.Controls.{controlled_if, controls_in, controls_of, dequeued_if, dequeued_in, first_asked, order_to}
 use Rattle.scm_rules.specs.Launches.{currents, first_wanted, launched_if, taken_if, without_process}
@@ -123,6 +124,12 @@ released_number process service row =
       controls = filter (λ (order : Order). not (order.service == service)) row.controls;
     }) row).number ≡ row.number) [ true ↦ refl | false ↦ refl ]
 
+pub released_shared : (process service : ℕ) (row : Process) → (released_if process service row).shared ≡ row.shared
+released_shared process service row =
+    elim (row.number == process && row.shared) as (λ b. (cond b (record row {
+      controls = filter (λ (order : Order). not (order.service == service)) row.controls;
+    }) row).shared ≡ row.shared) [ true ↦ refl | false ↦ refl ]
+
 released_others : (process service number : ℕ) (rows : List Process) → (process == number) ≡ false
     → controls_in (found number (map (released_if process service) rows)) ≡ controls_in (found number rows)
 released_others process service number rows other =
@@ -159,6 +166,11 @@ pub controlled_number : (limit process : ℕ) (order : Order) (row : Process) �
 controlled_number limit process order row =
     elim (row.number == process && nat_lt (length row.controls) limit) as (λ b.
     (cond b (record row { controls = row.controls ++ order ∷ [] }) row).number ≡ row.number) [ true ↦ refl | false ↦ refl ]
+
+pub controlled_shared : (limit process : ℕ) (order : Order) (row : Process) → (controlled_if limit process order row).shared ≡ row.shared
+controlled_shared limit process order row =
+    elim (row.number == process && nat_lt (length row.controls) limit) as (λ b.
+    (cond b (record row { controls = row.controls ++ order ∷ [] }) row).shared ≡ row.shared) [ true ↦ refl | false ↦ refl ]
 
 pub controlled_others : (limit process : ℕ) (order : Order) (number : ℕ) (rows : List Process) → (process == number) ≡ false
     → controls_in (found number (map (controlled_if limit process order) rows)) ≡ controls_in (found number rows)
@@ -364,9 +376,11 @@ ended_effect l f moment step number is = absurd cc
 
 waits_on : (l : Limits) (f : Flat) (number : ℕ) → Keeps l (λ (g : Flat). controls_of g number ≡ controls_of f number) (λ plan. Unit {0})
 waits_on l f number = record {
-  enters = λ g plan n words entry same. new_none g.next.process n (is_shared_by (service_of g n)) number g.processes ∙ same;
+  enters = λ g plan n words entry same. entered_keeps (λ (h : Flat). controls_of h number ≡ controls_of f number) g n words
+      (λ none. new_none g.next.process n (is_shared_by (service_of g n)) number g.processes ∙ same) (λ process is. same);
   tries = λ g plan n entry q. tt;
   drops = λ plan n rest code q. tt;
+  meets = λ plan services q. tt;
 }
 
 -- settling leaves what waits

@@ -42,10 +42,10 @@ pub gives_moves : (l : Limits) → Gives (Whole l) (LawOfMoves l) l
 gives_moves l f e whole ok =
     let valid = is_valid_clear l f whole.clear in
     record {
-      moved = moved l f e.0 e.1 valid ok;
+      moved = moved l f e.0 e.1 whole.clear.sound valid ok;
       stale = stale l f e.0 e.1 valid;
       refused = λ code. refused l f e.0 e.1 code valid;
-      ended = λ number. ended l f e.0 e.1 number valid ok;
+      ended = λ number. ended l f e.0 e.1 number whole.clear.sound valid ok;
       unheard = λ code. unheard l f e.0 e.1 code valid;
     }
 

@@ -12,6 +12,7 @@ use Rattle.scm_model.specs.declared.steps.Answer.TheVariants as answer
 use Rattle.scm_model.specs.declared.steps.Step.{Step}
 use Rattle.scm_model.specs.declared.steps.Step.TheVariants.{Call, LaunchFailed, Report, Ended}
 use Rattle.start_plan.specs.Entered.{starting}
+use Rattle.start_plan.specs.Hosting.{IsHosted}
 use Rattle.status_machine.specs.Moves.{take_end, takes}
 use Rattle.scm_model.specs.Entries.{Entry}
 use Rattle.scm_model.specs.declared.codes.TheConstants.{ERROR_INVALID_DATA, ERROR_PROCESS_ABORTED, SERVICE_STOPPED}
@@ -56,23 +57,23 @@ MovesItself before step old between = IsAsBefore old.status between ⊎ (IsRepor
 
 -- ## When plans are settled
 
--- it was STOPPED, and is started by a process that none had before
-pub record IsStartedAnew (before : Flat) (between : Status) (new : Service) : Type 0 where
+-- it was STOPPED, and is started by a process that none had before, or by its host
+pub record IsStartedAnew (before : Flat) (between : Status) (new : Service) (after : Flat) : Type 0 where
   pub stopped : between.state ≡ SERVICE_STOPPED
   pub pending : new.status ≡ starting between
-  pub process : before.next.process ≤ new.process
+  pub process : (before.next.process ≤ new.process) ⊎ IsHosted after new
 
 -- ## The law
 
 -- how a service stood between, what led there, and what came then
-pub record Moves (before : Flat) (step : Step) (old new : Service) : Type 0 where
+pub record Moves (before : Flat) (step : Step) (after : Flat) (old new : Service) : Type 0 where
   pub between : Status
   pub own : MovesItself before step old between
-  pub later : (new.status ≡ between) ⊎ IsStartedAnew before between new
+  pub later : (new.status ≡ between) ⊎ IsStartedAnew before between new after
 
 -- the service with the same number before, if there was one, moves so
-abbrev pub HasMoved : Flat → Step → Service → Type 0
-HasMoved before step new = All (λ (old : Service). old.number ≡ new.number → Moves before step old new) before.services
+abbrev pub HasMoved : Flat → Step → Flat → Service → Type 0
+HasMoved before step after new = All (λ (old : Service). old.number ≡ new.number → Moves before step after old new) before.services
 
 -- whether a step is a report by a call
 abbrev pub is_called_report : Step → Bool
@@ -80,10 +81,10 @@ is_called_report (Call caller (request.SetStatus handle status) append) = true
 is_called_report step = false
 
 -- a service moves by a report of its current process that the table allows, by the end of that process, or by being entered where it is
--- STOPPED, and by nothing else; a stale step and a report that is refused, also one by a call, move none; and a process that ended or whose
--- launch failed is no service's current one
+-- STOPPED, by a new process or its host, and by nothing else; a stale step and a report that is refused, also one by a call, move none; and
+-- a process that ended or whose launch failed is no service's current one
 pub record LawOfMoves (l : Limits) (before : Flat) (e : Entry) (told : Answer) (after : Flat) : Type 0 where
-  pub moved : All (HasMoved before e.1) after.services
+  pub moved : All (HasMoved before e.1 after) after.services
   pub stale : told ≡ answer.Stale → after.services ≡ before.services
   pub refused : (code : ℕ) → told ≡ answer.Refused code → (code ≡ ERROR_INVALID_DATA) × (after.services ≡ before.services)
   pub ended : (number : ℕ) → is_some (code_of_end e.1 number) ≡ true → All (λ (row : Service). is_by number row ≡ false) after.services

@@ -14,10 +14,11 @@ use scm_text::Items;
 /// The law of moves: in each step a service's status stays as it is but for its type, or its
 /// current process reports another one that the table allows from there, or that process ends and
 /// the service is STOPPED; then it may be entered if it is STOPPED, by a process that none had
-/// before. The answer to a report is that it is stale exactly if it names no service whose current
-/// process it is, and to an end exactly if its process is no service's current one, and then the
-/// step changes no service; a report that is refused changes none: a process's own with 13, one by
-/// a call with any code. A process that ended, or whose launch failed, is no service's current one.
+/// before or by the shared process of another service of its path. The answer to a report is that
+/// it is stale exactly if it names no service whose current process it is, and to an end exactly if
+/// its process is no service's current one, and then the step changes no service; a report that is
+/// refused changes none: a process's own with 13, one by a call with any code. A process that
+/// ended, or whose launch failed, is no service's current one.
 pub fn law_of_moves(limits: &Limits, steps: &Items<(u64, Step)>, opening: &Flat)
     requires begins { IsOpening limits.now opening.now }
     requires legal { IsLegal limits.now opening.now steps.now }

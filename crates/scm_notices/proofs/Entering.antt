@@ -1,16 +1,19 @@
 -- Services that are entered while plans are settled.
-use Rattle.std.proofs.Common.{ℕ, ◌≡◌, ◌∙◌, ◌<◌, ◌+◌, ◌==◌, ◌&&◌, Bool, true, false, cond, List, [], ◌∷◌, ◌++◌, Option, None, Some, inl, inr}
-use Rattle.std.proofs.Common.{find, ap, sym, refl, eqb-true, eq-eqb, ne_eqb, get_or, arith}
+use Rattle.std.proofs.Common.{ℕ, ◌≡◌, ◌⊎◌, ◌∙◌, ◌<◌, ◌≤◌, ◌+◌, ◌==◌, ◌&&◌, Bool, true, false, cond, List, [], ◌∷◌, ◌++◌, Option, None, Some}
+use Rattle.std.proofs.Common.{inl, inr, find, ap, sym, refl, eqb-true, eq-eqb, ne_eqb, get_or, arith}
 use Rattle.std.specs.Prelude.{All, option_map}
-use Rattle.std.proofs.lemmas.Bool.{cases_Bool}
+use Rattle.std.proofs.lemmas.Bool.{cases_Bool, cases_lt}
 use Rattle.std.proofs.lemmas.List.Elements.{All-head, All-map, All-push, All-tail, All-weaker}
 use Rattle.scm_model.specs.Notices.{Event, event_of_state, noted, notified, pid_in, pid_of, notified_of_move}
+use Rattle.scm_model.specs.Processes.{is_shared, process_of}
 use Rattle.scm_model.specs.Rows.{service_of}
 use Rattle.scm_model.specs.declared.flat.Flat.{Flat}
 use Rattle.scm_model.specs.declared.flat.Process.{Process}
 use Rattle.scm_model.specs.declared.flat.Registration.{Registration}
 use Rattle.scm_model.specs.declared.flat.Service.{Service}
-use Rattle.start_plan.specs.Entered.{is_shared_by, started_if, starting_in, notified_of_start, wanted_process, with_entered}
+use Rattle.start_plan.specs.Entered.{entered_at, is_shared_by, notified_of_start, pid_for, process_for, started_if, starting_in}
+use Rattle.start_plan.specs.Entered.{wanted_process, with_entered}
+use Rattle.start_plan.proofs.Hosts.{IsHost, entered_keeps}
 use Rattle.start_plan.proofs.Rows.{same_number, started_or}
 use Rattle.scm_history.specs.Once.{has_service}
 use Rattle.scm_notices.specs.Events.{Notifies, events_between, events_of_change, events_of_service, notified_between, notified_first}
@@ -65,6 +68,8 @@ pub record Settles (f g : Flat) : Type 0 where
   pub named : All (λ (row : Service). (row.number == 0) ≡ false) g.services
   pub current : All (λ (row : Service). row.process < g.next.process) g.services
   pub listed : All (λ (process : Process). process.number < g.next.process) g.processes
+  pub positive : All (λ (process : Process). 1 ≤ process.number) g.processes
+  pub first : 1 ≤ g.next.process
 
 started_other : (n p : ℕ) (row : Service) → (row.number == n) ≡ false → started_if n p row ≡ row
 started_other n p row other = rw other refl
@@ -79,34 +84,92 @@ option_same : (change : Service → Service) (found : Option Service) → ((row 
 option_same change None same = refl
 option_same change (Some row) same = ap Some (same row refl)
 
-pub entering_settles : (f g : Flat) (n : ℕ) (words : List (List ℕ)) (row : Service) → service_of g n ≡ Some row → row.status.state ≡ 1
-    → Settles f g → Settles f (with_entered g n words)
-entering_settles f g n words row found stopped s = record {
+-- what is known of the process by which a service is started, and of those that are listed then
+record IsListed (g : Flat) (row : Service) (process pid next : ℕ) (processes : List Process) : Type 0 where
+  low : process < next
+  up : g.next.process ≤ next
+  listed : All (λ (p : Process). p.number < next) processes
+  positive : All (λ (p : Process). 1 ≤ p.number) processes
+  own : pid_of processes (starting_in process row) ≡ pid
+  others : (other : Service) → other.process < g.next.process → pid_of processes other ≡ pid_of g.processes other
+
+by_new : (f g : Flat) (n : ℕ) (shared : Bool) (row : Service) → Settles f g
+    → IsListed g row g.next.process 0 (g.next.process + 1) (g.processes ++ wanted_process g.next.process n shared ∷ [])
+by_new f g n shared row s =
+    let next = g.next.process in
+    let new = wanted_process next n shared in
+    record {
+      low = omega arith;
+      up = omega arith;
+      listed = All-push (λ (p : Process). p.number < next + 1) g.processes new
+          (All-weaker (λ (p : Process). p.number < next) (λ (p : Process). p.number < next + 1)
+          (λ p low. omega (arith, low)) g.processes s.listed) (omega arith);
+      positive = All-push (λ (p : Process). 1 ≤ p.number) g.processes new s.positive s.first;
+      own = pid_unlaunched g.processes new (starting_in next row) s.listed refl refl;
+      others = λ other below. pid_before g.processes new other below;
+    }
+
+-- a host is listed, so it has a number
+listed_there : (P : Process → Type 0) (number : ℕ) (rows : List Process) → All P rows
+    → is_shared (find (λ (p : Process). p.number == number) rows) ≡ true
+    → ((p : Process) → P p → p.number ≡ number → ⊥) → ⊥
+listed_there P number [] all shared never = absurd cc
+listed_there P number (p ∷ rows) all shared never =
+    elim (p.number == number) as (λ b. (p.number == number) ≡ b
+    → is_shared (cond b (Some p) (find (λ (q : Process). q.number == number) rows)) ≡ true → ⊥) [
+      | true ↦ λ e h. never p (All-head P p rows all) (eqb-true p.number number e)
+      | false ↦ λ e h. listed_there P number rows (All-tail P p rows all) h never
+    ] refl shared
+
+by_host : (f g : Flat) (n process : ℕ) (row : Service) → IsHost g n process → Settles f g
+    → IsListed g row process (pid_in (process_of g process)) g.next.process g.processes
+by_host f g n process row host s =
+    let some : (process == 0) ≡ false = ne_eqb process 0 (λ zero. absurd (listed_there (λ (p : Process). 1 ≤ p.number) process g.processes
+    s.positive host.shared (λ p first same. omega (arith, zero, first, same)))) in
+    record {
+      low = below (cases_lt process g.next.process);
+      up = omega arith;
+      listed = s.listed;
+      positive = s.positive;
+      own = ap (λ b. cond b 0 (pid_in (process_of g process))) some;
+      others = λ other below. refl;
+    }
+  where
+    below : (process < g.next.process) ⊎ (g.next.process ≤ process) → process < g.next.process
+    below (inl low) = low
+    below (inr high) = absurd (listed_there (λ (p : Process). p.number < g.next.process) process g.processes s.listed host.shared
+        (λ p low same. omega (arith, high, low, same)))
+
+settles_by : (f g : Flat) (n : ℕ) (words : List (List ℕ)) (row : Service) (o : Option ℕ) → service_of g n ≡ Some row
+    → row.status.state ≡ 1 → Settles f g
+    → IsListed g row (process_for g o) (pid_for g o) (entered_at g n words o).next.process (entered_at g n words o).processes
+    → Settles f (entered_at g n words o)
+settles_by f g n words row o found stopped s is_listed = record {
   notifies = told ∙ ap (noted event) s.notifies ∙ maps_twice (notified event) (notified_between f g) f.registrations
       ∙ maps_same (λ r. notified event (notified_between f g r)) (notified_between f after) each f.registrations;
   same = same;
   stopped = still_stopped;
   named = All-map (λ (r : Service). (r.number == 0) ≡ false) (started_if n p) g.services
       (λ k d lt. ap (λ m. m == 0) (same_number n p (get_or g.services k d)) ∙ s.named k d lt);
-  current = All-map (λ (r : Service). r.process < p + 1) (started_if n p) g.services
-      (λ k d lt. started_or (λ (r : Service). r.process < p + 1) n p (get_or g.services k d) (λ e. omega arith)
-      (let low = s.current k d lt in omega (arith, low)));
-  listed = All-push (λ (process : Process). process.number < p + 1) g.processes (wanted_process p n (is_shared_by (service_of g n)))
-      (All-weaker (λ (process : Process). process.number < p) (λ (process : Process). process.number < p + 1)
-      (λ process low. omega (arith, low)) g.processes s.listed) (omega arith);
+  current = All-map (λ (r : Service). r.process < after.next.process) (started_if n p) g.services
+      (λ k d lt. started_or (λ (r : Service). r.process < after.next.process) n p (get_or g.services k d) (λ e. is_listed.low)
+      (let low = s.current k d lt in let up = is_listed.up in omega (arith, low, up)));
+  listed = is_listed.listed;
+  positive = is_listed.positive;
+  first = (let first = s.first in let up = is_listed.up in omega (arith, first, up));
 }
   where
     p : ℕ
-    p = g.next.process
+    p = process_for g o
 
     after : Flat
-    after = with_entered g n words
+    after = entered_at g n words o
 
     new : Service
     new = starting_in p row
 
     event : Event
-    event = event_of_state 0 new
+    event = event_of_state (pid_for g o) new
 
     own : (row.number == n) ≡ true
     own = found_passes (λ (r : Service). r.number == n) row g.services found
@@ -117,8 +180,8 @@ entering_settles f g n words row found stopped s = record {
 
     told : after.registrations ≡ noted event g.registrations
     told =
-        ap (λ (o : Option Service). notified_of_start n p o g.registrations) found
-        ∙ ap (λ (r : Service). notified_of_move 0 row r g.registrations) (started_own n p row own stopped)
+        ap (λ (there : Option Service). notified_of_start n p (pid_for g o) there g.registrations) found
+        ∙ ap (λ (r : Service). notified_of_move (pid_for g o) row r g.registrations) (started_own n p row own stopped)
         ∙ ap (λ b. cond b g.registrations (noted event g.registrations))
         (ne_eqb row.status.state 2 (λ two. absurd (omega (arith, two, stopped))))
 
@@ -146,8 +209,7 @@ entering_settles f g n words row found stopped s = record {
 
     own_events : events_of_change after.processes row new ≡ event ∷ []
     own_events =
-        let pid : pid_of after.processes new ≡ 0 = pid_unlaunched g.processes
-        (wanted_process p n (is_shared_by (service_of g n))) new s.listed refl refl in
+        let pid : pid_of after.processes new ≡ pid_for g o = is_listed.own in
         let moves : (row.status.state == 2) ≡ false = ne_eqb row.status.state 2 (λ two. absurd (omega (arith, two, stopped))) in
         let unmarked : was_marked row new ≡ false = (unmoved row).1 in
         rw (moves, unmarked, pid) refl
@@ -192,8 +254,8 @@ entering_settles f g n words row found stopped s = record {
             by_old (Some x) None is' = rw is' refl
             by_old (Some x) (Some y) is' =
                 let pid : pid_of after.processes y ≡ pid_of g.processes y =
-                pid_before g.processes (wanted_process p n (is_shared_by (service_of g n))) y
-                (found_has (λ (z : Service). z.process < p) (λ (z : Service). z.number == m) y g.services s.current is') in
+                is_listed.others y
+                (found_has (λ (z : Service). z.process < g.next.process) (λ (z : Service). z.number == m) y g.services s.current is') in
                 rw (is', pid) refl
 
     each : (r : Registration) → notified event (notified_between f g r) ≡ notified_between f after r
@@ -201,3 +263,10 @@ entering_settles f g n words row found stopped s = record {
       | inl same_one ↦ at_own r.service r (eqb-true r.service n same_one)
       | inr other ↦ unheard r (events_between f g r.service) other ∙ ap (λ es. notified_first es r) (elsewhere r.service other)
     ]
+
+pub entering_settles : (f g : Flat) (n : ℕ) (words : List (List ℕ)) (row : Service) → service_of g n ≡ Some row → row.status.state ≡ 1
+    → Settles f g → Settles f (with_entered g n words)
+entering_settles f g n words row found stopped s =
+    entered_keeps (Settles f) g n words
+    (λ none. settles_by f g n words row None found stopped s (by_new f g n (is_shared_by (service_of g n)) row s))
+    (λ process host. settles_by f g n words row (Some process) found stopped s (by_host f g n process row host s))

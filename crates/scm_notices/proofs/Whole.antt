@@ -37,6 +37,7 @@ settling l h = record {
   enters = λ g plan n words entry s. entering_settles h g n words entry.row entry.found entry.stopped s;
   tries = λ g plan n entry q. tt;
   drops = λ plan n rest code q. tt;
+  meets = λ plan services q. tt;
 }
 
 unsettled : (h : Flat) → Sound h → Settles h h
@@ -48,6 +49,8 @@ unsettled h s = record {
       (λ row first. ne_eqb row.number 0 (λ none. absurd (omega (arith, none, first)))) h.services s.services.numbered.positive;
   current = s.services.current;
   listed = s.processes.numbered.below;
+  positive = s.processes.numbered.positive;
+  first = s.services.first_process;
 }
 
 pub of_settling : (l : Limits) (h : Flat) → Sound h → Notifies h (settled l h)

@@ -1,7 +1,7 @@
 -- What the parts of steps make owed: starts, controls and decisions.
-use Rattle.std.proofs.Common.{ℕ, ◌≡◌, ◌≤◌, ◌+◌, ◌*◌, ◌==◌, ◌||◌, ◌&&◌, Bool, true, false, cond, List, [], ◌∷◌, Some, length, map}
-use Rattle.std.proofs.Common.{find, eqb, ap, refl, sym, arith, eq-eqb, eqb-true, ◌∙◌}
-use Rattle.std.specs.Prelude.{All, is_some, is_none}
+use Rattle.std.proofs.Common.{ℕ, ◌≡◌, ◌≤◌, ◌+◌, ◌*◌, ◌==◌, ◌||◌, Bool, true, false, cond, List, [], ◌∷◌, Some, length, map, find, eqb, ap}
+use Rattle.std.proofs.Common.{refl, sym, arith, eq-eqb, eqb-true, ◌∙◌}
+use Rattle.std.specs.Prelude.{All, is_some}
 use Rattle.std.specs.List.{list_any}
 use Rattle.std.proofs.lemmas.List.Elements.{All-weaker}
 use Rattle.std.proofs.lemmas.List.{length-map}
@@ -19,7 +19,7 @@ use Rattle.scm_runs.proofs.Processes.{IsOfControls}
 use Rattle.scm_rules.specs.Owed.{owed, owed_by_process}
 use Rattle.start_plan.specs.Owed.{owed_by_plan, owed_to, total, untried}
 use Rattle.scm_owed.proofs.Fewer.{few_in_order}
-use Rattle.scm_owed.proofs.Settling.{kept_owes, total_more}
+use Rattle.scm_owed.proofs.Settling.{all_decided, kept_owes, total_more}
 use Rattle.scm_rules.specs.Ticks.{can_start, with_restart}
 use Rattle.scm_runs.proofs.Lists.{has_own, is_some-find}
 use Rattle.scm_text.specs.Numbers.{has}
@@ -87,20 +87,6 @@ controls_owe change only (row ∷ rows) =
     omega (arith, one, rest)
 
 -- ## Decisions
-
--- a decision makes nothing owed
-decided_owes : (test : Plan → Bool) (code : ℕ) (plan : Plan) → owed_by_plan (decided_if test code plan) ≤ owed_by_plan plan
-decided_owes test code plan =
-    let rest = 3 * untried plan.tried plan.entries in
-    elim (is_none plan.code && test plan) as (λ b. owed_to plan.caller + cond
-    (is_some (cond b (Some code) plan.code)) 0 rest ≤ owed_to plan.caller + cond (is_some plan.code) 0 rest)
-    [ true ↦ omega arith | false ↦ omega arith ]
-
-all_decided : (test : Plan → Bool) (code : ℕ) (plans : List Plan) → total owed_by_plan
-    (map (decided_if test code) plans) ≤ total owed_by_plan plans
-all_decided test code [] = omega arith
-all_decided test code (plan ∷ plans) = let one = decided_owes test code plan in let rest = all_decided test code plans in
-    omega (arith, one, rest)
 
 pub decision_owes : (test : Plan → Bool) (code : ℕ) (plans : List Plan)
     → total owed_by_plan (decided_in test code plans) ≤ total owed_by_plan plans

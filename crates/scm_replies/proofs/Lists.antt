@@ -93,7 +93,3 @@ dues_before n plans plan code rows due none decided deadline stay =
 
 pub stays_by : (plan : Plan) → (plan.caller == 0) ≡ false → stays plan ≡ true
 stays_by plan somebody = elim (is_some plan.code) as (λ b. not (b && plan.caller == 0) ≡ true) [ true ↦ rw somebody refl | false ↦ refl ]
-
-pub filter_last : {X : Type 0} (p : X → Bool) (xs : List X) (x : X) → filter p xs ≡ xs → p x ≡ true
-    → filter p (xs ++ x ∷ []) ≡ xs ++ x ∷ []
-filter_last p xs x stay is = filter-append p xs (x ∷ []) ∙ ap (λ ys. ys ++ filter p (x ∷ [])) stay ∙ ap (λ b. xs ++ cond b (x ∷ []) []) is

@@ -23,7 +23,8 @@ use Rattle.scm_model.specs.Purge.{leaves}
 use Rattle.scm_model.specs.Rows.{held_service}
 use Rattle.scm_model.proofs.Found.{found_keeps}
 use Rattle.service_listing.specs.Placed.{HasUuid}
-use Rattle.start_plan.specs.Entered.{started_if}
+use Rattle.start_plan.specs.Entered.{process_for, started_if}
+use Rattle.start_plan.specs.Hosts.{host}
 use Rattle.start_plan.specs.Settle.{settled}
 use Rattle.start_plan.proofs.Enterings.{all_units}
 use Rattle.start_plan.proofs.Keeps.{keeps_all}
@@ -155,9 +156,11 @@ effect_have l f moment step given all = all
 
 settled_have : (l : Limits) (f : Flat) → AllHave f → AllHave (settled l f)
 settled_have l f all = (keeps_all l AllHave (λ plan. Unit {0}) (record {
-  enters = λ g plan n words entry has. mild_have (started_if n g.next.process) g.services (starts_mildly n g.next.process) has;
+  enters = λ g plan n words entry has. mild_have (started_if n (process_for g (host g n))) g.services
+      (starts_mildly n (process_for g (host g n))) has;
   tries = λ g plan n entry q. tt;
   drops = λ plan n rest code q. tt;
+  meets = λ plan services q. tt;
 }) f f.plans all (all_units f.plans)).flat
 
 step_have : (l : Limits) (f : Flat) (moment : ℕ) (step : Step) → IsWithUuids step → AllHave f → AllHave (step_of l f moment step).flat

@@ -1,8 +1,9 @@
 -- What calls return, and what a refusal leaves as it is.
-use Rattle.std.specs.Prelude.{ℕ, ◌≡◌, ◌≢◌, ◌⊎◌, ◌+◌, true, Option, None, Some}
+use Rattle.std.specs.Prelude.{ℕ, ◌≡◌, ◌≢◌, ◌⊎◌, ◌==◌, ◌+◌, true, false, [], Option, None, Some}
 use Rattle.std.specs.List.{list_any}
 use Rattle.scm_model.specs.declared.flat.Flat.{Flat}
 use Rattle.scm_model.specs.declared.flat.Limits.{Limits}
+use Rattle.scm_model.specs.declared.flat.Service.{Service}
 use Rattle.scm_model.specs.declared.calls.Reply.{Reply}
 use Rattle.scm_model.specs.declared.calls.Reply.TheVariants as reply
 use Rattle.scm_model.specs.declared.calls.Request.{Request}
@@ -13,7 +14,10 @@ use Rattle.scm_model.specs.declared.steps.Kept.{Kept}
 use Rattle.scm_model.specs.declared.steps.Step.{Step}
 use Rattle.scm_model.specs.declared.steps.Step.TheVariants.{Call, EndStart, Raised}
 use Rattle.scm_model.specs.Changes.{with_moment}
+use Rattle.scm_model.specs.Rows.{held_service}
 use Rattle.start_plan.specs.Decided.{code_of}
+use Rattle.start_plan.specs.Entered.{with_entered}
+use Rattle.start_plan.specs.Hosts.{enters_launched}
 use Rattle.start_plan.specs.Settle.{is_undecided, settled}
 use Rattle.scm_model.specs.Entries.{Entry}
 use Rattle.scm_rules.specs.Raise.{raise_verdict}
@@ -65,25 +69,38 @@ pub record Waits (before : Flat) (told : Answer) (after : Flat) : Type 0 where
 abbrev pub with_plan_spent : Flat → Flat
 with_plan_spent f = record f { next = record f.next { plan = f.next.plan + 1; due = f.next.due + 1 } }
 
--- a start returns what its plan is decided to be as it is settled, and nothing changes but the moment and the numbers of the plan and
--- its deadline
-pub record IsDecided (l : Limits) (before : Flat) (moment : ℕ) (step : Step) (told : Answer) (after : Flat) : Type 0 where
+-- the target of a start entered its host, which was launched, and nothing else changes but the moment and the numbers of the plan and its
+-- deadline
+pub record EntersHost (before : Flat) (moment : ℕ) (target : Service) (after : Flat) : Type 0 where
+  pub launched : enters_launched before target.number ≡ true
+  pub same : after ≡ with_plan_spent (with_entered (with_moment before moment) target.number [])
+
+abbrev pub TargetEnters : Flat → ℕ → Option Service → Flat → Type 0
+TargetEnters before moment None after = ⊥
+TargetEnters before moment (Some target) after = EntersHost before moment target after
+
+-- a start returns what its plan is decided to be as it is settled: 0 if its target enters a launched host; with another code nothing
+-- changes but the moment and the numbers of the plan and its deadline
+pub record IsDecided (l : Limits) (before : Flat) (moment caller handle : ℕ) (step : Step) (told : Answer) (after : Flat) : Type 0 where
   pub code : ℕ
   pub decided : code_of (settled l (effect_of l (with_moment before moment) step).flat).plans before.next.plan ≡ Some code
   pub reply : told ≡ answer.Reply (reply.Code code)
-  pub same : after ≡ with_plan_spent (with_moment before moment)
+  pub entered : code ≡ 0 → TargetEnters before moment (held_service before caller handle) after
+  pub same : (code == 0) ≡ false → after ≡ with_plan_spent (with_moment before moment)
 
 -- a call that isn't refused returns 0, but a start waits or returns what was decided
-abbrev pub Passes : Limits → Flat → ℕ → Step → Request → Answer → Flat → Type 0
-Passes l before moment step (request.Start handle words) told after = Waits before told after ⊎ IsDecided l before moment step told after
-Passes l before moment step asked told after = code_told told ≡ Some 0
+abbrev pub Passes : Limits → Flat → ℕ → ℕ → Step → Request → Answer → Flat → Type 0
+Passes l before moment caller step (request.Start handle words) told after =
+    Waits before told after ⊎ IsDecided l before moment caller handle step told after
+Passes l before moment caller step asked told after = code_told told ≡ Some 0
 
 -- a call results in its verdict in the state before
 pub record ComesTo (l : Limits) (before : Flat) (moment caller : ℕ) (asked : Request) (append : Kept) (told : Answer)
     (after : Flat) : Type 0 where
   pub refused : verdict l before caller asked append ≢ 0 → IsRefused before moment caller asked
       (verdict l before caller asked append) told after
-  pub passes : verdict l before caller asked append ≡ 0 → Passes l before moment (Call caller asked append) asked told after
+  pub passes : verdict l before caller asked append ≡ 0
+      → Passes l before moment caller (Call caller asked append) asked told after
 
 -- ## Steps
 

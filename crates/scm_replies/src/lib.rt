@@ -14,8 +14,9 @@ use scm_text::Items;
 /// The law of replies: in each step the code of a reply is the call's verdict in the state before,
 /// or what the start's plan was decided to be; a start that isn't decided yet returns its plan, and
 /// no step but a call, a raise and the end of a start has a reply. A call or a raise that is
-/// refused changes nothing but the moment, and a start that its own settling decides nothing but
-/// that and the next numbers of plans and of what becomes due.
+/// refused changes nothing but the moment. A start that its own settling decides changes nothing
+/// but that and the next numbers of plans and of what becomes due, unless it returns 0: then its
+/// service was entered into a process that was launched before, and nothing else changes.
 pub fn law_of_replies(limits: &Limits, steps: &Items<(u64, Step)>, opening: &Flat)
     requires begins { IsOpening limits.now opening.now }
     requires legal { IsLegal limits.now opening.now steps.now }

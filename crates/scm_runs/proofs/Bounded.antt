@@ -21,6 +21,7 @@ use Rattle.scm_model.specs.Changes.{with_moment}
 use Rattle.scm_model.specs.Rows.{held_service}
 use Rattle.start_plan.specs.Settle.{is_due_still, settle_all, settled, stays}
 use Rattle.start_plan.proofs.Enterings.{all_units}
+use Rattle.start_plan.proofs.Hosts.{entered_keeps}
 use Rattle.start_plan.proofs.Keeps.{Keeps as Lasts, keeps_all}
 use Rattle.start_triggers.specs.Order.{auto_rows, automatic_rows, in_order, is_automatic, insert, starts_before}
 use Rattle.scm_rules.specs.Due.{is_due_of, of_others, with_due}
@@ -302,19 +303,22 @@ bounded_effect l f moment step s b = record { commands = b.commands; once = b.on
 
 entering_bounded : (l : Limits) → Lasts l IsBounded (λ plan. Unit {0})
 entering_bounded l = record {
-  enters = λ f plan service words entry b. record {
-    commands = All-push HasShortWord f.wanted _ b.commands (λ is. absurd cc);
-    once = b.once;
-  };
+  enters = λ f plan service words entry b. entered_keeps IsBounded f service words
+      (λ none. record { commands = All-push HasShortWord f.wanted _ b.commands (λ is. absurd cc); once = b.once })
+      (λ process is. record { commands = b.commands; once = b.once });
   tries = λ f plan service entry q. tt;
   drops = λ plan service rest code q. tt;
+  meets = λ plan services q. tt;
 }
 
 settled_bounded : (l : Limits) (f : Flat) → IsBounded f → IsBounded (settled l f)
 settled_bounded l f b =
     let ends = settle_all l f f.plans in
     let all = (keeps_all l IsBounded (λ plan. Unit {0}) (entering_bounded l) f f.plans b (all_units f.plans)).flat in
-    record { commands = all.commands; once = fewer_once (λ (due : Due). is_due_still (filter stays ends.1) due.kind) ends.0.dues all.once }
+    record {
+      commands = all.commands;
+      once = fewer_once (λ (due : Due). is_due_still (filter stays ends.plans) due.kind) ends.flat.dues all.once;
+    }
 
 pub bounded_step : (l : Limits) (f : Flat) (moment : ℕ) (step : Step) → Sound f → IsBounded f → IsBounded (step_of l f moment step).flat
 bounded_step l f moment step s b =

@@ -20,7 +20,8 @@ use Rattle.scm_rules.specs.Steps.{at_moment, effect_of, finished, left_by, step_
 use Rattle.scm_rules.specs.Valid.{IsValid}
 use Rattle.scm_runs.specs.Leaving.{before_leaving}
 use Rattle.scm_runs.proofs.Along.{Keeps}
-use Rattle.scm_runs.proofs.Calls.{keeps, of_effect}
+use Rattle.scm_runs.proofs.Calls.{before_sound, keeps, of_effect}
+use Rattle.scm_runs.proofs.Hosted.{have_none}
 use Rattle.scm_runs.proofs.Deadlines.{AreStill, ended_still}
 use Rattle.scm_runs.proofs.Opened.{opened_stay}
 use Rattle.scm_runs.proofs.Bounded.{IsBounded, bounded_opened, bounded_step}
@@ -47,8 +48,8 @@ settled_tidy : (l : Limits) (f : Flat) → AreTidy (settled l f)
 settled_tidy l f =
     let ends = settle_all l f f.plans in
     record {
-      still = filter_passes (λ (due : Due). is_due_still (settled l f).plans due.kind) ends.0.dues;
-      stay = filter_passes stays ends.1;
+      still = filter_passes (λ (due : Due). is_due_still (settled l f).plans due.kind) ends.flat.dues;
+      stay = filter_passes stays ends.plans;
     }
 
 left_tidy : (g : Flat) (plan : ℕ) (code : Option ℕ) → code_of g.plans plan ≡ code → Sound g → AreTidy g → AreTidy (left_by g plan code)
@@ -119,7 +120,9 @@ clear_keeps l f e c ok =
     let done = effect_of l (at_moment f e.0 e.1) e.1 in
     let tidy = finished_tidy (settled l done.flat) done.answer (settles l done.flat (of_effect l f e.0 e.1 c.sound ok))
     (settled_tidy l done.flat) in
-    let rests = purged_rest l (before_leaving l f e) (finished_rest l (settled l done.flat) done.answer (settled_rest l done.flat)) in
+    let before = before_leaving l f e in
+    let rests = purged_rest l before (have_none before (before_sound l f e.0 e.1 c.sound ok))
+    (finished_rest l (settled l done.flat) done.answer (settled_rest l done.flat)) in
     record {
       sound = keeps l f e c.sound ok;
       purged = purged_twice (before_leaving l f e);

@@ -8,6 +8,7 @@ use Rattle.std.proofs.lemmas.List.Folds.{list_any_none}
 use Rattle.std.proofs.lemmas.List.Elements.{All-filter, All-map, All-weaker, filter-append}
 use Rattle.scm_model.specs.declared.flat.Flat.{Flat}
 use Rattle.scm_model.specs.declared.flat.Limits.{Limits}
+use Rattle.scm_model.specs.declared.flat.Process.{Process}
 use Rattle.scm_model.specs.declared.flat.Service.{Service}
 use Rattle.scm_model.specs.declared.calls.NewService.{NewService}
 use Rattle.scm_model.specs.declared.calls.Request.TheVariants as request
@@ -115,42 +116,46 @@ abbrev asked_for : Flat → NewService → Service
 asked_for f new = new_service f.next.service (created_config f new) (new_status new.kind)
 
 -- a service that was just added isn't entered
-still_asked : (next bound : ℕ) (row after : Service) → bound ≤ row.number → IsSettled next bound row after → after ≡ row
-still_asked next bound row after up (inl same) = same
-still_asked next bound row after up (inr entered) = absurd (let small = entered.number in omega (arith, up, small))
+still_asked : (next bound : ℕ) (listed : List Process) (row after : Service) → bound ≤ row.number → IsSettled next bound listed row after
+    → after ≡ row
+still_asked next bound listed row after up (inl same) = same
+still_asked next bound listed row after up (inr entered) = absurd (let small = entered.number in omega (arith, up, small))
 
-adds_one : (f : Flat) (new : NewService) (next : ℕ) (g : Flat) → Sound f
-    → AreSettled next f.next.service (f.services ++ asked_for f new ∷ []) g.services → AddsOne f new (purged g)
-adds_one f new next g s each =
+adds_one : (f : Flat) (new : NewService) (next : ℕ) (listed : List Process) (g : Flat) → Sound f
+    → AreSettled next f.next.service listed (f.services ++ asked_for f new ∷ []) g.services → AddsOne f new (purged g)
+adds_one f new next listed g s each =
     let row = asked_for f new in
-    let ends = last_of (IsSettled next f.next.service) f.services row g.services each in
+    let ends = last_of (IsSettled next f.next.service listed) f.services row g.services each in
     let stays = λ (r : Service). not (leaves g.handles r) in
     record {
       row = row;
       alone = ap (λ rows. filter (is_new f) (filter stays rows)) (ends.split
-          ∙ ap (λ r. ends.front ++ r ∷ []) (still_asked next f.next.service row ends.last (omega arith) ends.become))
-          ∙ one_stays f stays ends.front row s (settled_numbers next f.next.service f.services ends.front ends.same) refl refl;
+          ∙ ap (λ r. ends.front ++ r ∷ []) (still_asked next f.next.service listed row ends.last (omega arith) ends.become))
+          ∙ one_stays f stays ends.front row s (settled_numbers next f.next.service listed f.services ends.front ends.same) refl refl;
       asked = record { is = refl; name = refl; state = refl; code = refl };
     }
 
-creates : (l : Limits) (f : Flat) (moment caller : ℕ) (new : NewService) (append : Kept) (next : ℕ) → Sound f
-    → AreSettled next f.next.service (call_of l (with_moment f moment) caller (request.Create new) append).flat.services
+creates : (l : Limits) (f : Flat) (moment caller : ℕ) (new : NewService) (append : Kept) (next : ℕ) (listed : List Process) → Sound f
+    → AreSettled next f.next.service listed (call_of l (with_moment f moment) caller (request.Create new) append).flat.services
     (settled l (call_of l (with_moment f moment) caller (request.Create new) append).flat).services
     → IsCreation f new (answer.Reply (call_of l (with_moment f moment) caller (request.Create new) append).reply)
     (purged (settled l (call_of l (with_moment f moment) caller (request.Create new) append).flat))
-creates l f moment caller new append next s =
+creates l f moment caller new append next listed s =
     let g = with_moment f moment in
     let asked = request.Create new in
     let code = verdict l g caller asked append in
     let stays = λ (h : Flat) (r : Service). not (leaves h.handles r) in
-    by_verdict (λ r. AreSettled next f.next.service r.flat.services (settled l r.flat).services
+    by_verdict (λ r. AreSettled next f.next.service listed r.flat.services (settled l r.flat).services
     → IsCreation f new (answer.Reply r.reply) (purged (settled l r.flat))) code (told_refused g caller asked code) g
     (done_of l g caller asked)
-    (λ e each. record { adds = λ passed. adds_one f new next (settled l (done_of l g caller asked).flat) s each; refused = λ h. absurd cc })
+    (λ e each. record {
+      adds = λ passed. adds_one f new next listed (settled l (done_of l g caller asked).flat) s each;
+      refused = λ h. absurd cc;
+    })
     (λ e each. record {
       adds = λ passed. absurd cc;
       refused = λ h. none_stay f (stays (settled l g)) (settled l g).services
-          (settled_numbers next f.next.service f.services (settled l g).services each);
+          (settled_numbers next f.next.service listed f.services (settled l g).services each);
     })
 
 -- ## Steps
@@ -165,7 +170,8 @@ none_added l f e s ok none =
 
 of_step : (l : Limits) (f : Flat) (moment : ℕ) (step : Step) → Sound f → IsTrue (may l f moment step)
     → AddsAsked f step (step_of l f moment step).answer (step_of l f moment step).flat
-of_step l f moment (Call caller (request.Create new) append) s ok = creates l f moment caller new append f.next.process s
+of_step l f moment (Call caller (request.Create new) append) s ok = creates l f moment caller new append f.next.process
+    (call_of l (with_moment f moment) caller (request.Create new) append).flat.processes s
     (step_settled l f moment (Call caller (request.Create new) append) s ok)
 of_step l f moment step s ok = none_added l f (moment, step) s ok refl
 

@@ -11,7 +11,7 @@ use Rattle.scm_model.specs.declared.flat.DueKind.TheVariants as dues
 use Rattle.scm_model.specs.declared.flat.Flat.{Flat}
 use Rattle.scm_model.specs.declared.flat.Limits.{Limits}
 use Rattle.scm_model.specs.declared.flat.Plan.{Plan}
-use Rattle.start_plan.specs.Decided.{decided_if, decided_in, is_numbered, without_plan}
+use Rattle.start_plan.specs.Decided.{aims_among, decided_if, decided_in, is_numbered, without_plan}
 use Rattle.start_plan.specs.Settle.{is_due_still, is_undecided, settle_all, stays}
 use Rattle.start_plan.proofs.Keeps.{Keeps, all_filter, keeps_all}
 use Rattle.scm_rules.specs.Valid.{HasDeadline, is_deadline_of}
@@ -28,7 +28,7 @@ Undecided F plan = is_none plan.code ≡ true → F plan.number
 
 one_decided : (F : ℕ → Type 0) (test : Plan → Bool) (code : ℕ) (plan : Plan) → Undecided F plan → Undecided F (decided_if test code plan)
 one_decided F test code plan fact =
-    elim (is_none plan.code && test plan) as (λ b. is_none (cond b (Some code) plan.code) ≡ true → F plan.number) [
+    elim (test plan && is_none plan.code) as (λ b. is_none (cond b (Some code) plan.code) ≡ true → F plan.number) [
       | true ↦ λ h. absurd cc
       | false ↦ fact
     ]
@@ -57,11 +57,12 @@ lasts l F = record {
         | true ↦ λ h. absurd cc
         | false ↦ fact
       ];
+  meets = λ plan services fact. one_decided F (aims_among services) 0 plan fact;
 }
 
 pub settled : (l : Limits) (F : ℕ → Type 0) (f : Flat) (plans : List Plan) → AllByRecursion (Undecided F) plans
-    → AllByRecursion (Undecided F) (filter stays (settle_all l f plans).1)
-settled l F f plans all = all_filter (Undecided F) stays (settle_all l f plans).1
+    → AllByRecursion (Undecided F) (filter stays (settle_all l f plans).plans)
+settled l F f plans all = all_filter (Undecided F) stays (settle_all l f plans).plans
     (keeps_all l (λ f. Unit {0}) (Undecided F) (lasts l F) f plans tt all).plans
 
 -- ## Deadlines
@@ -189,15 +190,12 @@ rows_fewer next q plans rows spared s = record { below = below_filter next q row
 spent_plan : (F : ℕ → Type 0) (number : ℕ) (plan : Plan) → ((n : ℕ) → (number == n) ≡ false → F n)
     → Undecided F (decided_if (is_numbered number) 1053 plan)
 spent_plan F number plan other =
-    elim (is_none plan.code) as (λ b. is_none plan.code ≡ b → is_none (cond (b && plan.number == number) (Some 1053) plan.code) ≡ true
+    elim (plan.number == number) as (λ c. (plan.number == number) ≡ c → is_none (cond (c && is_none plan.code) (Some 1053) plan.code) ≡ true
     → F plan.number) [
-      | true ↦ λ e. elim (plan.number == number) as (λ c. (plan.number == number) ≡ c → is_none (cond c (Some 1053) plan.code) ≡ true
-          → F plan.number) [
-            | true ↦ λ g h. absurd cc
-            | false ↦ λ g h. other plan.number
-                (ne_eqb number plan.number (λ same. absurd (let t = eq-eqb plan.number number (sym same) in cc)))
-          ] refl
-      | false ↦ λ e h. absurd cc
+      | true ↦ λ g. elim (is_none plan.code) as (λ b. is_none plan.code ≡ b → is_none (cond b (Some 1053) plan.code) ≡ true → F plan.number)
+          [ true ↦ λ e h. absurd cc | false ↦ λ e h. absurd cc ] refl
+      | false ↦ λ g h. other plan.number
+          (ne_eqb number plan.number (λ same. absurd (let t = eq-eqb plan.number number (sym same) in cc)))
     ] refl
 
 spent_plans : (F : ℕ → Type 0) (number : ℕ) (plans : List Plan) → ((n : ℕ) → (number == n) ≡ false → F n)
@@ -334,10 +332,10 @@ spares_all plans number [] there = tt
 spares_all plans number (due ∷ rows) there = ((λ is. spares_one plans number due.kind there is), spares_all plans number rows there)
 
 pub settled_deadlines : (l : Limits) (f : Flat) (next : ℕ) (plans : List Plan) (rows : List Due) → AreDeadlines next plans rows
-    → AreDeadlines next (filter stays (settle_all l f plans).1) (filter
-    (λ (due : Due). is_due_still (filter stays (settle_all l f plans).1) due.kind) rows)
+    → AreDeadlines next (filter stays (settle_all l f plans).plans) (filter
+    (λ (due : Due). is_due_still (filter stays (settle_all l f plans).plans) due.kind) rows)
 settled_deadlines l f next plans rows s =
-    let ends = filter stays (settle_all l f plans).1 in
+    let ends = filter stays (settle_all l f plans).plans in
     rows_fewer next (λ (due : Due). is_due_still ends due.kind) ends rows
     (all_weaker (Undecided (IsAmong ends)) (Undecided (Spares (λ (due : Due). is_due_still ends due.kind) rows))
     (λ plan there undecided. spares_all ends plan.number rows (there undecided)) ends (among ends))

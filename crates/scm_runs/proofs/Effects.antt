@@ -1,12 +1,12 @@
 -- What effects leave of numbers and plans, and what settling then makes of services.
-use Rattle.std.proofs.Common.{ℕ, ◌≡◌, ◌<◌, ◌≤◌, IsTrue, List, [], ◌∷◌, refl, subst, arith, inl, inr}
-use Rattle.std.specs.Prelude.{All}
+use Rattle.std.proofs.Common.{ℕ, ◌≡◌, ◌⊎◌, ◌≤◌, true, IsTrue, List, [], ◌∷◌, refl, subst, arith, inl, inr}
 use Rattle.scm_model.specs.declared.flat.Flat.{Flat}
 use Rattle.scm_model.specs.declared.flat.Limits.{Limits}
 use Rattle.scm_model.specs.declared.calls.Request.{Request}
 use Rattle.scm_model.specs.declared.calls.Request.TheVariants as request
 use Rattle.scm_model.specs.declared.steps.Kept.{Kept}
 use Rattle.scm_model.specs.declared.steps.Step.{Step}
+use Rattle.scm_model.specs.declared.flat.Process.{Process}
 use Rattle.scm_model.specs.declared.flat.Service.{Service}
 use Rattle.scm_model.specs.declared.steps.Step.TheVariants.{Call, Report, Ended, Tick, Raised}
 use Rattle.scm_model.specs.Rows.{held_service, is_caller}
@@ -18,6 +18,7 @@ use Rattle.scm_rules.specs.Reports.{reporting}
 use Rattle.scm_rules.specs.Raise.{raised}
 use Rattle.scm_rules.specs.Steps.{at_moment, effect_of, may}
 use Rattle.scm_rules.specs.Ticks.{ticked}
+use Rattle.scm_rules.specs.Valid.{has_process}
 use Rattle.scm_rules.specs.Verdicts.{call_of, done_of, told_refused, verdict}
 use Rattle.scm_runs.proofs.Calls.{by_verdict, of_done, of_effect}
 use Rattle.scm_runs.proofs.Plans.{ArePlans}
@@ -68,28 +69,6 @@ process_up l f moment (Raised caller subtype) =
     (record { starts = λ g row there can up. up; stops = λ g row action there is stops gets up. up }) (with_moment f moment) caller
     (omega arith)
 process_up l f moment step = omega arith
-
-low_rows : (f g : Flat) → Sound g → g.next.process ≡ f.next.process → All (λ (row : Service). row.process < f.next.process) g.services
-low_rows f g s e = subst (λ n. All (λ (row : Service). row.process < n) g.services) e s.services.current
-
--- and gives none to a service
-pub processes_low : (l : Limits) (f : Flat) (moment : ℕ) (step : Step) → Sound f → IsTrue (may l f moment step)
-    → All (λ (row : Service). row.process < f.next.process) (effect_of l (at_moment f moment step) step).flat.services
-processes_low l f moment (Call caller asked append) s ok = low_rows f _ (of_effect l f moment (Call caller asked append) s ok)
-    (process_call l (with_moment f moment) caller asked append)
-processes_low l f moment (Report process service status) s ok =
-    low_rows f _ (of_effect l f moment (Report process service status) s ok)
-    (failing_apart (λ (g : Flat). g.next.process ≡ f.next.process) (failed_by status (reporting (with_moment f moment) process service)) _
-    refl)
-processes_low l f moment (Ended process) s ok =
-    low_rows f _ (of_effect l f moment (Ended process) s ok) (all_failing_apart (λ (g : Flat). g.next.process ≡ f.next.process)
-    (currents process f.services) _ refl)
-processes_low l f moment Tick s ok = ticked_apart (λ (g : Flat). All (λ (row : Service). row.process < f.next.process) g.services) l
-    (with_moment f moment) s.services.current
-processes_low l f moment (Raised caller subtype) s ok =
-    raised_apart (λ (g : Flat). All (λ (row : Service). row.process < f.next.process) g.services) l
-    (with_moment f moment) caller subtype s.services.current
-processes_low l f moment step s ok = low_rows f _ (of_effect l f moment step s ok) refl
 
 -- ## Entries of plans
 
@@ -143,27 +122,30 @@ old_plans l f moment step s ok = (of_effect l f moment step s ok).plans
 -- ## Services
 
 -- a lower number of processes
-lower : (low next bound : ℕ) (befores afters : List Service) → low ≤ next → AreSettled next bound befores afters
-    → AreSettled low bound befores afters
-lower low next bound [] [] up each = tt
-lower low next bound [] (after ∷ afters) up each = each
-lower low next bound (before ∷ befores) [] up each = each
-lower low next bound (before ∷ befores) (after ∷ afters) up each = (one_lower each.0, lower low next bound befores afters up each.1)
+lower : (low next bound : ℕ) (listed : List Process) (befores afters : List Service) → low ≤ next
+    → AreSettled next bound listed befores afters → AreSettled low bound listed befores afters
+lower low next bound listed [] [] up each = tt
+lower low next bound listed [] (after ∷ afters) up each = each
+lower low next bound listed (before ∷ befores) [] up each = each
+lower low next bound listed (before ∷ befores) (after ∷ afters) up each =
+    (one_lower each.0, lower low next bound listed befores afters up each.1)
   where
-    one_lower : IsSettled next bound before after → IsSettled low bound before after
-    one_lower (inl same) = inl same
-    one_lower (inr is) = inr (record {
-      entered = is.entered;
-      process = (let top = is.process in omega (arith, top, up));
-      number = is.number;
-    })
+    by : (next ≤ after.process) ⊎ (has_process listed after.process ≡ true)
+        → (low ≤ after.process) ⊎ (has_process listed after.process ≡ true)
+    by (inl top) = inl (omega (arith, top, up))
+    by (inr there) = inr there
 
--- settling enters services that stood before the step, with new processes
+    one_lower : IsSettled next bound listed before after → IsSettled low bound listed before after
+    one_lower (inl same) = inl same
+    one_lower (inr is) = inr (record { entered = is.entered; process = by is.process; number = is.number; none = is.none })
+
+-- settling enters services that stood before the step, with new processes, or with some that are listed
 pub step_settled : (l : Limits) (f : Flat) (moment : ℕ) (step : Step) → Sound f → IsTrue (may l f moment step)
-    → AreSettled f.next.process f.next.service (effect_of l (at_moment f moment step) step).flat.services
+    → AreSettled f.next.process f.next.service (effect_of l (at_moment f moment step) step).flat.processes
+    (effect_of l (at_moment f moment step) step).flat.services
     (settled l (effect_of l (at_moment f moment step) step).flat).services
 step_settled l f moment step s ok =
     let g = (effect_of l (at_moment f moment step) step).flat in
-    lower f.next.process g.next.process f.next.service g.services (settled l g).services (process_up l f moment step)
+    lower f.next.process g.next.process f.next.service g.processes g.services (settled l g).services (process_up l f moment step)
     (all_grown l (λ rows. Unit {0}) g f.next.service (λ event rows proper p. tt) (of_effect l f moment step s ok) tt
     (old_plans l f moment step s ok)).flat.rows

@@ -7,12 +7,11 @@ use Rattle.scm_model.specs.declared.flat.Plan.{Plan}
 use Rattle.scm_model.specs.declared.steps.Answer.{Answer}
 use Rattle.scm_model.specs.declared.steps.Answer.TheVariants as answer
 use Rattle.start_plan.specs.Decided.{code_of, without_plan}
-use Rattle.start_plan.specs.Entered.{with_entered}
 use Rattle.start_plan.specs.Settle.{is_due_still, settled}
 use Rattle.start_plan.proofs.Enterings.{all_units}
 use Rattle.start_plan.proofs.Keeps.{Keeps, keeps_all}
 use Rattle.scm_rules.specs.Steps.{finished, left_by, at_moment, effect_of, finished_step}
-use Rattle.scm_runs.proofs.Settling.{Beside}
+use Rattle.scm_runs.proofs.Settling.{Beside, still_beside}
 use Rattle.scm_model.specs.declared.steps.Step.{Step}
 
 -- only services, processes, wanted launches, plans, registrations and due rows have changed
@@ -29,16 +28,10 @@ Frame f g = g ≡ record f {
 
 stays_beside : (l : Limits) (f : Flat) → Keeps l (Beside f) (λ plan. Unit {0})
 stays_beside l f = record {
-  enters = λ g plan n words entry beside.
-      ap (λ (h : Flat). with_entered (record h {
-        services = g.services;
-        processes = g.processes;
-        wanted = g.wanted;
-        registrations = g.registrations;
-        next = record h.next { process = g.next.process };
-      }) n words) beside;
+  enters = λ g plan n words entry beside. still_beside f g n words beside;
   tries = λ g plan n entry q. tt;
   drops = λ plan n rest code q. tt;
+  meets = λ plan services q. tt;
 }
 
 pub settled_frame : (l : Limits) (f : Flat) → Frame f (settled l f)

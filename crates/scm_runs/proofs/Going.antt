@@ -19,7 +19,7 @@ use Rattle.scm_model.specs.declared.steps.Step.TheVariants.{Call, EndStart, Laun
 use Rattle.scm_model.specs.Changes.{with_moment}
 use Rattle.start_plan.specs.Decided.{aims_among, code_of, decided_if, decided_in, is_callers, is_numbered}
 use Rattle.start_plan.specs.Planned.{IsRising, plan_numbers}
-use Rattle.start_plan.specs.Settle.{settle_all, settled, stays, with_tried, dropped}
+use Rattle.start_plan.specs.Settle.{settle_all, settled, stays, succeeded, with_tried, dropped}
 use Rattle.start_plan.proofs.Keeps.{Keeps, all_filter, keeps_all}
 use Rattle.scm_rules.specs.Launches.{currents, currents_in}
 use Rattle.scm_rules.specs.Reports.{reporting}
@@ -79,7 +79,7 @@ all_same (plan ∷ plans) rising =
 -- ## Plans decided, gone, and new
 
 -- a plan with another code
-coded : (befores : List Plan) (plan : Plan) (code : Option ℕ) → Went befores plan → Went befores (record plan { code = code })
+pub coded : (befores : List Plan) (plan : Plan) (code : Option ℕ) → Went befores plan → Went befores (record plan { code = code })
 coded [] plan code went = tt
 coded (before ∷ befores) plan code went = (
   (λ e. (let on = went.0 e in record { caller = on.caller; target = on.target; since = on.since; tried = on.tried })),
@@ -199,11 +199,12 @@ keeps_going l befores = record {
   enters = λ f plan service words entry p. tt;
   tries = λ f plan service entry went. tries befores plan service went;
   drops = λ plan service rest code went. drops befores plan service rest code went;
+  meets = λ plan services went. coded befores plan (succeeded services plan).code went;
 }
 
 settles : (l : Limits) (befores : List Plan) (f : Flat) → AllWent befores f.plans → AllWent befores (settled l f).plans
 settles l befores f all =
-    all_filter (Went befores) stays (settle_all l f f.plans).1 (keeps_all l (λ f. Unit {0}) (Went befores)
+    all_filter (Went befores) stays (settle_all l f f.plans).plans (keeps_all l (λ f. Unit {0}) (Went befores)
     (keeps_going l befores) f f.plans tt all).plans
 
 -- ## Steps

@@ -1,6 +1,7 @@
 -- The law of leaving.
-use Rattle.std.proofs.Common.{ℕ, zero, suc, ◌≡◌, ◌<◌, ◌≤◌, ◌∙◌, ◌==◌, ◌||◌, ◌&&◌, Bool, true, false, not, cond, IsTrue, List, [], ◌∷◌, ◌++◌}
-use Rattle.std.proofs.Common.{Option, Some, length, map, take, drop, ap, sym, refl, subst, arith, eq-eqb, get_or}
+use Rattle.std.proofs.Common.{ℕ, zero, suc, ◌≡◌, ◌⊎◌, ◌<◌, ◌≤◌, ◌∙◌, ◌==◌, ◌||◌, ◌&&◌, Bool, true, false, not, cond, IsTrue, List, [], ◌∷◌}
+use Rattle.std.proofs.Common.{◌++◌}
+use Rattle.std.proofs.Common.{Option, Some, filter, length, map, take, drop, ap, sym, refl, subst, arith, eq-eqb, get_or}
 use Rattle.std.proofs.Common.{ne_eqb, inl, inr}
 use Rattle.std.specs.Prelude.{All}
 use Rattle.std.specs.List.{AllZip}
@@ -9,6 +10,7 @@ use Rattle.std.proofs.lemmas.List.Elements.{All-cons, All-filter, All-head, All-
 use Rattle.scm_model.specs.declared.flat.Config.{Config}
 use Rattle.scm_model.specs.declared.flat.Flat.{Flat}
 use Rattle.scm_model.specs.declared.flat.Limits.{Limits}
+use Rattle.scm_model.specs.declared.flat.Process.{Process}
 use Rattle.scm_model.specs.declared.flat.Service.{Service}
 use Rattle.scm_model.specs.declared.flat.Status.{Status}
 use Rattle.scm_model.specs.declared.calls.NewService.{NewService}
@@ -34,11 +36,12 @@ use Rattle.scm_rules.specs.Reports.{is_reporter, notified_of_report, process_in_
 use Rattle.scm_rules.specs.Reports.{with_report_of}
 use Rattle.scm_model.specs.declared.codes.TheConstants.{SERVICE_STOPPED}
 use Rattle.scm_rules.specs.Steps.{at_moment, effect_of, may, step_of}
+use Rattle.scm_rules.specs.Valid.{has_process}
 use Rattle.scm_rules.specs.Verdicts.{call_of, done_of, told_refused, verdict}
 use Rattle.scm_runs.specs.Leaving.{IsFresh, IsSameService, LawOfLeaving, before_leaving, configures, created, fails, marks, numbers}
 use Rattle.scm_runs.specs.Leaving.{is_report, is_handle_of, is_number_of}
 use Rattle.scm_runs.proofs.Along.{Gives}
-use Rattle.scm_runs.proofs.Calls.{by_verdict}
+use Rattle.scm_runs.proofs.Calls.{by_verdict, of_effect}
 use Rattle.scm_runs.proofs.Configured.{HasText, name, name_kept, names_found, number_kept}
 use Rattle.scm_runs.proofs.Effects.{step_settled}
 use Rattle.scm_runs.proofs.Frames.{finished_keeps}
@@ -59,10 +62,21 @@ use Rattle.scm_model.specs.Found.{if_found}
 use Rattle.scm_runs.proofs.Failing.{all_failing_keeps, counted_or, failed_is, failing_keeps}
 use Rattle.scm_runs.proofs.Unasked.{raised_apart, ticked_apart}
 
--- what the law says of the services before some of them leave
+-- the process that ends by a step, or that can't be launched, or 0
+abbrev ended_by : Step → ℕ
+ended_by (LaunchFailed process code) = process
+ended_by (Ended process) = process
+ended_by step = 0
+
+-- what an effect makes of a service: unless it reports or its process ends, it keeps that
+record Remains (f : Flat) (step : Step) (told : Answer) (old new : Service) : Type 0 where
+  same : IsSameService f step told old new
+  process : is_report f step old ≡ false → (new.process ≡ old.process) ⊎ (old.process ≡ ended_by step)
+
+-- what is known of the services after an effect
 record Stood (f : Flat) (step : Step) (told : Answer) (after : List Service) : Type 0 where
   stood : numbers after ≡ numbers f.services ++ created f step told
-  rows : AllZip (IsSameService f step told) f.services (take (length f.services) after)
+  rows : AllZip (Remains f step told) f.services (take (length f.services) after)
   fresh : All IsFresh (drop (length f.services) after)
   numbered : All (λ (row : Service). f.next.service ≤ row.number) (drop (length f.services) after)
 
@@ -82,26 +96,29 @@ zip_map R g (x ∷ xs) each = (All-head (λ y. R y (g y)) x xs each, zip_map R g
 -- ## Services
 
 same_row : (f : Flat) (step : Step) (told : Answer) (row : Service) → marks f step told row.number ≡ false
-    → IsSameService f step told row row
+    → Remains f step told row row
 same_row f step told row unmarked = record {
-  row = ap (λ (marked : Bool). record row { marked = marked }) (or_false row.marked ∙ ap (λ marked. row.marked || marked) (sym unmarked));
-  state = λ same quiet. refl;
-  config = λ other. (refl, refl);
-  name = refl;
-  failures = λ fine. (refl, refl);
+  same = record {
+    row = ap (λ (marked : Bool). record row { marked = marked }) (or_false row.marked ∙ ap (λ marked. row.marked || marked) (sym unmarked));
+    state = λ same quiet. refl;
+    config = λ other. (refl, refl);
+    name = refl;
+    failures = λ fine. (refl, refl);
+  };
+  process = λ quiet. inl refl;
 }
 
 -- a step that changes rows one by one
 stood_mapped : (f : Flat) (step : Step) (told : Answer) (g : Service → Service) → ((row : Service) → (g row).number ≡ row.number)
     → created f step told ≡ []
-    → All (λ row. IsSameService f step told row (g row)) f.services → Stood f step told (map g f.services)
+    → All (λ row. Remains f step told row (g row)) f.services → Stood f step told (map g f.services)
 stood_mapped f step told g same none each =
     let long : length (map g f.services) ≤ length f.services = (let e = length-map f.services g in omega arith) in
     record {
       stood = map_same g (λ (row : Service). row.number) same f.services ∙ none_more (numbers f.services)
           ∙ ap (λ more. numbers f.services ++ more) (sym none);
-      rows = subst (λ rows. AllZip (IsSameService f step told) f.services rows) (sym (take_all (length f.services) (map g f.services) long))
-          (zip_map (IsSameService f step told) g f.services each);
+      rows = subst (λ rows. AllZip (Remains f step told) f.services rows) (sym (take_all (length f.services) (map g f.services) long))
+          (zip_map (Remains f step told) g f.services each);
       fresh = subst (λ rows. All IsFresh rows) (sym (drop_all (length f.services) (map g f.services) long)) (All-nil IsFresh);
       numbered = subst (λ rows. All (λ (row : Service). f.next.service ≤ row.number) rows)
           (sym (drop_all (length f.services) (map g f.services) long)) (All-nil (λ (row : Service). f.next.service ≤ row.number));
@@ -120,10 +137,10 @@ stood_added : (f : Flat) (step : Step) (told : Answer) (row : Service) → creat
     → Stood f step told (f.services ++ row ∷ [])
 stood_added f step told row one unmarked fresh up = record {
   stood = map-append (λ (r : Service). r.number) f.services (row ∷ []) ∙ ap (λ more. numbers f.services ++ more) (sym one);
-  rows = subst (λ rows. AllZip (IsSameService f step told) f.services rows)
+  rows = subst (λ rows. AllZip (Remains f step told) f.services rows)
       (sym (take-append-le (length f.services) f.services (row ∷ []) (omega arith) ∙ take_all (length f.services) f.services (omega arith)))
-      (subst (λ rows. AllZip (IsSameService f step told) f.services rows) (map-id f.services)
-      (zip_map (IsSameService f step told) (λ r. r) f.services (λ k d lt. same_row f step told _ (unmarked _))));
+      (subst (λ rows. AllZip (Remains f step told) f.services rows) (map-id f.services)
+      (zip_map (Remains f step told) (λ r. r) f.services (λ k d lt. same_row f step told _ (unmarked _))));
   fresh = subst (λ rows. All IsFresh rows) (sym (drop_at f.services (row ∷ []) (length f.services) refl))
       (All-cons IsFresh row [] fresh (All-nil IsFresh));
   numbered = subst (λ rows. All (λ (r : Service). f.next.service ≤ r.number) rows)
@@ -139,10 +156,10 @@ record Configures (f : Flat) (step : Step) (told : Answer) (caller handle : ℕ)
   unmarked : (number : ℕ) → marks f step told number ≡ false
   which : (number : ℕ) → configures f step told number ≡ is_handle_of f caller handle number
 
-configured_row : (f : Flat) (step : Step) (told : Answer) (caller handle : ℕ) (config : Config) (one row : Service)
+configured_same : (f : Flat) (step : Step) (told : Answer) (caller handle : ℕ) (config : Config) (one row : Service)
     → Configures f step told caller handle → held_service f caller handle ≡ Some one
     → HasText one.number name config.name row → IsSameService f step told row (configured_if one.number config row)
-configured_row f step told caller handle config one row does is has =
+configured_same f step told caller handle config one row does is has =
     let number = one.number in
     let stays : row.marked ≡ (row.marked || marks f step told row.number) = or_false row.marked
     ∙ ap (λ marked. row.marked || marked) (sym (does.unmarked row.number)) in
@@ -175,6 +192,15 @@ configured_row f step told caller handle config one row does is has =
           [ true ↦ (refl, refl) | false ↦ (refl, refl) ];
     }
 
+configured_row : (f : Flat) (step : Step) (told : Answer) (caller handle : ℕ) (config : Config) (one row : Service)
+    → Configures f step told caller handle → held_service f caller handle ≡ Some one
+    → HasText one.number name config.name row → Remains f step told row (configured_if one.number config row)
+configured_row f step told caller handle config one row does is has = record {
+  same = configured_same f step told caller handle config one row does is has;
+  process = λ quiet. inl (elim (row.number == one.number) as (λ b. (cond b (replaced config row) row).process ≡ row.process)
+      [ true ↦ refl | false ↦ refl ]);
+}
+
 stood_configured : (f : Flat) (step : Step) (told : Answer) (caller handle : ℕ) (new : Service → Config)
     → Configures f step told caller handle → ((row : Service) → (new row).name ≡ row.config.name)
     → Sound f → Stood f step told (configured_in new (held_service f caller handle) f.services)
@@ -199,20 +225,23 @@ all_quiet f step one only reporting k d lt quiet =
 
 reported_row : (f : Flat) (step : Step) (told : Answer) (number : ℕ) (report : Status) (row : Service)
     → ((number : ℕ) → marks f step told number ≡ false) → IsQuiet f step number row
-    → IsSameService f step told row (reported_if number report row)
+    → Remains f step told row (reported_if number report row)
 reported_row f step told number report row unmarked other =
-    reported_or (IsSameService f step told row) number report row
+    reported_or (Remains f step told row) number report row
     (λ is taken. record {
-      row = ap (λ (marked : Bool). record row {
-        status = report;
-        process = process_in_state report.state row.process;
-        asked = row.asked && not (report.state == SERVICE_STOPPED);
-        marked = marked;
-      }) (or_false row.marked ∙ ap (λ marked. row.marked || marked) (sym (unmarked row.number)));
-      state = λ same quiet. absurd (let isnt = other quiet in cc);
-      config = λ kept. (refl, kind_taken row.status report taken);
-      name = refl;
-      failures = λ fine. (refl, refl);
+      same = record {
+        row = ap (λ (marked : Bool). record row {
+          status = report;
+          process = process_in_state report.state row.process;
+          asked = row.asked && not (report.state == SERVICE_STOPPED);
+          marked = marked;
+        }) (or_false row.marked ∙ ap (λ marked. row.marked || marked) (sym (unmarked row.number)));
+        state = λ same quiet. absurd (let isnt = other quiet in cc);
+        config = λ kept. (refl, kind_taken row.status report taken);
+        name = refl;
+        failures = λ fine. (refl, refl);
+      };
+      process = λ quiet. absurd (let isnt = other quiet in cc);
     }) (same_row f step told row (unmarked row.number))
 
 number_told : (number : ℕ) (report : Status) (row : Service) → (reported_if number report row).number ≡ row.number
@@ -239,21 +268,24 @@ all_spared f step one only failing k d lt fine =
 
 -- a failure is counted behind another change
 counted_row : (f : Flat) (step : Step) (told : Answer) (number moment : ℕ) (old mid : Service) → IsSpared f step number old
-    → mid.number ≡ old.number → IsSameService f step told old mid
-    → IsSameService f step told old (counted_if number moment mid)
+    → mid.number ≡ old.number → Remains f step told old mid
+    → Remains f step told old (counted_if number moment mid)
 counted_row f step told number moment old mid spared same is =
     let new = record mid { failures = (on_failure mid.config mid.failures mid.last_failure moment).failures; last_failure = moment } in
-    elim (mid.number == number) as (λ b. (mid.number == number) ≡ b → IsSameService f step told old (cond b new mid)) [
+    elim (mid.number == number) as (λ b. (mid.number == number) ≡ b → Remains f step told old (cond b new mid)) [
       | true ↦ λ e. record {
-        row = ap (λ (r : Service). record r {
-          failures = (on_failure mid.config mid.failures mid.last_failure moment).failures;
-          last_failure = moment;
-        }) is.row;
-        state = is.state;
-        config = is.config;
-        name = is.name;
-        failures = λ fine. absurd (let other = spared fine in let here : (old.number == number) ≡ true = ap (λ n. n == number) (sym same)
-            ∙ e in cc);
+        same = record {
+          row = ap (λ (r : Service). record r {
+            failures = (on_failure mid.config mid.failures mid.last_failure moment).failures;
+            last_failure = moment;
+          }) is.same.row;
+          state = is.same.state;
+          config = is.same.config;
+          name = is.same.name;
+          failures = λ fine. absurd (let other = spared fine in let here : (old.number == number) ≡ true = ap (λ n. n == number) (sym same)
+              ∙ e in cc);
+        };
+        process = is.process;
       }
       | false ↦ λ e. is
     ] refl
@@ -261,7 +293,7 @@ counted_row f step told number moment old mid spared same is =
 stood_counted : (f : Flat) (step : Step) (told : Answer) (one : Service) (moment : ℕ) (g : Service → Service) → created f step told ≡ []
     → All (λ (row : Service). row.number ≡ one.number → row ≡ one) f.services
     → fails f step one ≡ true → ((row : Service) → (g row).number ≡ row.number)
-    → All (λ row. IsSameService f step told row (g row)) f.services
+    → All (λ row. Remains f step told row (g row)) f.services
     → Stood f step told (map (counted_if one.number moment) (map g f.services))
 stood_counted f step told one moment g none only failing same each =
     let spared = all_spared f step one only failing in
@@ -302,13 +334,16 @@ stood_taken f step told moment found report none unmarked t =
 -- ## Calls
 
 marked_row : (f : Flat) (caller handle : ℕ) (append : Kept) (one row : Service) → held_service f caller handle ≡ Some one
-    → IsSameService f (Call caller (request.Delete handle) append) (answer.Reply (reply.Code 0)) row (marked_if one.number row)
+    → Remains f (Call caller (request.Delete handle) append) (answer.Reply (reply.Code 0)) row (marked_if one.number row)
 marked_row f caller handle append one row is = record {
-  row = ap (λ found. record row { marked = row.marked || is_number_of found row.number }) (sym is);
-  state = λ same quiet. refl;
-  config = λ other. (refl, refl);
-  name = refl;
-  failures = λ fine. (refl, refl);
+  same = record {
+    row = ap (λ found. record row { marked = row.marked || is_number_of found row.number }) (sym is);
+    state = λ same quiet. refl;
+    config = λ other. (refl, refl);
+    name = refl;
+    failures = λ fine. (refl, refl);
+  };
+  process = λ quiet. inl refl;
 }
 
 stood_marked : (f : Flat) (moment caller handle : ℕ) (append : Kept) → Stood f (Call caller (request.Delete handle) append)
@@ -427,17 +462,20 @@ stood_call l f moment caller asked append s =
 -- ## A launch that failed
 
 fallen_row : (f : Flat) (step : Step) (told : Answer) (process code : ℕ) (row : Service) → ((number : ℕ) → marks f step told number ≡ false)
-    → IsSameService f step told row (fallen_if process code row)
-fallen_row f step told process code row unmarked =
-    fallen_or (IsSameService f step told row) process code row
+    → process ≡ ended_by step → Remains f step told row (fallen_if process code row)
+fallen_row f step told process code row unmarked ends =
+    fallen_or (Remains f step told row) process code row
     (λ is. record {
-      row = ap (λ (marked : Bool). record row { status = take_end row.status code; process = 0; asked = false; marked = marked })
-          (or_false row.marked ∙ ap (λ marked. row.marked || marked) (sym (unmarked row.number)));
-      state = λ none quiet. absurd (let by = by_parts process row is in let zero = eq-eqb process 0 (sym by.1 ∙ sym none) in
-          let some = by.0 in cc);
-      config = λ other. (refl, refl);
-      name = refl;
-      failures = λ fine. (refl, refl);
+      same = record {
+        row = ap (λ (marked : Bool). record row { status = take_end row.status code; process = 0; asked = false; marked = marked })
+            (or_false row.marked ∙ ap (λ marked. row.marked || marked) (sym (unmarked row.number)));
+        state = λ none quiet. absurd (let by = by_parts process row is in let zero = eq-eqb process 0 (sym by.1 ∙ sym none) in
+            let some = by.0 in cc);
+        config = λ other. (refl, refl);
+        name = refl;
+        failures = λ fine. (refl, refl);
+      };
+      process = λ quiet. inr ((by_parts process row is).1 ∙ ends);
     }) (same_row f step told row (unmarked row.number))
 
 -- ## Reports and ends of processes
@@ -461,37 +499,37 @@ zip_long R [] (y ∷ ys) each = absurd each
 zip_long R (x ∷ xs) [] each = absurd each
 zip_long R (x ∷ xs) (y ∷ ys) each = ap suc (zip_long R xs ys each.1)
 
-zip_numbers : (f : Flat) (step : Step) (told : Answer) (olds news : List Service) → AllZip (IsSameService f step told) olds news
+zip_numbers : (f : Flat) (step : Step) (told : Answer) (olds news : List Service) → AllZip (Remains f step told) olds news
     → numbers news ≡ numbers olds
 zip_numbers f step told [] [] each = refl
 zip_numbers f step told [] (new ∷ news) each = absurd each
 zip_numbers f step told (old ∷ olds) [] each = absurd each
 zip_numbers f step told (old ∷ olds) (new ∷ news) each =
-    ap (λ n. n ∷ numbers news) (ap (λ (r : Service). r.number) each.0.row)
+    ap (λ n. n ∷ numbers news) (ap (λ (r : Service). r.number) each.0.same.row)
     ∙ ap (λ ns. old.number ∷ ns) (zip_numbers f step told olds news each.1)
 
 stood_zipped : (f : Flat) (step : Step) (told : Answer) (rows : List Service) → created f step told ≡ []
-    → AllZip (IsSameService f step told) f.services rows → Stood f step told rows
+    → AllZip (Remains f step told) f.services rows → Stood f step told rows
 stood_zipped f step told rows none each =
-    let long : length rows ≤ length f.services = (let e = zip_long (IsSameService f step told) f.services rows each in omega arith) in
+    let long : length rows ≤ length f.services = (let e = zip_long (Remains f step told) f.services rows each in omega arith) in
     record {
       stood = zip_numbers f step told f.services rows each ∙ none_more (numbers f.services)
           ∙ ap (λ more. numbers f.services ++ more) (sym none);
-      rows = subst (λ news. AllZip (IsSameService f step told) f.services news) (sym (take_all (length f.services) rows long)) each;
+      rows = subst (λ news. AllZip (Remains f step told) f.services news) (sym (take_all (length f.services) rows long)) each;
       fresh = subst (λ news. All IsFresh news) (sym (drop_all (length f.services) rows long)) (All-nil IsFresh);
       numbered = subst (λ news. All (λ (row : Service). f.next.service ≤ row.number) news)
           (sym (drop_all (length f.services) rows long)) (All-nil (λ (row : Service). f.next.service ≤ row.number));
     }
 
 zip_counted : (f : Flat) (step : Step) (told : Answer) (number moment : ℕ) (olds news : List Service)
-    → All (IsSpared f step number) olds → AllZip (IsSameService f step told) olds news
-    → AllZip (IsSameService f step told) olds (map (counted_if number moment) news)
+    → All (IsSpared f step number) olds → AllZip (Remains f step told) olds news
+    → AllZip (Remains f step told) olds (map (counted_if number moment) news)
 zip_counted f step told number moment [] [] spared each = tt
 zip_counted f step told number moment [] (new ∷ news) spared each = absurd each
 zip_counted f step told number moment (old ∷ olds) [] spared each = absurd each
 zip_counted f step told number moment (old ∷ olds) (new ∷ news) spared each = (
   counted_row f step told number moment old new (All-head (IsSpared f step number) old olds spared)
-      (ap (λ (r : Service). r.number) each.0.row) each.0,
+      (ap (λ (r : Service). r.number) each.0.same.row) each.0,
   zip_counted f step told number moment olds news (All-tail (IsSpared f step number) old olds spared) each.1,
 )
 
@@ -503,29 +541,32 @@ stood_ended f moment process told s =
     → other ≡ row) f.services)
     f.services (alone (λ (row : Service). row.number) f.services s.services.numbered.rising) in
     stood_zipped f step told (with_end (with_moment f moment) process).services refl
-    (all_failing_keeps (λ (h : Flat). AllZip (IsSameService f step told) f.services h.services)
+    (all_failing_keeps (λ (h : Flat). AllZip (Remains f step told) f.services h.services)
     (λ (one : Service). All (IsSpared f step one.number) f.services) (currents process f.services)
     (with_fallen (with_moment f moment) process 1067)
     (λ k d lt. all_spared f step (get_or (currents process f.services) k d) (alone_each k d lt)
     (filter_passes (is_by process) f.services k d lt))
-    (zip_map (IsSameService f step told) (fallen_if process 1067) f.services
-    (λ k d lt. fallen_row f step told process 1067 (get_or f.services k d) (λ number. refl)))
+    (zip_map (Remains f step told) (fallen_if process 1067) f.services
+    (λ k d lt. fallen_row f step told process 1067 (get_or f.services k d) (λ number. refl) refl))
     (λ one h spared each. zip_counted f step told one.number h.moment f.services h.services spared each)
     (λ service h at kind is each. each))
 
 -- ## Services that are asked no more
 
 unasked_row : (f : Flat) (step : Step) (told : Answer) (number : ℕ) (row : Service) → ((number : ℕ) → marks f step told number ≡ false)
-    → IsSameService f step told row (unasked_if number row)
+    → Remains f step told row (unasked_if number row)
 unasked_row f step told number row unmarked =
-    unasked_or (IsSameService f step told row) number row
+    unasked_or (Remains f step told row) number row
     (record {
-      row = ap (λ (marked : Bool). record row { asked = false; marked = marked })
-          (or_false row.marked ∙ ap (λ marked. row.marked || marked) (sym (unmarked row.number)));
-      state = λ same quiet. refl;
-      config = λ other. (refl, refl);
-      name = refl;
-      failures = λ fine. (refl, refl);
+      same = record {
+        row = ap (λ (marked : Bool). record row { asked = false; marked = marked })
+            (or_false row.marked ∙ ap (λ marked. row.marked || marked) (sym (unmarked row.number)));
+        state = λ same quiet. refl;
+        config = λ other. (refl, refl);
+        name = refl;
+        failures = λ fine. (refl, refl);
+      };
+      process = λ quiet. inl refl;
     }) (same_row f step told row (unmarked row.number))
 
 stood_sent : (f : Flat) (process : ℕ) (told : Answer) → Stood f (ControlTaken process) told (unasked_in (first_asked f process) f.services)
@@ -544,7 +585,7 @@ stood_effect : (l : Limits) (f : Flat) (moment : ℕ) (step : Step) → Sound f 
 stood_effect l f moment (Call caller asked append) s ok = stood_call l f moment caller asked append s
 stood_effect l f moment (LaunchFailed process code) s ok =
     stood_mapped f _ _ (fallen_if process code) (number_fallen process code) refl
-    (λ k d lt. fallen_row f _ _ process code (get_or f.services k d) (λ number. refl))
+    (λ k d lt. fallen_row f _ _ process code (get_or f.services k d) (λ number. refl) refl)
 stood_effect l f moment (Report process service status) s ok = stood_own f moment process service status
     (step_of l f moment (Report process service status)).answer s
 stood_effect l f moment (Ended process) s ok =
@@ -595,29 +636,51 @@ zip_all P Q R keeps (x ∷ xs) [] all r = absurd r
 zip_all P Q R keeps (x ∷ xs) (y ∷ ys) all r = All-cons Q y ys (keeps x y (All-head P x xs all) r.0)
     (zip_all P Q R keeps xs ys (All-tail P x xs all) r.1)
 
-settled_number : (next bound : ℕ) (before after : Service) → IsSettled next bound before after → after.number ≡ before.number
-settled_number next bound before after (inl same) = ap (λ (r : Service). r.number) same
-settled_number next bound before after (inr is) = ap (λ (r : Service). r.number) is.entered
+settled_number : (next bound : ℕ) (listed : List Process) (before after : Service) → IsSettled next bound listed before after
+    → after.number ≡ before.number
+settled_number next bound listed before after (inl same) = ap (λ (r : Service). r.number) same
+settled_number next bound listed before after (inr is) = ap (λ (r : Service). r.number) is.entered
 
-pub settled_numbers : (next bound : ℕ) (befores afters : List Service) → AreSettled next bound befores afters
+pub settled_numbers : (next bound : ℕ) (listed : List Process) (befores afters : List Service) → AreSettled next bound listed befores afters
     → numbers afters ≡ numbers befores
-settled_numbers next bound [] [] each = refl
-settled_numbers next bound [] (after ∷ afters) each = absurd each
-settled_numbers next bound (before ∷ befores) [] each = absurd each
-settled_numbers next bound (before ∷ befores) (after ∷ afters) each =
-    ap (λ n. n ∷ numbers afters) (settled_number next bound before after each.0)
-    ∙ ap (λ ns. before.number ∷ ns) (settled_numbers next bound befores afters each.1)
+settled_numbers next bound listed [] [] each = refl
+settled_numbers next bound listed [] (after ∷ afters) each = absurd each
+settled_numbers next bound listed (before ∷ befores) [] each = absurd each
+settled_numbers next bound listed (before ∷ befores) (after ∷ afters) each =
+    ap (λ n. n ∷ numbers afters) (settled_number next bound listed before after each.0)
+    ∙ ap (λ ns. before.number ∷ ns) (settled_numbers next bound listed befores afters each.1)
+
+-- after an effect neither 0 nor a process that ended is listed
+record IsGone (step : Step) (listed : List Process) : Type 0 where
+  zero : has_process listed 0 ≡ false
+  ended : has_process listed (ended_by step) ≡ false
+
+-- a service that is entered by a listed process didn't have that before, unless it reported
+not_back : (f : Flat) (step : Step) (told : Answer) (next : ℕ) (listed : List Process) (old mid new : Service) → IsGone step listed
+    → old.process < next → is_report f step old ≡ false → Remains f step told old mid → mid.process ≡ 0
+    → (next ≤ new.process) ⊎ (has_process listed new.process ≡ true) → new.process ≡ old.process → ⊥
+not_back f step told next listed old mid new gone small quiet is none (inl up) same = omega (arith, up, same, small)
+not_back f step told next listed old mid new gone small quiet is none (inr there) same =
+    elim (is.process quiet) as (λ _. ⊥) [
+      | inl stays ↦ (let zero = gone.zero in
+          let is_there : has_process listed 0 ≡ true = subst (λ n. has_process listed n ≡ true) (same ∙ sym stays ∙ none) there in
+          absurd cc)
+      | inr ended ↦ (let out = gone.ended in
+          let is_there : has_process listed (ended_by step) ≡ true = subst (λ n. has_process listed n ≡ true) (same ∙ ended) there in
+          absurd cc)
+    ]
 
 -- the row before a step, after its effect, and after settling
-settled_row : (f : Flat) (step : Step) (told : Answer) (next bound : ℕ) (old mid new : Service) → old.process < next
-    → IsSameService f step told old mid → IsSettled next bound mid new → IsSameService f step told old new
-settled_row f step told next bound old mid new small is (inl same) = subst (IsSameService f step told old) (sym same) is
-settled_row f step told next bound old mid new small is (inr entered) =
+settled_row : (f : Flat) (step : Step) (told : Answer) (next bound : ℕ) (listed : List Process) → IsGone step listed
+    → (old mid new : Service) → old.process < next → Remains f step told old mid → IsSettled next bound listed mid new
+    → IsSameService f step told old new
+settled_row f step told next bound listed gone old mid new small is (inl same) = subst (IsSameService f step told old) (sym same) is.same
+settled_row f step told next bound listed gone old mid new small is (inr entered) =
     let e = entered.entered in
     let config : new.config ≡ mid.config = ap (λ (r : Service). r.config) e in
     let kind : new.status.kind ≡ mid.status.kind = ap (λ (r : Service). r.status.kind) e in
     record {
-      row = e ∙ ap (starting_in new.process) is.row
+      row = e ∙ ap (starting_in new.process) is.same.row
           ∙ ap (λ (r : Service). record old {
             config = r.config;
             status = r.status;
@@ -627,10 +690,11 @@ settled_row f step told next bound old mid new small is (inr entered) =
             asked = r.asked;
             marked = old.marked || marks f step told old.number;
           }) (sym e);
-      state = λ same quiet. absurd (let up = entered.process in omega (arith, up, same, small));
-      config = λ other. (let was = is.config other in (config ∙ was.0, kind ∙ was.1));
-      name = ap (λ (c : Config). c.name) config ∙ is.name;
-      failures = λ fine. (let was = is.failures fine in (
+      state = λ same quiet.
+          absurd (not_back f step told next listed old mid new gone small quiet is entered.none entered.process same);
+      config = λ other. (let was = is.same.config other in (config ∙ was.0, kind ∙ was.1));
+      name = ap (λ (c : Config). c.name) config ∙ is.same.name;
+      failures = λ fine. (let was = is.same.failures fine in (
         ap (λ (r : Service). r.failures) e ∙ was.0,
         ap (λ (r : Service). r.last_failure) e
             ∙ was.1,
@@ -638,51 +702,80 @@ settled_row f step told next bound old mid new small is (inr entered) =
     }
 
 -- a service that was just added isn't entered
-still_fresh : (next bound : ℕ) (mid new : Service) → (IsFresh mid × (bound ≤ mid.number)) → IsSettled next bound mid new → IsFresh new
-still_fresh next bound mid new is (inl same) = subst IsFresh (sym same) is.0
-still_fresh next bound mid new is (inr entered) = absurd (let up = is.1 in let small = entered.number in omega (arith, up, small))
+still_fresh : (next bound : ℕ) (listed : List Process) (mid new : Service) → (IsFresh mid × (bound ≤ mid.number))
+    → IsSettled next bound listed mid new → IsFresh new
+still_fresh next bound listed mid new is (inl same) = subst IsFresh (sym same) is.0
+still_fresh next bound listed mid new is (inr entered) = absurd (let up = is.1 in let small = entered.number in omega (arith, up, small))
 
-still_numbered : (least next bound : ℕ) (mid new : Service) → least ≤ mid.number → IsSettled next bound mid new → least ≤ new.number
-still_numbered least next bound mid new up is = (let e = settled_number next bound mid new is in omega (arith, up, e))
+-- what the law says of the services before some of them leave
+record Settled (f : Flat) (step : Step) (told : Answer) (after : List Service) : Type 0 where
+  stood : numbers after ≡ numbers f.services ++ created f step told
+  rows : AllZip (IsSameService f step told) f.services (take (length f.services) after)
+  fresh : All IsFresh (drop (length f.services) after)
 
-settled_stood : (f : Flat) (step : Step) (told : Answer) (next : ℕ) (mids news : List Service)
-    → All (λ (row : Service). row.process < next) f.services → Stood f step told mids → AreSettled next f.next.service mids news
-    → Stood f step told news
-settled_stood f step told next mids news small stood each =
+settled_stood : (f : Flat) (step : Step) (told : Answer) (next : ℕ) (listed : List Process) (mids news : List Service) → IsGone step listed
+    → All (λ (row : Service). row.process < next) f.services → Stood f step told mids → AreSettled next f.next.service listed mids news
+    → Settled f step told news
+settled_stood f step told next listed mids news gone small stood each =
     let n = length f.services in
+    let R = IsSettled next f.next.service listed in
     record {
-      stood = settled_numbers next f.next.service mids news each ∙ stood.stood;
-      rows = zip_then (λ (row : Service). row.process < next) (IsSameService f step told) (IsSettled next f.next.service)
-          (IsSameService f step told)
-          (settled_row f step told next f.next.service) f.services (take n mids) (take n news) small stood.rows
-          (zip_take (IsSettled next f.next.service) n mids news each);
-      fresh = zip_all (λ (row : Service). IsFresh row × (f.next.service ≤ row.number)) IsFresh (IsSettled next f.next.service)
-          (still_fresh next f.next.service) (drop n mids) (drop n news)
-          (λ k d lt. (stood.fresh k d lt, stood.numbered k d lt)) (zip_drop (IsSettled next f.next.service) n mids news each);
-      numbered = zip_all (λ (row : Service). f.next.service ≤ row.number) (λ (row : Service). f.next.service ≤ row.number)
-          (IsSettled next f.next.service)
-          (still_numbered f.next.service next f.next.service) (drop n mids) (drop n news) stood.numbered
-          (zip_drop (IsSettled next f.next.service) n mids news each);
+      stood = settled_numbers next f.next.service listed mids news each ∙ stood.stood;
+      rows = zip_then (λ (row : Service). row.process < next) (Remains f step told) R (IsSameService f step told)
+          (settled_row f step told next f.next.service listed gone) f.services (take n mids) (take n news) small stood.rows
+          (zip_take R n mids news each);
+      fresh = zip_all (λ (row : Service). IsFresh row × (f.next.service ≤ row.number)) IsFresh R
+          (still_fresh next f.next.service listed) (drop n mids) (drop n news)
+          (λ k d lt. (stood.fresh k d lt, stood.numbered k d lt)) (zip_drop R n mids news each);
     }
+
+-- ## What ended
+
+pub without_it : (number : ℕ) (rows : List Process)
+    → has_process (filter (λ (row : Process). not (row.number == number)) rows) number ≡ false
+without_it number [] = refl
+without_it number (row ∷ rows) =
+    let p = λ (r : Process). not (r.number == number) in
+    elim (row.number == number) as (λ b. (row.number == number) ≡ b
+    → has_process (cond (not b) (row ∷ filter p rows) (filter p rows)) number ≡ false) [
+      | true ↦ λ e. without_it number rows
+      | false ↦ λ e. rw e (without_it number rows)
+    ] refl
+
+without_zero : (rows : List Process) → All (λ (row : Process). 1 ≤ row.number) rows → has_process rows 0 ≡ false
+without_zero [] above = refl
+without_zero (row ∷ rows) above =
+    let first = All-head (λ (r : Process). 1 ≤ r.number) row rows above in
+    rw (ne_eqb row.number 0 (λ e. absurd (omega (arith, e, first)))) (without_zero rows
+    (All-tail (λ (r : Process). 1 ≤ r.number) row rows above))
+
+ended_gone : (l : Limits) (f : Flat) (moment : ℕ) (step : Step)
+    → has_process (effect_of l (at_moment f moment step) step).flat.processes 0 ≡ false
+    → has_process (effect_of l (at_moment f moment step) step).flat.processes (ended_by step) ≡ false
+ended_gone l f moment (LaunchFailed process code) none = without_it process f.processes
+ended_gone l f moment (Ended process) none = without_it process (with_end (with_moment f moment) process).processes
+ended_gone l f moment step none = none
 
 -- ## Steps
 
-stood_step : (l : Limits) (f : Flat) (moment : ℕ) (step : Step) → Sound f → IsTrue (may l f moment step)
-    → Stood f step (step_of l f moment step).answer (before_leaving l f (moment, step)).services
-stood_step l f moment step s ok =
+settled_step : (l : Limits) (f : Flat) (moment : ℕ) (step : Step) → Sound f → IsTrue (may l f moment step)
+    → Settled f step (step_of l f moment step).answer (before_leaving l f (moment, step)).services
+settled_step l f moment step s ok =
     let done = effect_of l (at_moment f moment step) step in
     let told = (step_of l f moment step).answer in
-    finished_keeps (λ (g : Flat). Stood f step told g.services) (λ g plans stood. stood) (settled l done.flat) done.answer
-    (settled_stood f step told f.next.process done.flat.services (settled l done.flat).services s.services.current
+    let zero = without_zero done.flat.processes (of_effect l f moment step s ok).processes.numbered.positive in
+    finished_keeps (λ (g : Flat). Settled f step told g.services) (λ g plans is. is) (settled l done.flat) done.answer
+    (settled_stood f step told f.next.process done.flat.processes done.flat.services (settled l done.flat).services
+    (record { zero = zero; ended = ended_gone l f moment step zero }) s.services.current
     (stood_effect l f moment step s ok) (step_settled l f moment step s ok))
 
 pub gives : (l : Limits) → Gives Sound (LawOfLeaving l) l
 gives l f e s ok =
-    let stood = stood_step l f e.0 e.1 s ok in
+    let after = settled_step l f e.0 e.1 s ok in
     record {
-      stood = stood.stood;
-      rows = stood.rows;
-      fresh = stood.fresh;
+      stood = after.stood;
+      rows = after.rows;
+      fresh = after.fresh;
       left = refl;
       none = passes_not (leaves (before_leaving l f e).handles) (before_leaving l f e).services;
     }

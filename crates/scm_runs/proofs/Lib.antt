@@ -30,6 +30,7 @@ pub mod Leaving
 pub mod Created
 pub mod Handles
 pub mod Starts
+pub mod Hosted
 pub mod Rests
 pub mod Clear
 pub mod Going

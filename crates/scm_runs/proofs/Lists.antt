@@ -186,17 +186,6 @@ filter_short p (x ∷ xs) =
     let rest = filter_short p xs in
     elim (p x) as (λ b. length (cond b (x ∷ filter p xs) (filter p xs)) ≤ suc (length xs)) [ true ↦ omega arith | false ↦ omega arith ]
 
--- a filter that drops nobody
-pub filter_full : {X : Type 0} (p : X → Bool) (xs : List X) → length (filter p xs) ≡ length xs → filter p xs ≡ xs
-filter_full p [] e = refl
-filter_full p (x ∷ xs) e =
-    let short = filter_short p xs in
-    elim (p x) as (λ b. length (cond b (x ∷ filter p xs) (filter p xs)) ≡ suc (length xs)
-    → cond b (x ∷ filter p xs) (filter p xs) ≡ x ∷ xs) [
-      | true ↦ λ h. ap (λ ys. x ∷ ys) (filter_full p xs (omega arith))
-      | false ↦ λ h. absurd (omega arith)
-    ] e
-
 -- each has its own number
 pub has_own : {X : Type 0} (number : X → ℕ) (xs : List X) → All (λ x. list_any (λ y. number y == number x) xs ≡ true) xs
 has_own number xs k d lt = any_at (λ y. number y == number (get_or xs k d)) xs k d lt (eq-eqb _ _ refl)

@@ -15,7 +15,8 @@ use Rattle.scm_model.specs.declared.flat.Service.{Service}
 use Rattle.scm_model.specs.declared.flat.Status.{Status}
 use Rattle.scm_model.specs.declared.flat.Wanted.{Wanted}
 use Rattle.scm_model.specs.Purge.{leaves}
-use Rattle.start_plan.specs.Entered.{is_sharing, starting_in, started_if, wanted_process, wanted_row}
+use Rattle.start_plan.specs.Entered.{starting_in, started_if, wanted_process, wanted_row}
+use Rattle.start_plan.specs.Hosts.{is_sharing}
 use Rattle.start_plan.proofs.Rows.{started_or}
 use Rattle.dependency_index.proofs.Lists.{or_right}
 use Rattle.scm_model.specs.Processes.{is_by, is_shared}
@@ -115,7 +116,7 @@ listed_map change same process (row ∷ rows) =
     ∙ ap (λ b. (row.number == process) || b) (listed_map change same process rows)
 
 -- and processes that are shared stay so
-shared_map : (change : Process → Process) → ((row : Process) → (change row).number ≡ row.number)
+pub shared_map : (change : Process → Process) → ((row : Process) → (change row).number ≡ row.number)
     → ((row : Process) → (change row).shared ≡ row.shared) → (n : ℕ) (rows : List Process)
     → is_shared (find (λ (row : Process). row.number == n) (map change rows)) ≡ is_shared (find (λ (row : Process). row.number == n) rows)
 shared_map change same shared n [] = refl
@@ -622,7 +623,7 @@ one_listed processes new row h =
     [ true ↦ λ g. refl | false ↦ λ g. listed_more row.process processes new g ] h
 
 -- each listed process lies below the next one
-has_below : (next n : ℕ) (rows : List Process) → All (λ (row : Process). row.number < next) rows → has_process rows n ≡ true → n < next
+pub has_below : (next n : ℕ) (rows : List Process) → All (λ (row : Process). row.number < next) rows → has_process rows n ≡ true → n < next
 has_below next n [] below there = absurd cc
 has_below next n (row ∷ rows) below there =
     elim (row.number == n) as (λ b. (row.number == n) ≡ b → (b || has_process rows n) ≡ true → n < next) [
@@ -769,6 +770,38 @@ beside next processes wanted services others s listed starting asked = record {
   starting = starting;
   asked = asked;
 }
+
+-- a process that is shared is listed
+pub shared_there : (number : ℕ) (rows : List Process) → is_shared (find (λ (row : Process). row.number == number) rows) ≡ true
+    → has_process rows number ≡ true
+shared_there number [] shared = absurd cc
+shared_there number (row ∷ rows) shared =
+    elim (row.number == number) as (λ b. is_shared (cond b (Some row) (find (λ (r : Process). r.number == number) rows)) ≡ true
+    → (b || has_process rows number) ≡ true) [ true ↦ λ g. refl | false ↦ λ g. shared_there number rows g ] shared
+
+-- a listed process has a number
+pub has_above : (number : ℕ) (rows : List Process) → All (λ (row : Process). 1 ≤ row.number) rows → has_process rows number ≡ true
+    → 1 ≤ number
+has_above number [] above there = absurd cc
+has_above number (row ∷ rows) above there =
+    elim (row.number == number) as (λ b. (row.number == number) ≡ b → (b || has_process rows number) ≡ true → 1 ≤ number) [
+      | true ↦ λ e g. (let same = eqb-true row.number number e in
+          let first = All-head (λ (r : Process). 1 ≤ r.number) row rows above in omega (arith, same, first))
+      | false ↦ λ e g. has_above number rows (All-tail (λ (r : Process). 1 ≤ r.number) row rows above) g
+    ] refl there
+
+-- a service is started by its host
+pub by_host : (next service host : ℕ) (processes : List Process) (wanted : List Wanted) (services : List Service)
+    → is_shared (find (λ (row : Process). row.number == host) processes) ≡ true → AreProcesses next processes wanted services
+    → AreProcesses next processes wanted (map (started_if service host) services)
+by_host next service host processes wanted services shared s =
+    beside next processes wanted services (map (started_if service host) services) s
+    (All-map (HasListed processes) (started_if service host) services
+    (λ k d lt. begun_or (HasListed processes) service host (get_or services k d)
+    (λ e. or_right (host == 0) (has_process processes host) (shared_there host processes shared)) (s.listed k d lt)))
+    (starts_kept processes (started_if service host) services (started_still service host) s.starting)
+    (All-map (IsAskedRight processes) (started_if service host) services
+    (λ k d lt. begun_or (IsAskedRight processes) service host (get_or services k d) (λ e asked. shared) (s.asked k d lt)))
 
 -- a service that was sent is asked no more
 pub unasked : (next number : ℕ) (processes : List Process) (wanted : List Wanted) (services : List Service)

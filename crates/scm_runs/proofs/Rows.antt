@@ -92,7 +92,7 @@ marked next process number rows s =
     (All-map IsStoppedWithout (marked_if number) rows s.stopped)
     (All-map (λ (row : Service). row.process < process) (marked_if number) rows s.current)
 
--- a service is started by the next process
+-- a service is started
 pub starts_mildly : (number process : ℕ) → IsMild (started_if number process)
 starts_mildly number process = record {
   number = same_number number process;
@@ -103,15 +103,16 @@ starts_mildly number process = record {
 positive_other : (n : ℕ) → 1 ≤ n → false ≡ (n == 0)
 positive_other n first = sym (ne_eqb n 0 (λ e. absurd (omega (arith, e, first))))
 
-pub begun : (next process number : ℕ) (rows : List Service) → AreServices next process rows
-    → AreServices next (process + 1) (map (started_if number process) rows)
-begun next process number rows s =
-    mildly next process (process + 1) (started_if number process) rows (starts_mildly number process) s (omega arith)
-    (All-map IsStoppedWithout (started_if number process) rows (λ k d lt. started_or IsStoppedWithout number process (get_or rows k d)
-    (λ e. positive_other process s.first_process) (s.stopped k d lt)))
-    (All-map (λ (row : Service). row.process < process + 1) (started_if number process) rows
-    (λ k d lt. started_or (λ (row : Service). row.process < process + 1) number process (get_or rows k d) (λ e. omega arith)
-    (let below = s.current k d lt in omega arith)))
+-- a service is started by a process below the next one
+pub begun : (next process later number by : ℕ) (rows : List Service) → AreServices next process rows → 1 ≤ by → by < later → process ≤ later
+    → AreServices next later (map (started_if number by) rows)
+begun next process later number by rows s first below up =
+    mildly next process later (started_if number by) rows (starts_mildly number by) s up
+    (All-map IsStoppedWithout (started_if number by) rows (λ k d lt. started_or IsStoppedWithout number by (get_or rows k d)
+    (λ e. positive_other by first) (s.stopped k d lt)))
+    (All-map (λ (row : Service). row.process < later) (started_if number by) rows
+    (λ k d lt. started_or (λ (row : Service). row.process < later) number by (get_or rows k d) (λ e. below)
+    (let low = s.current k d lt in omega (arith, low, up))))
 
 -- a service's current process has a number
 pub by_parts : (process : ℕ) (row : Service) → is_by process row ≡ true → ((process == 0) ≡ false) × (row.process ≡ process)

@@ -96,13 +96,13 @@ named_still change mild row named = record {
 }
 
 -- of the service that is found
-pub start_tells : (P : List Registration → Type 0) → Tells P → (number process : ℕ) (services : List Service) (rows : List Registration)
-    → All IsNamed services → P rows
-    → P (notified_of_start number process (find (λ (row : Service). row.number == number) services) rows)
-start_tells P tells number process services rows named p =
-    found_keeps P (λ (row : Service). notified_of_move 0 row (started_if number process row))
+pub start_tells : (P : List Registration → Type 0) → Tells P → (number process pid : ℕ) (services : List Service)
+    (rows : List Registration) → All IsNamed services → P rows
+    → P (notified_of_start number process pid (find (λ (row : Service). row.number == number) services) rows)
+start_tells P tells number process pid services rows named p =
+    found_keeps P (λ (row : Service). notified_of_move pid row (started_if number process row))
     (find (λ (row : Service). row.number == number) services) rows p
-    (λ row is. move_tells P tells 0 row (started_if number process row) rows
+    (λ row is. move_tells P tells pid row (started_if number process row) rows
     (named_still (started_if number process) (starts_mildly number process) row
     (found_has IsNamed (λ (row : Service). row.number == number) row services named is)) p)
 

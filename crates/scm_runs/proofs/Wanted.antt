@@ -9,6 +9,7 @@ use Rattle.scm_model.specs.Changes.{with_moment}
 use Rattle.scm_model.specs.Rows.{service_of}
 use Rattle.start_plan.specs.Entered.{is_shared_by, wanted_process}
 use Rattle.start_plan.proofs.Enterings.{all_units}
+use Rattle.start_plan.proofs.Hosts.{entered_keeps}
 use Rattle.start_plan.proofs.Keeps.{Keeps, keeps_all}
 use Rattle.scm_rules.specs.Launches.{first_wanted, is_taken, launch_taken, process_of, taken_if}
 use Rattle.scm_rules.specs.Steps.{step_of}
@@ -29,12 +30,13 @@ IsTaken number f = is_taken (process_of f number) ≡ true
 -- processes that come later leave it as it is
 stays_taken : (l : Limits) (number : ℕ) → Keeps l (IsTaken number) (λ plan. Unit {0})
 stays_taken l number = record {
-  enters = λ f plan service words entry taken.
-      ap is_taken (find_more (λ (row : Process). row.number == number) f.processes
+  enters = λ f plan service words entry taken. entered_keeps (IsTaken number) f service words
+      (λ none. ap is_taken (find_more (λ (row : Process). row.number == number) f.processes
       (wanted_process f.next.process service (is_shared_by (service_of f service)) ∷ [])
-      (taken_listed (process_of f number) taken)) ∙ taken;
+      (taken_listed (process_of f number) taken)) ∙ taken) (λ process is. taken);
   tries = λ f plan service entry q. tt;
   drops = λ plan service rest code q. tt;
+  meets = λ plan services q. tt;
 }
 
 -- after LaunchTaken the process that was wanted first is in hand

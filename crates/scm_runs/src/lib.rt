@@ -35,9 +35,10 @@ pub fn law_of_sizes(limits: &Limits, steps: &Items<(u64, Step)>, opening: &Flat)
     ensures { All IsToldWhole (state limits.now opening.now steps.now).services }
 {}
 
-/// The law of starts: in each step a service gets a process that none had before only where all
-/// that it needs is up, it is neither marked nor disabled, and the lock is free: it is
-/// START_PENDING then. Every other process is one that its service had before.
+/// The law of starts: a service is entered in the step after which it is START_PENDING if it was
+/// not before, or had another process, or the step was a report that stopped it. Then all that it
+/// needs is up, it is neither marked nor disabled, and the lock is free. The process of every other
+/// service is the one that it had before.
 pub fn law_of_starts(limits: &Limits, steps: &Items<(u64, Step)>, opening: &Flat)
     requires begins { IsOpening limits.now opening.now }
     requires legal { IsLegal limits.now opening.now steps.now }
@@ -65,13 +66,13 @@ pub fn law_of_handles(limits: &Limits, steps: &Items<(u64, Step)>, opening: &Fla
 
 /// The law of plans: after each step the needs have no cycle, and no plan has tried a service
 /// twice; a plan has its caller and its target for good, and what it has tried stays tried. A
-/// service gets a new process only where an undecided plan has tried it that hadn't before, so no
-/// plan enters a service twice.
+/// service is entered only where a plan has tried it that hadn't before, which is undecided or
+/// succeeded, so no plan enters a service twice.
 pub fn law_of_plans(limits: &Limits, steps: &Items<(u64, Step)>, opening: &Flat)
     requires begins { IsOpening limits.now opening.now }
     requires legal { IsLegal limits.now opening.now steps.now }
     ensures plans { EachStep (LawOfPlans limits.now) limits.now opening.now steps.now }
-    ensures entered { EachStep LawOfEntering limits.now opening.now steps.now }
+    ensures entered { EachStep (LawOfEntering limits.now) limits.now opening.now steps.now }
 {}
 
 /// The law of histories: the state that a history ends in and the answers to its entries, in terms

@@ -15,6 +15,6 @@ returns-clause-plans c =
 
 pub returns-clause-entered : goal.returns-clause-entered
 returns-clause-entered c =
-    along Sound LawOfEntering c.args.limits.now (keeps c.args.limits.now)
+    along Sound (LawOfEntering c.args.limits.now) c.args.limits.now (keeps c.args.limits.now)
     (gives_entering c.args.limits.now) c.args.opening.now c.args.steps.now
     (begun c.args.limits.now c.args.opening.now c.requires.begins) c.requires.legal
