@@ -32,11 +32,12 @@ use Rattle.scm_model.specs.Rows.{held_service, named, service_of}
 use Rattle.scm_model.proofs.Found.{found_keeps}
 use Rattle.failure_actions.specs.Failing.{due_action, on_failure}
 use Rattle.start_plan.specs.Decided.{code_of}
-use Rattle.start_plan.specs.Entered.{HasNumbers as HasProcessNumbers, is_shared_by, started_if, wanted_process}
+use Rattle.start_plan.specs.Entered.{HasNumbers as HasProcessNumbers, is_shared_by, started_if, wanted_process, with_entered}
+use Rattle.start_plan.specs.Hosts.{host}
 use Rattle.start_plan.specs.Moves.{is_full}
 use Rattle.start_plan.specs.Settle.{is_due_still, settle_all, settled, stays}
-use Rattle.start_plan.proofs.Enterings.{all_units}
-use Rattle.start_plan.proofs.Keeps.{Keeps, keeps_all}
+use Rattle.start_plan.proofs.Hosts.{entered_keeps}
+use Rattle.start_plan.proofs.Keeps.{Keeps, keeps_flat}
 use Rattle.start_triggers.specs.Triggers.{matching}
 use Rattle.scm_rules.specs.Change.{new_config}
 use Rattle.scm_rules.specs.Controls.{controlled_if, first_asked, order_to, unasked_if}
@@ -575,25 +576,42 @@ Settles l f g = Settled l (counted f) (counted g) (length f.processes) (length g
 few_listed : (l : Limits) (f : Flat) → is_full l f ≡ false → length f.processes < l.processes
 few_listed l f e = grind (arith, nat_tests)
 
+-- a service is entered, by a new process, where one more may be listed, or by its host
+entered_settles : (l : Limits) (f g : Flat) (n : ℕ) (words : List (List ℕ)) → (host g n ≡ None → is_full l g ≡ false) → Settles l f g
+    → Settles l f (with_entered g n words)
+entered_settles l f g n words few r =
+    entered_keeps (λ h. Settles l f h) g n words
+    (λ none. record {
+      alike = omega (arith, r.alike, length-append g.processes (wanted_process g.next.process n (is_shared_by (service_of g n)) ∷ []));
+      bounded = omega (arith, r.alike, few_listed l g (few none));
+      others = r.others;
+      plan = r.plan;
+      due = r.due;
+      starts = r.starts;
+      services = length-map g.services (started_if n g.next.process) ∙ r.services;
+    })
+    (λ process is. record {
+      alike = r.alike;
+      bounded = r.bounded;
+      others = r.others;
+      plan = r.plan;
+      due = r.due;
+      starts = r.starts;
+      services = length-map g.services (started_if n process) ∙ r.services;
+    })
+
 settles : (l : Limits) (f : Flat) → Keeps l (λ g. Settles l f g) (λ plan. Unit {0})
 settles l f = record {
-  enters = λ g plan n words entry r. record {
-    alike = omega (arith, r.alike, length-append g.processes (wanted_process g.next.process n (is_shared_by (service_of g n)) ∷ []));
-    bounded = omega (arith, r.alike, few_listed l g entry.few);
-    others = r.others;
-    plan = r.plan;
-    due = r.due;
-    starts = r.starts;
-    services = length-map g.services (started_if n g.next.process) ∙ r.services;
-  };
+  enters = λ g plan n words entry r. entered_settles l f g n words entry.few r;
   tries = λ g plan n entry q. tt;
   drops = λ plan n rest code q. tt;
+  meets = λ plan services q. tt;
 }
 
 of_settled : (l : Limits) (f : Flat) → Settles l f (settled l f)
 of_settled l f =
     let all = settle_all l f f.plans in
-    let r = (keeps_all l (λ g. Settles l f g) (λ plan. Unit {0}) (settles l f) f f.plans
+    let r = keeps_flat l (λ g. Settles l f g) (settles l f) f f.plans
     (record {
       alike = refl;
       bounded = omega arith;
@@ -602,8 +620,9 @@ of_settled l f =
       due = refl;
       starts = omega arith;
       services = refl;
-    }) (all_units f.plans)).flat in
-    let fewer = fewer_pass (λ (due : Due). begins_plan due.kind) (λ (due : Due). is_due_still (filter stays all.1) due.kind) all.0.dues in
+    }) in
+    let fewer = fewer_pass (λ (due : Due). begins_plan due.kind) (λ (due : Due). is_due_still (filter stays all.plans) due.kind)
+    all.flat.dues in
     record {
       alike = r.alike;
       bounded = r.bounded;

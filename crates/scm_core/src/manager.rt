@@ -8,7 +8,7 @@ ghost use Rattle.scm_rules.specs.Controls.{next_order, waiting};
 ghost use Rattle.scm_rules.specs.Needs.{need_rows};
 ghost use Rattle.scm_rules.specs.Opening.{CanOpen, opening};
 ghost use Rattle.scm_rules.specs.Due.{is_due};
-ghost use Rattle.start_plan.specs.Decided.{plan_caller, code_of};
+ghost use Rattle.start_plan.specs.Decided.{code_of, is_any_undecided, plan_caller};
 ghost use Rattle.scm_rules.specs.Steps.{wants_launch, may, may_come, step_of};
 ghost use Rattle.scm_model.specs.Texts.{text_of};
 ghost use Rattle.scm_rules.specs.Verdicts.{change_of};
@@ -180,6 +180,13 @@ impl Manager {
         self.tables.decided(plan)
     }
 
+    /// Whether a plan is undecided. It takes no memory.
+    pub fn is_any_undecided(&self) -> bool
+        ensures { result ≡ is_any_undecided self.now.flat.plans }
+    {
+        self.tables.is_any_undecided()
+    }
+
     /// The caller of a plan, or 0 where no caller began it; none where it is absent. It takes no
     /// memory.
     pub fn owner_of(&self, plan: u64) -> Option<u64>
@@ -216,6 +223,13 @@ impl Manager {
         ensures { result ≡ is_shared (process_of self.now.flat process) }
     {
         self.tables.shares(process)
+    }
+
+    /// Whether a process is listed that other services may live in too. It takes no memory.
+    pub fn is_any_shared(&self) -> bool
+        ensures { result ≡ list_any (λ row. row.shared) self.now.flat.processes }
+    {
+        self.tables.is_any_shared()
     }
 
     /// The name of the service with a number; none where there is no such service. It takes no

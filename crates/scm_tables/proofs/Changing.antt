@@ -1,9 +1,12 @@
 -- What changes of processes do to a row, by its number.
-use Rattle.std.proofs.Common.{ℕ, ◌≡◌, ◌≢◌, ◌∙◌, ◌<◌, ◌==◌, ◌&&◌, ◌++◌, nat_lt, not, cond, true, false, List, [], ◌∷◌, Some, ap, arith, drop}
+use Rattle.std.proofs.Common.{ℕ, ◌≡◌, ◌≢◌, ◌∙◌, ◌<◌, ◌≤◌, ◌+◌, ◌==◌, ◌&&◌, ◌||◌, ◌++◌, nat_lt, not, Bool, cond, true, false, List, [], ◌∷◌, Some}
+use Rattle.std.proofs.Common.{ap, arith, drop}
 use Rattle.std.proofs.Common.{filter, find, get_or, length, map, refl, sym, eq-eqb}
 use Rattle.std.specs.Prelude.{option_map, slice_get}
+use Rattle.std.specs.List.{list_any}
 use Rattle.std.proofs.lemmas.Bool.{ne_eqb}
 use Rattle.std.proofs.lemmas.List.{get_or-map, length-map}
+use Rattle.std.proofs.lemmas.List.Elements.{All-filter, All-map, All-push}
 use Rattle.scm_model.specs.declared.flat.Phase.TheVariants as phases
 use Rattle.scm_model.specs.declared.flat.Order.{Order}
 use Rattle.scm_model.specs.declared.flat.Process.{Process}
@@ -11,6 +14,7 @@ use Rattle.scm_rules.specs.Controls.{controlled_if, dequeued_if}
 use Rattle.scm_rules.specs.Launches.{launched_if, taken_if}
 use Rattle.scm_rules.specs.Reports.{released_if}
 use Rattle.scm_tables.specs.Listed.{is_wanted_row, listed_as, process_shown, processes_in, wanted_in, wanted_of}
+use Rattle.scm_tables.specs.Processed.{AreNumbered}
 use Rattle.scm_tables.specs.Tabled.{AreInOrder}
 use Rattle.scm_tables.specs.declared.process_rows.ProcessRow.{ProcessRow}
 
@@ -114,6 +118,31 @@ released_phase n service row =
     elim (row.number == n && row.shared) as (λ b. (listed_as (λ p. cond b (record p { controls = orders_left service p.controls }) p)
     row).phase ≡ row.phase) [ true ↦ refl | false ↦ refl ]
 
+-- ## No number is 0
+
+pub numbered_push : (next : ℕ) (rows : List ProcessRow) (row : ProcessRow) → AreNumbered next rows → row.number ≡ next
+    → AreNumbered (next + 1) (rows ++ row ∷ [])
+numbered_push next rows row old new = record {
+  coming = omega arith;
+  listed = All-push (λ (r : ProcessRow). 1 ≤ r.number) rows row old.listed (omega (arith, old.coming, new));
+}
+
+pub numbered_filter : (next : ℕ) (p : ProcessRow → Bool) (rows : List ProcessRow) → AreNumbered next rows
+    → AreNumbered next (filter p rows)
+numbered_filter next p rows old = record {
+  coming = old.coming;
+  listed = All-filter p (λ (r : ProcessRow). 1 ≤ r.number) rows old.listed;
+}
+
+-- a change that keeps each number
+pub numbered_map : (next : ℕ) (change : Process → Process) → ((row : ProcessRow) → (listed_as change row).number ≡ row.number)
+    → (rows : List ProcessRow) → AreNumbered next rows → AreNumbered next (map (listed_as change) rows)
+numbered_map next change same rows old = record {
+  coming = old.coming;
+  listed = All-map (λ (r : ProcessRow). 1 ≤ r.number) (listed_as change) rows
+      (λ k d lt. omega (arith, old.listed k d lt, same (get_or rows k d)));
+}
+
 -- ## Rows that show the same processes
 
 module _ (xs ys : List ProcessRow) (same : processes_in ys ≡ processes_in xs) where
@@ -138,6 +167,13 @@ module _ (xs ys : List ProcessRow) (same : processes_in ys ≡ processes_in xs) 
     );
   }
 
+  -- and have numbers alike
+  pub same_numbered : (next : ℕ) → AreNumbered next xs → AreNumbered next ys
+  same_numbered next old = record {
+    coming = old.coming;
+    listed = λ k d lt. omega (arith, same_number k d lt, old.listed k d (omega (arith, lt, same_length)));
+  }
+
 -- ## What is found
 
 pub found_shown : (n : ℕ) (rows : List ProcessRow) → option_map process_shown (find (λ (row : ProcessRow). row.number == n) rows) ≡ find
@@ -146,6 +182,11 @@ found_shown n [] = refl
 found_shown n (row ∷ rows) =
     elim (row.number == n) as (λ b. option_map process_shown (cond b (Some row) (find (λ (r : ProcessRow). r.number == n) rows)) ≡ cond b
     (Some (process_shown row)) (find (λ (r : Process). r.number == n) (processes_in rows))) [ true ↦ refl | false ↦ found_shown n rows ]
+
+pub any_shared : (rows : List ProcessRow) → list_any (λ (row : ProcessRow). row.shared) rows ≡ list_any (λ (row : Process). row.shared)
+    (processes_in rows)
+any_shared [] = refl
+any_shared (row ∷ rows) = ap (λ b. row.shared || b) (any_shared rows)
 
 pub wanted_shown : (rows : List ProcessRow) → option_map wanted_of (find is_wanted_row rows) ≡ slice_get (wanted_in rows) 0
 wanted_shown [] = refl

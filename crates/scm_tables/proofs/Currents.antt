@@ -1,6 +1,6 @@
 -- The services whose current process it is, and their numbers.
-use Rattle.std.proofs.Common.{ℕ, ◌≡◌, ◌≢◌, ◌<◌, ◌∙◌, ◌==◌, ◌&&◌, suc, zero, not, Bool, true, false, cond, List, [], ◌∷◌, Option, None, Some}
-use Rattle.std.proofs.Common.{filter, find, map, length, refl, ap, sym, subst, arith, eq-eqb, eqb-true, inl, inr}
+use Rattle.std.proofs.Common.{ℕ, ◌≡◌, ◌<◌, ◌∙◌, ◌==◌, ◌&&◌, suc, zero, Bool, true, false, cond, List, [], ◌∷◌, Option, None, Some}
+use Rattle.std.proofs.Common.{filter, find, map, length, refl, ap, sym, subst, arith, eqb-true, inl, inr}
 use Rattle.std.specs.Prelude.{All, AllPairs, IfSome, option_and_then, option_map, slice_get}
 use Rattle.std.specs.List.{AllByRecursion}
 use Rattle.std.proofs.lemmas.Bool.{cases_Bool, ne_eqb}
@@ -103,16 +103,17 @@ found_rows p q (row ∷ rows) =
 
 module _ (rows : List Service) (rising : Rising rows) (process : ℕ) (pairs : List Pair)
     (numbers : map pair_number pairs ≡ currents_in process rows) where
-  -- the first that is asked
-  pub first_asked : (found : Option Pair) → found ≡ find (λ (pair : Pair). asked_in (with_number rows pair.number)) pairs
-      → paired rows found ≡ find (is_asked_by process) rows
-  first_asked found is =
-      let asked = λ (n : ℕ). asked_in (with_number rows n) in
+  -- the first that passes
+  pub first_with : (q : Option Service → Bool) (found : Option Pair)
+      → found ≡ find (λ (pair : Pair). q (with_number rows pair.number)) pairs
+      → paired rows found ≡ find (λ (row : Service). is_by process row && q (Some row)) rows
+  first_with q found is =
+      let passes = λ (n : ℕ). q (with_number rows n) in
       ap (paired rows) is
-      ∙ ap (option_and_then (with_number rows)) (find_pair asked pairs)
-      ∙ ap (λ ns. option_and_then (with_number rows) (find asked ns)) numbers
-      ∙ find_of asked_in rows (currents process rows) (passing_found rows rising (is_by process))
-      ∙ found_rows (is_by process) (λ (row : Service). row.asked) rows
+      ∙ ap (option_and_then (with_number rows)) (find_pair passes pairs)
+      ∙ ap (λ ns. option_and_then (with_number rows) (find passes ns)) numbers
+      ∙ find_of q rows (currents process rows) (passing_found rows rising (is_by process))
+      ∙ found_rows (is_by process) (λ (row : Service). q (Some row)) rows
 
   -- how many are asked
   pub asked_count : length (filter (λ (pair : Pair). asked_in (with_number rows pair.number)) pairs) ≡ length

@@ -27,30 +27,26 @@ all_stay_after test code plans = passing (map (decided_if test code) plans)
 
 -- ## Without a target
 
-out_anyway : (b : Bool) → (b && false) ≡ false
-out_anyway true = refl
-out_anyway false = refl
-
 pub undecided_all : (code : ℕ) (plans : List Plan) → AllStay plans → decided_in (aims_among []) code plans ≡ plans
 undecided_all code [] all = refl
 undecided_all code (plan ∷ plans) all =
     let rest = decided_in (aims_among []) code plans in
-    let same : decided_if (aims_among []) code plan ≡ plan =
-    ap (λ b. record plan { code = cond b (Some code) plan.code }) (out_anyway (is_none plan.code)) in
-    ap (λ (p : Plan). cond (stays p) (p ∷ rest) rest) same
-    ∙ ap (λ b. cond b (plan ∷ rest) rest) all.0
+    ap (λ b. cond b (plan ∷ rest) rest) all.0
     ∙ ap (λ (ps : List Plan). plan ∷ ps) (undecided_all code plans all.1)
 
 -- ## One more target
 
-in_either : (a b c : Bool) → (a && b) ≡ true → (a && (b || c)) ≡ true
-in_either true true c is = refl
-in_either true false c is = absurd (cc is)
+out_anyway : (b : Bool) → (b && false) ≡ false
+out_anyway true = refl
+out_anyway false = refl
+
+in_either : (a b c : Bool) → (a && c) ≡ true → ((a || b) && c) ≡ true
+in_either true b c is = is
 in_either false b c is = absurd (cc is)
 
-by_other : (a b c : Bool) → (a && b) ≡ false → (a && (b || c)) ≡ (a && c)
-by_other true true c out = absurd (cc out)
-by_other true false c out = refl
+by_other : (a b c : Bool) → (a && c) ≡ false → ((a || b) && c) ≡ (b && c)
+by_other true b true out = absurd (cc out)
+by_other true b false out = sym (out_anyway b)
 by_other false b c out = refl
 
 -- plans that are decided by a target and then by others are decided by all
@@ -63,24 +59,27 @@ then_others target targets code (plan ∷ plans) all =
     let by_all = decided_in (aims_among (target ∷ targets)) code plans in
     let rest : by_two ≡ by_all = then_others target targets code plans all.1 in
     let coded = λ (b : Bool). record plan { code = cond b (Some code) plan.code } in
-    elim (cases_Bool (is_none plan.code && plan.target == target)) [
+    elim (cases_Bool (plan.target == target && is_none plan.code)) [
       | inl is ↦
           let decided = coded true in
+          let twice : decided_if (aims_among targets) code decided ≡ decided =
+          ap (λ (b : Bool). record plan { code = cond b (Some code) (Some code) }) (out_anyway (has targets plan.target)) in
           ap (λ (p : Plan). decided_in (aims_among targets) code (cond (stays p) (p ∷ before) before)) (ap coded is)
           ∙ (elim (stays decided) as (λ b. stays decided ≡ b
           → decided_in (aims_among targets) code (cond b (decided ∷ before) before) ≡ cond b (decided ∷ by_all) by_all) [
-            | true ↦ λ e. ap (λ b. cond b (decided ∷ by_two) by_two) e ∙ ap (λ (ps : List Plan). decided ∷ ps) rest
+            | true ↦ λ e. ap (λ (p : Plan). cond (stays p) (p ∷ by_two) by_two) twice
+                ∙ ap (λ b. cond b (decided ∷ by_two) by_two) e ∙ ap (λ (ps : List Plan). decided ∷ ps) rest
             | false ↦ λ e. rest
           ] refl)
           ∙ sym (ap (λ (p : Plan). cond (stays p) (p ∷ by_all) by_all)
-          (ap coded (in_either (is_none plan.code) (plan.target == target) (has targets plan.target) is)))
+          (ap coded (in_either (plan.target == target) (has targets plan.target) (is_none plan.code) is)))
       | inr out ↦
           let second = decided_if (aims_among targets) code plan in
           ap (λ (p : Plan). decided_in (aims_among targets) code (cond (stays p) (p ∷ before) before)) (ap coded out)
           ∙ ap (λ b. decided_in (aims_among targets) code (cond b (plan ∷ before) before)) all.0
           ∙ ap (λ (ps : List Plan). cond (stays second) (second ∷ ps) ps) rest
           ∙ sym (ap (λ (p : Plan). cond (stays p) (p ∷ by_all) by_all)
-          (ap coded (by_other (is_none plan.code) (plan.target == target) (has targets plan.target) out)))
+          (ap coded (by_other (plan.target == target) (has targets plan.target) (is_none plan.code) out)))
     ]
 
 -- ## Targets in order

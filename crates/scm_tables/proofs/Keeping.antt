@@ -23,8 +23,8 @@ use Rattle.start_plan.specs.Decided.{decided_if, decided_in}
 use Rattle.start_plan.specs.Entered.{started_if}
 use Rattle.start_plan.specs.Settle.{is_due_still, settle_all, settled, stays, with_plans}
 use Rattle.start_plan.proofs.Plain.{settles_beside}
-use Rattle.start_plan.proofs.Keeps.{keeps_all}
-use Rattle.start_plan.proofs.Enterings.{all_units}
+use Rattle.start_plan.proofs.Hosts.{entered_keeps}
+use Rattle.start_plan.proofs.Keeps.{keeps_all, keeps_flat}
 use Rattle.start_plan.proofs.Rows.{started_or}
 use Rattle.scm_model.specs.declared.flat.Due.{Due}
 use Rattle.scm_tables.specs.Places.{HasPlaces}
@@ -145,22 +145,24 @@ kept_decided n test code plans all = kept_staying n (map (decided_if test code) 
     changed (p ∷ ps) a = (a.0, changed ps a.1)
 
 pub kept_settled : (l : Limits) (f : Flat) (n : ℕ) (plans : List Plan) → AllByRecursion (IsKeptPlan n) plans
-    → AllByRecursion (IsKeptPlan n) (filter stays (settle_all l f plans).1)
+    → AllByRecursion (IsKeptPlan n) (filter stays (settle_all l f plans).plans)
 kept_settled l f n plans all =
-    kept_staying n (settle_all l f plans).1
+    kept_staying n (settle_all l f plans).plans
     (keeps_all l (λ g. Unit {0}) (IsBelow n) (record {
       enters = λ g plan s words entry p. tt;
       tries = λ g plan s entry q. q;
       drops = λ plan s rest code q. q;
+      meets = λ plan services q. q;
     }) f plans tt (numbers_below n plans all)).plans
 
-pub next_settled : (l : Limits) (f : Flat) (plans : List Plan) → (settle_all l f plans).0.next.plan ≡ f.next.plan
+pub next_settled : (l : Limits) (f : Flat) (plans : List Plan) → (settle_all l f plans).flat.next.plan ≡ f.next.plan
 next_settled l f plans =
-    (keeps_all l (λ g. g.next.plan ≡ f.next.plan) (λ plan. Unit {0}) (record {
-      enters = λ g plan s words entry p. p;
+    keeps_flat l (λ g. g.next.plan ≡ f.next.plan) (record {
+      enters = λ g plan s words entry p. entered_keeps (λ h. h.next.plan ≡ f.next.plan) g s words (λ none. p) (λ process host. p);
       tries = λ g plan s entry q. tt;
       drops = λ plan s rest code q. tt;
-    }) f plans refl (all_units plans)).flat
+      meets = λ plan services q. tt;
+    }) f plans refl
 
 stays_undecided : (plan : Plan) → plan.code ≡ None → stays plan ≡ true
 stays_undecided plan undecided = ap (λ (code : Option ℕ). not (is_some code && plan.caller == 0)) undecided
@@ -184,8 +186,8 @@ all_stay n [] all = tt
 all_stay n (plan ∷ plans) all = (all.0.staying, all_stay n plans all.1)
 
 -- plans that are settled beside the rest of the state, and the deadlines that are left
-pub settles : (l : Limits) (f g : Flat) (plans ended : List Plan) (rows : List Due) → ended ≡ filter stays (settle_all l f plans).1
-    → g ≡ (settle_all l f plans).0
+pub settles : (l : Limits) (f g : Flat) (plans ended : List Plan) (rows : List Due) → ended ≡ filter stays (settle_all l f plans).plans
+    → g ≡ (settle_all l f plans).flat
     → rows ≡ filter (λ (due : Due). is_due_still ended due.kind) g.dues
     → record g { plans = ended; dues = rows } ≡ settled l (with_plans f plans)
 settles l f g plans ended rows plans_are flat_is rows_are =

@@ -5,6 +5,7 @@ pub mod Turns
 pub mod Showing
 pub mod Keeping
 pub mod Listing
+pub mod Offers
 pub mod Wording
 pub mod NeedRows
 pub mod Opened

@@ -1,5 +1,5 @@
 -- What room stays while room is made for something else.
-use Rattle.std.proofs.Common.{ℕ, ◌≡◌, ◌≤◌, length, ap, arith, subst, sym}
+use Rattle.std.proofs.Common.{ℕ, ◌≡◌, length, ap, arith, subst, sym}
 use Rattle.scm_model.specs.declared.flat.Flat.{Flat}
 use Rattle.scm_tables.specs.Firing.{HasFires, HasStarts, commands_in, starts_in}
 use Rattle.scm_tables.specs.Promised.{KeepsRooms}

@@ -1,5 +1,5 @@
 -- What changes make of the services, by number.
-use Rattle.std.proofs.Common.{ℕ, ◌≡◌, ◌≢◌, ◌∙◌, ◌==◌, suc, true, false, cond, List, [], ◌∷◌, Result, Ok, Err, map, refl}
+use Rattle.std.proofs.Common.{ℕ, ◌≡◌, ◌≢◌, ◌∙◌, suc, List, [], ◌∷◌, Result, Ok, Err, map, refl}
 use Rattle.std.proofs.Common.{ap, sym, subst, ◌<◌, ◌++◌, get_or, length, length-append, eq-eqb, inl, inr, arith}
 use Rattle.std.specs.Prelude.{AllPairs}
 use Rattle.std.specs.List.{AllByRecursion}

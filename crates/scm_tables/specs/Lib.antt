@@ -12,6 +12,7 @@ pub mod Places
 pub mod Rooms
 pub mod Failed
 pub mod Started
+pub mod Offering
 pub mod Lined
 pub mod Marked
 pub mod Needing

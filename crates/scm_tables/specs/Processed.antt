@@ -1,5 +1,5 @@
 -- What contracts see of the processes, and what is always true of them.
-use Rattle.std.specs.Prelude.{ℕ, Bool, ◌≡◌, ◌+◌, ◌++◌, not, ◌==◌, List, [], ◌∷◌, filter, map, vec_capacity}
+use Rattle.std.specs.Prelude.{ℕ, Bool, ◌≡◌, ◌≤◌, ◌+◌, ◌++◌, not, ◌==◌, List, [], ◌∷◌, All, filter, map, vec_capacity}
 use Rattle.scm_model.specs.declared.flat.Process.{Process}
 use Rattle.scm_model.specs.declared.flat.Wanted.{Wanted}
 use Rattle.scm_rules.specs.Launches.{wanted_of_others}
@@ -31,9 +31,15 @@ processed t = record {
 abbrev pub owed_in : List ProcessRow → ℕ
 owed_in rows = total owed_by_process (processes_in rows)
 
--- they stand in order of number, and the steps that they owe are counted
+-- no process has the number 0, nor does the next one
+pub record AreNumbered (next : ℕ) (rows : List ProcessRow) : Type 0 where
+  pub coming : 1 ≤ next
+  pub listed : All (λ (row : ProcessRow). 1 ≤ row.number) rows
+
+-- they stand in order of number, from 1 on, and the steps that they owe are counted
 pub record AreCounted (t : Inside) : Type 0 where
   pub rising : AreInOrder (λ (row : ProcessRow). row.number) t.next t.rows.items
+  pub numbered : AreNumbered t.next t.rows.items
   pub owed : t.owed ≡ owed_in t.rows.items
 
 -- a process of a service, or of none, is to be launched with a line

@@ -7,6 +7,7 @@ mod depending;
 mod due_rows;
 mod failing;
 mod firing;
+mod hosting;
 mod indexing;
 mod lines;
 mod looking;

@@ -95,17 +95,18 @@ fn note_move(queue: &mut NotifyQueue, row: &Service, status: Status, pid: u32)
     }
 }
 
-/// Tells that a service is being started, if it is the one with this number and was STOPPED.
-pub fn note_start(queue: &mut NotifyQueue, service: Option<&Service>, number: u64)
+/// Tells that a service is being started by a process that has this number of the system, if the
+/// service is the one with this number and was STOPPED.
+pub fn note_start(queue: &mut NotifyQueue, service: Option<&Service>, number: u64, pid: u32)
     requires { IfSome (option_copied service) HasShort }
-    ensures rows { (process : ℕ) → queue.new.rows ≡ notified_of_start number process
+    ensures rows { (process : ℕ) → queue.new.rows ≡ notified_of_start number process pid
         (option_copied service.entry) queue.old.rows }
     ensures spare { queue.new.spare ≡ queue.old.spare }
 {
     if let Some(row) = service {
         if row.number == number && row.status.state == SERVICE_STOPPED {
             let status = bare_status(row.status.kind, SERVICE_START_PENDING, 0);
-            note_move(queue, row, status, 0);
+            note_move(queue, row, status, pid);
         }
     }
 }

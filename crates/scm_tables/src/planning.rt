@@ -14,8 +14,8 @@ ghost use Rattle.scm_rules.specs.Steps.{wants_launch, without_plans};
 ghost use Rattle.scm_model.specs.Rows.{service_of};
 ghost use Rattle.number_pairs.specs.declared.pairs.Pair.{Pair};
 ghost use Rattle.start_plan.specs.Asleep.{ArePending};
-ghost use Rattle.start_plan.specs.Decided.{aims_among, code_of, decided_in, is_target};
-ghost use Rattle.start_plan.specs.Decided.{plan_caller};
+ghost use Rattle.start_plan.specs.Decided.{aims_among, code_of, decided_in};
+ghost use Rattle.start_plan.specs.Decided.{is_any_undecided, is_target, plan_caller};
 ghost use Rattle.start_plan.specs.Settle.{stays};
 ghost use Rattle.scm_model.specs.declared.flat.Service.{Service};
 ghost use Rattle.scm_tables.specs.Lines.{first_line};
@@ -60,6 +60,20 @@ impl Tables {
         ensures { result ≡ wants_launch self.now.flat.wanted }
     {
         self.processes.is_any_wanted()
+    }
+
+    /// Whether a process is shared.
+    pub fn is_any_shared(&self) -> bool
+        ensures { result ≡ list_any (λ row. row.shared) self.now.flat.processes }
+    {
+        self.processes.is_any_shared()
+    }
+
+    /// Whether a plan is undecided.
+    pub fn is_any_undecided(&self) -> bool
+        ensures { result ≡ is_any_undecided self.now.flat.plans }
+    {
+        self.plans.is_any_undecided()
     }
 
     /// Whether the launch of a process is taken.

@@ -2,6 +2,7 @@ ghost use Rattle.std.specs.Prelude.{◌≡◌, ◌≢◌, ◌<◌, ◌==◌, ◌
 ghost use Rattle.std.specs.Prelude.{not, position, map, drop, filter, find, if◌then◌else◌};
 ghost use Rattle.std.specs.Prelude.{option_copied, slice_get, vec_capacity, All, AllPairs, IfNone};
 ghost use Rattle.std.specs.Prelude.{IfSome};
+ghost use Rattle.std.specs.List.{list_any};
 ghost use Rattle.scm_model.specs.declared.flat.Phase.TheVariants as phases;
 ghost use Rattle.scm_rules.specs.Controls.{controlled_if, dequeued_if};
 ghost use Rattle.scm_rules.specs.Launches.{first_wanted, launched_if, taken_if};
@@ -222,6 +223,13 @@ pub fn is_any_wanted(rows: &[ProcessRow]) -> bool
         }
     }
     false
+}
+
+/// Whether a process is shared.
+pub fn is_any_shared(rows: &[ProcessRow]) -> bool
+    ensures { result ≡ list_any (λ row. row.shared) rows.now }
+{
+    rows.iter().any(|row| row.shared)
 }
 
 /// The first process that is to be launched.

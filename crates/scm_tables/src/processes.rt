@@ -1,5 +1,7 @@
-ghost use Rattle.std.specs.Prelude.{◌≡◌, ◌≤◌, ◌<◌, ◌-◌, ◌==◌, ◌^◌, [], find, length, min, nat_le};
-ghost use Rattle.std.specs.Prelude.{option_copied, option_map, slice_get, All, IfOk};
+ghost use Rattle.std.specs.Prelude.{◌≡◌, ◌≤◌, ◌<◌, ◌-◌, ◌==◌, ◌^◌, [], find, length, min};
+ghost use Rattle.std.specs.Prelude.{nat_le, option_copied, option_map, slice_get, All, AllPairs};
+ghost use Rattle.std.specs.Prelude.{IfOk};
+ghost use Rattle.std.specs.List.{list_any};
 ghost use Rattle.scm_model.specs.Processes.{is_shared};
 ghost use Rattle.scm_model.specs.Notices.{pid_in};
 ghost use Rattle.scm_rules.specs.Controls.{controlled_if, controls_in, first_control, dequeued_if};
@@ -10,16 +12,19 @@ ghost use Rattle.scm_rules.specs.Reports.{released_if};
 ghost use Rattle.scm_rules.specs.Steps.{wants_launch};
 ghost use Rattle.start_plan.specs.Owed.{total};
 ghost use Rattle.scm_tables.specs.Listed.{process_shown, wanted_of, without_words, next_words};
+ghost use Rattle.scm_tables.specs.Offering.{offers_among};
 ghost use Rattle.scm_tables.specs.Processed.{with_changed, with_listed, without_launch};
 ghost use Rattle.scm_tables.specs.Processed.{without_one};
 
+use super::hosting::first_offering;
 use super::lines::Line;
 use super::process_rows::{
-    ProcessRow, control_in, drop_process, first_wanted, is_any_wanted, launch_in, owed_in_phase,
-    process_with, release_in, relieve_in, take_in, take_words, wanted_first,
+    ProcessRow, control_in, drop_process, first_wanted, is_any_shared, is_any_wanted, launch_in,
+    owed_in_phase, process_with, release_in, relieve_in, take_in, take_words, wanted_first,
 };
 use control_dispatch::Controls;
-use scm_model::{Order, Phase};
+use record_table::RecordTable;
+use scm_model::{Order, Phase, Service};
 use scm_text::{Items, OutOfMemory, WText};
 use std::alloc::Global;
 use std::marker::Model;
@@ -141,6 +146,22 @@ impl Processes {
             Some(row) => row.shared,
             None => false,
         }
+    }
+
+    /// Whether one of them is shared.
+    pub fn is_any_shared(&self) -> bool
+        ensures { result ≡ list_any (λ row. row.shared) self.now.processes }
+    {
+        is_any_shared(self.rows.as_slice())
+    }
+
+    /// The first service that offers one of the processes to others of a path.
+    pub fn first_offering<'a>(&self, rows: &'a RecordTable, path: &WText) -> Option<&'a Service>
+        requires { AllPairs (λ a b. a.number < b.number) rows.now.services }
+        ensures { option_copied result ≡ find (offers_among self.now.processes path.now)
+            rows.now.services }
+    {
+        first_offering(rows, self.rows.as_slice(), path)
     }
 
     /// How many orders wait for a process; none where it isn't listed.

@@ -1,4 +1,4 @@
-use Rattle.std.proofs.Common.{◌≡◌, ◌+◌, ◌∙◌, ap, arith, drop, List, refl, sym}
+use Rattle.std.proofs.Common.{◌+◌, ◌∙◌, ap, arith, drop, List, refl, sym}
 use Rattle.number_pairs.specs.declared.pairs.Pair.{Pair}
 use Rattle.std.proofs.lemmas.List.{drop_all, get_or_default}
 use Rattle.start_plan.specs.Decided.{aims_among, decided_in}

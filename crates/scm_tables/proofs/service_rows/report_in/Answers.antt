@@ -1,4 +1,4 @@
-use Rattle.std.proofs.Common.{◌∙◌, ap, eq-eqb, sym}
+use Rattle.std.proofs.Common.{◌∙◌, ap}
 use Rattle.record_table.specs.Recorded.{Recorded}
 use Rattle.scm_model.specs.declared.flat.Service.{Service}
 use Rattle.scm_rules.specs.Reports.{moved_by, reported_if}

@@ -2,7 +2,7 @@ use Rattle.std.proofs.Common.{◌∙◌, ap, refl, sym}
 use Rattle.scm_rules.specs.Controls.{dequeued_if}
 use Rattle.scm_tables.specs.Listed.{listed_as}
 use Rattle.scm_tables.specs.Processed.{owed_in}
-use Rattle.scm_tables.proofs.Changing.{number_of, relieved_number, relieved_phase}
+use Rattle.scm_tables.proofs.Changing.{number_of, numbered_map, relieved_number, relieved_phase}
 use Rattle.scm_tables.proofs.Counting.{owed_alone}
 use Rattle.scm_tables.proofs.Listing.{processes_changed, wanted_relieved}
 use Rattle.scm_tables.proofs.Rising.{ordered_map}
@@ -13,6 +13,8 @@ invariant_of-self c =
     record {
       rising = rw c.relieve_in.ensures.rows (ordered_map number_of _ (listed_as (dequeued_if c.args.number))
           (relieved_number c.args.number) _ c.self.invariant.rising);
+      numbered = rw c.relieve_in.ensures.rows (numbered_map _ (dequeued_if c.args.number) (relieved_number c.args.number) _
+          c.self.invariant.numbered);
       owed = c.self.invariant.owed ∙ sym (owed_alone (dequeued_if c.args.number) (relieved_phase c.args.number) c.self.inside.rows.items)
           ∙ sym (ap owed_in c.relieve_in.ensures.rows);
     }

@@ -1,5 +1,5 @@
 use Rattle.std.proofs.Common.{refl}
-use Rattle.scm_tables.proofs.Changing.{number_of}
+use Rattle.scm_tables.proofs.Changing.{number_of, numbered_filter}
 use Rattle.scm_tables.proofs.Listing.{processes_kept, wanted_kept}
 use Rattle.scm_tables.proofs.Rising.{ordered_filter}
 use Rattle.scm_tables.proofs.processes.Processes.remove.Goals as goal
@@ -8,6 +8,7 @@ pub invariant_of-self : goal.invariant_of-self
 invariant_of-self c =
     record {
       rising = rw c.drop_process-self-inside.ensures.rows (ordered_filter number_of _ _ _ c.self.invariant.rising);
+      numbered = rw c.drop_process-self-inside.ensures.rows (numbered_filter _ _ _ c.self.invariant.numbered);
       owed = c.drop_process-self-inside.ensures.owed;
     }
 

@@ -1,7 +1,7 @@
 use Rattle.std.proofs.Common.{refl}
 use Rattle.scm_rules.specs.Launches.{taken_if}
 use Rattle.scm_tables.specs.Listed.{listed_as}
-use Rattle.scm_tables.proofs.Changing.{number_of, taken_number}
+use Rattle.scm_tables.proofs.Changing.{number_of, numbered_map, taken_number}
 use Rattle.scm_tables.proofs.Listing.{processes_changed, wanted_taken}
 use Rattle.scm_tables.proofs.Rising.{ordered_map}
 use Rattle.scm_tables.proofs.processes.Processes.take.Goals as goal
@@ -11,6 +11,8 @@ invariant_of-self c =
     record {
       rising = rw c.take_in-self-inside.ensures.rows (ordered_map number_of _ (listed_as (taken_if c.args.number))
           (taken_number c.args.number) _ c.self.invariant.rising);
+      numbered = rw c.take_in-self-inside.ensures.rows (numbered_map _ (taken_if c.args.number) (taken_number c.args.number) _
+          c.self.invariant.numbered);
       owed = c.take_in-self-inside.ensures.owed;
     }
 

@@ -1,4 +1,4 @@
-use Rattle.std.proofs.Common.{◌≡◌, ◌∙◌, ap, subst, sym, length, ◌<◌}
+use Rattle.std.proofs.Common.{◌∙◌, ap, subst, sym, length, ◌<◌}
 use Rattle.scm_model.specs.declared.flat.Flat.{Flat}
 use Rattle.scm_model.specs.Processes.{currents}
 use Rattle.scm_rules.specs.Launches.{with_fallen}
