@@ -1,10 +1,11 @@
 -- A step leaves the services that a process is still to be sent to start, unless it rings its bell.
 use Rattle.std.proofs.Common.{ℕ, ◌≡◌, ◌∙◌, ◌<◌, ◌≤◌, ◌==◌, ◌&&◌, Bool, true, false, not, cond, List, [], ◌∷◌, ◌++◌, Option, Some, filter}
 use Rattle.std.proofs.Common.{find}
-use Rattle.std.proofs.Common.{map, get_or, ap, sym, refl, subst, arith, eq-eqb, eqb-true}
+use Rattle.std.proofs.Common.{◌⊎◌, inl, inr, map, get_or, ap, sym, refl, subst, arith, eq-eqb, eqb-true, ne_eqb}
 use Rattle.std.proofs.lemmas.Bool.{and_left, and_parts, and_right}
 use Rattle.std.proofs.lemmas.List.Elements.{All-head, All-map, All-push, All-tail, All-weaker}
 use Rattle.std.specs.Prelude.{All, AllPairs, option_map}
+use Rattle.std.specs.List.{list_any}
 use Rattle.scm_model.specs.declared.calls.Request.{Request}
 use Rattle.scm_model.specs.declared.calls.Request.TheVariants as request
 use Rattle.scm_model.specs.declared.codes.TheConstants.{ERROR_PROCESS_ABORTED, SERVICE_STOPPED}
@@ -12,6 +13,7 @@ use Rattle.scm_model.specs.declared.flat.Config.{Config}
 use Rattle.scm_model.specs.declared.flat.Flat.{Flat}
 use Rattle.scm_model.specs.declared.flat.HandleRow.{HandleRow}
 use Rattle.scm_model.specs.declared.flat.Limits.{Limits}
+use Rattle.scm_model.specs.declared.flat.Process.{Process}
 use Rattle.scm_model.specs.declared.flat.Service.{Service}
 use Rattle.scm_model.specs.declared.flat.Status.{Status}
 use Rattle.scm_model.specs.declared.steps.Kept.{Kept}
@@ -21,12 +23,13 @@ use Rattle.scm_model.specs.Changes.{configured_if, marked_if, with_moment}
 use Rattle.scm_model.specs.Entries.{with_kept}
 use Rattle.scm_model.specs.Processes.{is_shared}
 use Rattle.scm_model.specs.Purge.{leaves}
-use Rattle.scm_model.specs.Rows.{held_service}
+use Rattle.scm_model.specs.Rows.{held_service, service_of}
 use Rattle.scm_model.proofs.Found.{found_keeps}
-use Rattle.start_plan.specs.Entered.{started_if, starting_in}
-use Rattle.start_plan.specs.Settle.{settled}
-use Rattle.start_plan.proofs.Enterings.{all_units}
-use Rattle.start_plan.proofs.Keeps.{Keeps, keeps_all}
+use Rattle.start_plan.specs.Decided.{is_any_undecided}
+use Rattle.start_plan.specs.Entered.{is_shared_by, started_if, starting_in, wanted_process}
+use Rattle.start_plan.specs.Settle.{Turns, settle_all, settled}
+use Rattle.start_plan.proofs.Hosts.{IsHost, entered_keeps}
+use Rattle.start_plan.proofs.Keeps.{Keeps, keeps_flat}
 use Rattle.start_plan.proofs.Rows.{started_or}
 use Rattle.scm_rules.specs.Change.{new_config}
 use Rattle.scm_rules.specs.Change2.{level_config}
@@ -48,9 +51,14 @@ use Rattle.scm_runs.proofs.Rows.{by_parts, fallen_or, reported_or}
 use Rattle.scm_runs.proofs.Sound.{reporting_by}
 use Rattle.scm_runs.proofs.Unasked.{ticked_apart}
 use Rattle.scm_rules.proofs.Held.{held_is}
+use Rattle.scm_history.proofs.Finds.{find_push}
+use Rattle.scm_history.proofs.Processes.{has}
 use Rattle.scm_book.specs.declared.bells.Children.{Children}
-use Rattle.scm_book.specs.Ringing.{AsksNoOther, asked_of, children_rung, controls_rung, if_stopped, is_rung, shared_or_nobody}
-use Rattle.scm_book.proofs.Unstirred.{rung_kept, stops_another}
+use Rattle.scm_book.specs.Ringing.{AsksNoOther, asked_of, begins_plans, children_rung, controls_rung, effect_rung, if_stopped, is_rung}
+use Rattle.scm_book.specs.Ringing.{may_host, rings_common, shared_or_nobody}
+use Rattle.scm_book.proofs.Hosting.{decided_still, stays_alone, why_none}
+use Rattle.scm_book.proofs.Stirring.{effect_leaves, still}
+use Rattle.scm_book.proofs.Unstirred.{IsAside, aside_by, rung_kept, stops_another}
 
 -- ## Services in order
 
@@ -332,7 +340,7 @@ call_asks l f caller asked append process numbers rising right quiet asks =
 
 effect_asks : (l : Limits) (f : Flat) (moment : ℕ) (step : Step) (process : ℕ) (numbers : List ℕ)
     → AllPairs (λ (a b : Service). a.number < b.number) f.services
-    → All (IsAskedRight f.processes) f.services → is_rung (children_rung f step) process ≡ false
+    → All (IsAskedRight f.processes) f.services → is_rung (effect_rung f step) process ≡ false
     → Asks process numbers f.services → Asks process numbers (effect_of l (at_moment f moment step) step).flat.services
 effect_asks l f moment (Call caller asked append) process numbers rising right quiet asks =
     call_asks l (with_moment f moment) caller asked append process numbers rising right quiet asks
@@ -356,39 +364,76 @@ effect_asks l f moment Tick process numbers rising right quiet asks =
 effect_asks l f moment (Raised caller subtype) process numbers rising right quiet asks = absurd cc
 effect_asks l f moment step process numbers rising right quiet asks = asks
 
--- a state that gave no number below the bound anew
+-- a state that gave no number below the bound anew, and doesn't share the process
 record AsksStill (bound process : ℕ) (numbers : List ℕ) (g : Flat) : Type 0 where
   up : bound ≤ g.next.process
+  alone : is_shared (process_of g process) ≡ false
   asks : Asks process numbers g.services
 
 asks_still : (l : Limits) (bound process : ℕ) (numbers : List ℕ) → process < bound
     → Keeps l (AsksStill bound process numbers) (λ plan. Unit {0})
 asks_still l bound process numbers low = record {
-  enters = λ g plan service words entry is. record {
-    up = (let up = is.up in omega arith);
-    asks = entered process numbers service g.next.process g.services (λ e. absurd (let up = is.up in omega (arith, e, up, low))) is.asks;
-  };
+  enters = λ g plan service words entry is. entered_keeps (AsksStill bound process numbers) g service words
+      (λ none. record {
+        up = (let up = is.up in omega arith);
+        alone = ap is_shared (find_push (has process) g.processes (wanted_process g.next.process service (is_shared_by (service_of g service)))
+            (ne_eqb g.next.process process (λ e. absurd (let up = is.up in omega (arith, e, up, low))))) ∙ is.alone;
+        asks = entered process numbers service g.next.process g.services (λ e. absurd (let up = is.up in omega (arith, e, up, low))) is.asks;
+      })
+      (λ one host. record {
+        up = is.up;
+        alone = is.alone;
+        asks = entered process numbers service one g.services (another g one host is.alone) is.asks;
+      });
   tries = λ g plan service entry q. tt;
   drops = λ plan service rest code q. tt;
+  meets = λ plan services q. tt;
 }
+  where
+    another : (g : Flat) {service : ℕ} (one : ℕ) → IsHost g service one → is_shared (process_of g process) ≡ false → one ≡ process → ⊥
+    another g one host alone same =
+        let shared : is_shared (process_of g process) ≡ true = subst (λ n. is_shared (process_of g n) ≡ true) same host.shared in cc
+
+-- settling asks nothing more of a process that the step doesn't ring
+settled_asks : (l : Limits) (f : Flat) (moment : ℕ) (step : Step) (process : ℕ) (numbers : List ℕ) → IsValid l f
+    → process < f.next.process → (rings_common step && may_host f step) ≡ false
+    → Asks process numbers (effect_of l (at_moment f moment step) step).flat.services
+    → Asks process numbers (settled l (effect_of l (at_moment f moment step) step).flat).services
+settled_asks l f moment step process numbers valid low none asks = by (why_none f step none)
+  where
+    g : Flat
+    g = (effect_of l (at_moment f moment step) step).flat
+
+    rested : settle_all l g g.plans ≡ record { flat = g; plans = g.plans; hosted = [] }
+        → Asks process numbers (settle_all l g g.plans).flat.services
+    rested same = subst (λ (end : Turns). Asks process numbers end.flat.services) (sym same) asks
+
+    by : (rings_common step ≡ false) ⊎ ((list_any (λ (row : Process). row.shared) f.processes ≡ false) ⊎ ((begins_plans step ≡ false)
+        × (is_any_undecided f.plans ≡ false))) → Asks process numbers (settle_all l g g.plans).flat.services
+    by (inl quiet) = rested (still l f g (effect_leaves l f moment step quiet) valid.settled)
+    by (inr (inl alone)) = (keeps_flat l (AsksStill f.next.process process numbers) (asks_still l f.next.process process numbers low)
+        g g.plans (record {
+          up = process_up l f moment step;
+          alone = stays_alone l f moment step process low alone;
+          asks = asks;
+        })).asks
+    by (inr (inr decided)) = rested (decided_still l f moment step decided.0 decided.1)
 
 step_asks : (l : Limits) (f : Flat) (moment : ℕ) (step : Step) (process : ℕ) → IsValid l f → process < f.next.process
     → is_rung (children_rung f step) process ≡ false → asked_of (step_of l f moment step).flat process ≡ asked_of f process
 step_asks l f moment step process valid low quiet =
     let numbers = asked_of f process in
     let done = effect_of l (at_moment f moment step) step in
+    let aside : IsAside f step process = aside_by f step process quiet in
     let begins : Asks process numbers f.services = record {
       asked = refl;
       up = λ k d lt by. (let row = get_or f.services k d in let is = by_parts process row by in
           valid.stopped k d lt ∙ ap (λ n. n == 0) is.1 ∙ is.0);
     } in
-    let kept = (keeps_all l (AsksStill f.next.process process numbers) (λ plan. Unit {0}) (asks_still l f.next.process process numbers low)
-    done.flat done.flat.plans (record {
-      up = process_up l f moment step;
-      asks = effect_asks l f moment step process numbers valid.services.rising valid.asked quiet begins;
-    }) (all_units done.flat.plans)).flat in
+    let kept : Asks process numbers (settled l done.flat).services = settled_asks l f moment step process numbers valid low aside.hosts
+    (effect_asks l f moment step process numbers valid.services.rising valid.asked aside.effect begins) in
     let finished : Asks process numbers (finished_step l f moment step).flat.services =
-    finished_keeps (λ (g : Flat). Asks process numbers g.services) (λ g plans asks. asks) (settled l done.flat) done.answer kept.asks in
+    finished_keeps (λ (g : Flat). Asks process numbers g.services) (λ g plans asks. asks) (settled l done.flat) done.answer kept in
     left process (finished_step l f moment step).flat.handles (finished_step l f moment step).flat.services finished.up ∙ finished.asked
 
 pub asks_no_other : (f : Flat) (step : Step) (rung : Children) → rung ≡ children_rung f step → AsksNoOther f step rung

@@ -24,4 +24,5 @@ mod ReportsMade
 mod Handing
 mod Stirring
 mod Unstirred
+mod Hosting
 mod Asked

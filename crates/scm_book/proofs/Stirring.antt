@@ -3,8 +3,9 @@ use Rattle.std.proofs.Common.{ℕ, ◌≡◌, ◌∙◌, ◌==◌, ◌||◌, ◌
 use Rattle.std.proofs.Common.{ap, sym, refl, subst, inl, inr, eqb-true, length, map}
 use Rattle.std.proofs.lemmas.Bool.{not-true}
 use Rattle.std.proofs.lemmas.List.{length-map}
-use Rattle.std.specs.Prelude.{is_some, nat_le, option_and_then, option_map}
+use Rattle.std.specs.Prelude.{is_none, is_some, nat_le, option_and_then, option_map}
 use Rattle.std.specs.List.{AllByRecursion, list_all, list_any}
+use Rattle.std.specs.Cmp.Lexicographic.{pointwise}
 use Rattle.scm_text.specs.Fold.{same_text}
 use Rattle.scm_text.specs.Numbers.{has}
 use Rattle.scm_model.specs.declared.calls.Request.{Request}
@@ -17,6 +18,7 @@ use Rattle.scm_model.specs.declared.flat.Limits.{Limits}
 use Rattle.scm_model.specs.declared.flat.Need.{Need}
 use Rattle.scm_model.specs.declared.flat.Need.TheVariants as needs
 use Rattle.scm_model.specs.declared.flat.Order.{Order}
+use Rattle.scm_model.specs.declared.flat.Phase.TheVariants as phases
 use Rattle.scm_model.specs.declared.flat.Plan.{Plan}
 use Rattle.scm_model.specs.declared.flat.Process.{Process}
 use Rattle.scm_model.specs.declared.flat.Service.{Service}
@@ -27,12 +29,14 @@ use Rattle.scm_model.specs.declared.steps.Step.TheVariants.{Joined, Call, Contro
 use Rattle.scm_model.specs.Changes.{with_moment}
 use Rattle.scm_model.specs.Entries.{Entry, with_kept}
 use Rattle.scm_model.specs.Found.{if_found}
+use Rattle.scm_model.specs.Processes.{is_shared, process_of}
 use Rattle.scm_model.specs.Ready.{is_fulfilled, is_ready, is_running, is_up, state_in}
 use Rattle.scm_model.specs.Refused.{first_refusal}
 use Rattle.scm_model.specs.Rows.{named, service_of}
 use Rattle.start_plan.specs.Decided.{code_of, is_numbered, without_plan}
 use Rattle.start_plan.specs.Moves.{cause_at, entering_at, is_pending, move_by, move_of}
-use Rattle.start_plan.specs.Settle.{settle_all, settled, stays}
+use Rattle.start_plan.specs.Hosts.{host_at, is_sharing, offers}
+use Rattle.start_plan.specs.Settle.{Turns, settle_all, settled, stays}
 use Rattle.start_plan.specs.declared.settling.Move.{Move}
 use Rattle.start_plan.specs.declared.settling.Move.TheVariants as moves
 use Rattle.start_plan.proofs.Keeps.{all_filter}
@@ -48,9 +52,12 @@ use Rattle.scm_runs.proofs.Founds.{opened_keeps}
 use Rattle.scm_runs.proofs.Histories.{legal_made, state_is}
 use Rattle.scm_runs.proofs.Lists.{filter_twice, find_filter}
 use Rattle.scm_runs.proofs.Plans.{all_weaker}
+use Rattle.scm_runs.proofs.Processes.{shared_map}
 use Rattle.scm_runs.proofs.Rests.{Rests, RestsAt, all_still, settled_rest}
 use Rattle.scm_runs.proofs.Rows.{unasked_or}
+use Rattle.scm_runs.proofs.Sound.{controls_fewer}
 use Rattle.scm_history.proofs.Finds.{found_map}
+use Rattle.scm_history.proofs.Processes.{takes}
 use Rattle.book_rule.specs.declared.view.Opening.{Opening}
 use Rattle.scm_book.specs.Holds.{Runs}
 use Rattle.scm_book.specs.Ringing.{IsAwaitedSo, StirsNobody, WaitsOn, is_quiet, rings_common, takes_nothing}
@@ -67,22 +74,26 @@ move_at l f tried service found =
     cond (state_in found == SERVICE_RUNNING) moves.Passes
     (cond (is_pending (state_in found)) moves.Waits (move_by (entering_at (cause_at l f (has tried service) found) (is_some f.lock))))
 
--- by what is ready and how many processes are listed
-abbrev cause_by : Limits → Service → Bool → Bool → ℕ → ℕ
-cause_by l row is_tried ready count = first_refusal (
+-- by what is ready, how many processes are listed, and what the host is
+abbrev cause_by : Limits → Service → Bool → Bool → ℕ → Option ℕ → ℕ
+cause_by l row is_tried ready count host = first_refusal (
     (row.marked, ERROR_SERVICE_MARKED_FOR_DELETE)
     ∷ (row.config.start == SERVICE_DISABLED, ERROR_SERVICE_DISABLED)
     ∷ (not ready || not (row.status.state == SERVICE_STOPPED) || is_tried, ERROR_SERVICE_DEPENDENCY_FAIL)
-    ∷ (nat_le l.processes count, ERROR_SERVICE_NO_THREAD)
+    ∷ (nat_le l.processes count && is_none host, ERROR_SERVICE_NO_THREAD)
     ∷ [])
 
 module _ (l : Limits) (f : Flat) (services : List Service) (processes : List Process) (many : length processes ≡ length f.processes)
-    (ready : (row : Service) → is_ready (beside f services processes) row ≡ is_ready f row) where
+    (ready : (row : Service) → is_ready (beside f services processes) row ≡ is_ready f row)
+    (hosts : (row : Service) → host_at (beside f services processes) (Some row) ≡ host_at f (Some row)) where
   cause_same : (is_tried : Bool) (found : Option Service)
       → cause_at l (beside f services processes) is_tried found ≡ cause_at l f is_tried found
   cause_same is_tried None = refl
-  cause_same is_tried (Some row) = ap (λ (is : Bool). cause_by l row is_tried is (length processes)) (ready row)
-      ∙ ap (cause_by l row is_tried (is_ready f row)) many
+  cause_same is_tried (Some row) =
+      let host = host_at (beside f services processes) (Some row) in
+      ap (λ (is : Bool). cause_by l row is_tried is (length processes) host) (ready row)
+      ∙ ap (λ (count : ℕ). cause_by l row is_tried (is_ready f row) count host) many
+      ∙ ap (cause_by l row is_tried (is_ready f row) (length f.processes)) (hosts row)
 
   move_same : (tried : List ℕ) (service : ℕ) (found : Option Service)
       → move_at l (beside f services processes) tried service found ≡ move_at l f tried service found
@@ -91,7 +102,47 @@ module _ (l : Limits) (f : Flat) (services : List Service) (processes : List Pro
       (cond (is_pending (state_in found)) moves.Waits (move_by (entering_at cause (is_some f.lock)))))
       (cause_same (has tried service) found)
 
+-- ## Processes that are shared as they were
+
+module _ (f : Flat) (processes : List Process) (shared : (n : ℕ)
+    → is_shared (find (λ (row : Process). row.number == n) processes) ≡ is_shared (process_of f n)) where
+  offers_same : (path : List ℕ) (row : Service) → offers (beside f f.services processes) path row ≡ offers f path row
+  offers_same path row = ap (λ (b : Bool). is_sharing row && pointwise ◌==◌ row.config.path path && b) (shared row.process)
+
+  first_same : (path : List ℕ) (rows : List Service)
+      → find (offers (beside f f.services processes) path) rows ≡ find (offers f path) rows
+  first_same path [] = refl
+  first_same path (row ∷ rows) =
+      ap (λ (b : Bool). cond b (Some row) (find (offers (beside f f.services processes) path) rows)) (offers_same path row)
+      ∙ ap (cond (offers f path row) (Some row)) (first_same path rows)
+
+  -- so hosts are as they were
+  hosts_same : (row : Service) → host_at (beside f f.services processes) (Some row) ≡ host_at f (Some row)
+  hosts_same row =
+      ap (λ (found : Option Service). cond (is_sharing row) (option_map (λ (other : Service). other.process) found) None)
+      (first_same row.config.path f.services)
+
+shared_taken : (found : Option ℕ) (n : ℕ) (rows : List Process)
+    → is_shared (find (λ (row : Process). row.number == n) (if_found (λ process. map (taken_if process)) found rows))
+    ≡ is_shared (find (λ (row : Process). row.number == n) rows)
+shared_taken None n rows = refl
+shared_taken (Some process) n rows = shared_map (taken_if process) (takes process).number_same
+    (λ row. elim (row.number == process) as (λ b. (cond b (record row { phase = phases.Taken }) row).shared ≡ row.shared)
+    [ true ↦ refl | false ↦ refl ]) n rows
+
+shared_dequeued : (process n : ℕ) (rows : List Process)
+    → is_shared (find (λ (row : Process). row.number == n) (map (dequeued_if process) rows))
+    ≡ is_shared (find (λ (row : Process). row.number == n) rows)
+shared_dequeued process n rows = shared_map (dequeued_if process)
+    (λ row. ap (λ (r : Process). r.number) (controls_fewer process row))
+    (λ row. ap (λ (r : Process). r.shared) (controls_fewer process row)) n rows
+
 -- ## A service that is asked no more
+
+lives_still : (number : ℕ) (found : Option Service)
+    → option_map (λ (row : Service). row.process) (option_map (unasked_if number) found) ≡ option_map (λ (row : Service). row.process) found
+lives_still number None = refl
+lives_still number (Some row) = unasked_or (λ new. Some new.process ≡ Some row.process) number row refl refl
 
 still_up : (number : ℕ) (found : Option Service) → is_up (option_map (unasked_if number) found) ≡ is_up found
 still_up number None = refl
@@ -115,29 +166,40 @@ still_running number group (row ∷ rows) =
     (running_too (record row { asked = false }) row news (filter p rows) (p row) refl later)
     (running_too row row news (filter p rows) (p row) refl later)
 
-module _ (f : Flat) (number : ℕ) (processes : List Process) where
-  need_same : (need : Need) → is_fulfilled (beside f (map (unasked_if number) f.services) processes) need ≡ is_fulfilled f need
+-- a state in which it is
+abbrev without_asking : Flat → ℕ → Flat
+without_asking f number = beside f (map (unasked_if number) f.services) f.processes
+
+module _ (f : Flat) (number : ℕ) where
+  need_same : (need : Need) → is_fulfilled (without_asking f number) need ≡ is_fulfilled f need
   need_same (needs.Service name) =
       ap is_up (found_map (λ (row : Service). same_text row.config.name name) (unasked_if number)
       (λ row. unasked_or (λ new. same_text new.config.name name ≡ same_text row.config.name name) number row refl refl) f.services)
       ∙ still_up number (named f name)
   need_same (needs.Group group) = still_running number group f.services
 
-  needs_same : (needed : List Need) → list_all (is_fulfilled (beside f (map (unasked_if number) f.services) processes)) needed
-      ≡ list_all (is_fulfilled f) needed
+  needs_same : (needed : List Need) → list_all (is_fulfilled (without_asking f number)) needed ≡ list_all (is_fulfilled f) needed
   needs_same [] = refl
   needs_same (need ∷ needed) =
-      ap (λ b. b && list_all (is_fulfilled (beside f (map (unasked_if number) f.services) processes)) needed) (need_same need)
+      ap (λ b. b && list_all (is_fulfilled (without_asking f number)) needed) (need_same need)
       ∙ ap (λ b. is_fulfilled f need && b) (needs_same needed)
 
-  moves_unasked : (l : Limits) (tried : List ℕ) (service : ℕ) → length processes ≡ length f.processes
-      → move_of l (beside f (map (unasked_if number) f.services) processes) tried service ≡ move_of l f tried service
-  moves_unasked l tried service many =
-      let g = beside f (map (unasked_if number) f.services) processes in
+  hosts_still : (row : Service) → host_at (without_asking f number) (Some row) ≡ host_at f (Some row)
+  hosts_still row =
+      let process = λ (other : Service). other.process in
+      ap (λ (host : Option ℕ). cond (is_sharing row) host None)
+      (ap (option_map process) (found_map (offers f row.config.path) (unasked_if number)
+      (λ other. unasked_or (λ new. offers f row.config.path new ≡ offers f row.config.path other) number other refl refl) f.services)
+      ∙ lives_still number (find (offers f row.config.path) f.services))
+
+  moves_unasked : (l : Limits) (tried : List ℕ) (service : ℕ)
+      → move_of l (without_asking f number) tried service ≡ move_of l f tried service
+  moves_unasked l tried service =
+      let g = without_asking f number in
       ap (move_at l g tried service) (found_map (λ (row : Service). row.number == service) (unasked_if number)
       (λ row. unasked_or (λ new. (new.number == service) ≡ (row.number == service)) number row refl refl) f.services)
       ∙ asked_or_not l g tried service (service_of f service)
-      ∙ move_same l f (map (unasked_if number) f.services) processes many (λ row. needs_same row.config.needs) tried service
+      ∙ move_same l f (map (unasked_if number) f.services) f.processes refl (λ row. needs_same row.config.needs) hosts_still tried service
       (service_of f service)
     where
       asked_or_not : (l : Limits) (g : Flat) (tried : List ℕ) (service : ℕ) (found : Option Service)
@@ -193,7 +255,7 @@ many_taken (Some process) rows = length-map rows (taken_if process)
 -- ## What an effect leaves
 
 -- each service lets plans make the moves that it did, a plan rests if it did, and those that wait on plans and launches still do
-record Leaves (l : Limits) (f g : Flat) : Type 0 where
+pub record Leaves (l : Limits) (f g : Flat) : Type 0 where
   moves : (tried : List ℕ) (service : ℕ) → move_of l g tried service ≡ move_of l f tried service
   rest : AllByRecursion (Rests l f) f.plans → AllByRecursion (Rests l f) g.plans
   waits : WaitsOn f g
@@ -208,7 +270,8 @@ module _ (l : Limits) (f g : Flat) (moves : (tried : List ℕ) (service : ℕ) �
   rests_too plan (inr rests) = inr (rests_at plan plan.entries rests)
 
 -- plans that rest go on resting
-still : (l : Limits) (f g : Flat) → Leaves l f g → settled l f ≡ f → settle_all l g g.plans ≡ (g, g.plans)
+pub still : (l : Limits) (f g : Flat) → Leaves l f g → settled l f ≡ f
+    → settle_all l g g.plans ≡ record { flat = g; plans = g.plans; hosted = [] }
 still l f g is settled_before =
     let rests : AllByRecursion (Rests l f) f.plans = subst (λ (x : Flat). AllByRecursion (Rests l x) x.plans) settled_before
     (settled_rest l f) in
@@ -218,9 +281,9 @@ settled_so : (l : Limits) (f g : Flat) → Leaves l f g → settled l f ≡ f �
 settled_so l f g is settled_before =
     let same = still l f g is settled_before in
     record {
-      plans = λ plan none. subst (λ (r : Flat × List Plan). code_of (filter stays r.1) plan ≡ None) (sym same)
+      plans = λ plan none. subst (λ (r : Turns). code_of (filter stays r.plans) plan ≡ None) (sym same)
           (undecided_stays g.plans plan (is.waits.plans plan none));
-      wanted = λ none. subst (λ (r : Flat × List Plan). wants_launch r.0.wanted ≡ false) (sym same) (is.waits.wanted none);
+      wanted = λ none. subst (λ (r : Turns). wants_launch r.flat.wanted ≡ false) (sym same) (is.waits.wanted none);
     }
 
 -- ## Effects that take nothing
@@ -247,11 +310,11 @@ settled_alike : (l : Limits) (f g : Flat) → Alike f g → settled l f ≡ f �
 settled_alike l f g is settled_before =
     let same = still l f g (alike_leaves l f g is) settled_before in
     let stay : filter stays f.plans ≡ f.plans = subst (λ (plans : List Plan). filter stays plans ≡ plans)
-    (ap (λ (x : Flat). x.plans) settled_before) (filter_twice stays (settle_all l f f.plans).1) in
+    (ap (λ (x : Flat). x.plans) settled_before) (filter_twice stays (settle_all l f f.plans).plans) in
     record {
-      plans = ap (λ (r : Flat × List Plan). filter stays r.1) same ∙ ap (λ (x : Flat). filter stays x.plans) is ∙ stay;
-      wanted = ap (λ (r : Flat × List Plan). r.0.wanted) same ∙ ap (λ (x : Flat). x.wanted) is;
-      processes = ap (λ (r : Flat × List Plan). r.0.processes) same ∙ ap (λ (x : Flat). x.processes) is;
+      plans = ap (λ (r : Turns). filter stays r.plans) same ∙ ap (λ (x : Flat). filter stays x.plans) is ∙ stay;
+      wanted = ap (λ (r : Turns). r.flat.wanted) same ∙ ap (λ (x : Flat). x.wanted) is;
+      processes = ap (λ (r : Turns). r.flat.processes) same ∙ ap (λ (x : Flat). x.processes) is;
     }
 
 done_alike : (l : Limits) (f : Flat) (caller : ℕ) (asked : Request) → not (is_quiet asked) ≡ false → Alike f (done_of l f caller asked).flat
@@ -302,17 +365,19 @@ sent_leaves : (l : Limits) (f : Flat) (moment process : ℕ) (asked : Option Ser
     → Leaves l f (beside (with_moment f moment) (unasked_in asked f.services) (dequeued_in asked process f.processes))
 sent_leaves l f moment process None = record {
   moves = λ tried service. move_same l f f.services (map (dequeued_if process) f.processes)
-      (length-map f.processes (dequeued_if process)) (λ row. refl) tried service (service_of f service);
+      (length-map f.processes (dequeued_if process)) (λ row. refl)
+      (hosts_same f (map (dequeued_if process) f.processes) (λ n. shared_dequeued process n f.processes)) tried service
+      (service_of f service);
   rest = λ rests. rests;
   waits = record { plans = λ number none. none; wanted = λ none. none };
 }
 sent_leaves l f moment process (Some row) = record {
-  moves = λ tried service. moves_unasked f row.number f.processes l tried service refl;
+  moves = λ tried service. moves_unasked f row.number l tried service;
   rest = λ rests. rests;
   waits = record { plans = λ number none. none; wanted = λ none. none };
 }
 
-effect_leaves : (l : Limits) (f : Flat) (moment : ℕ) (step : Step) → rings_common step ≡ false
+pub effect_leaves : (l : Limits) (f : Flat) (moment : ℕ) (step : Step) → rings_common step ≡ false
     → Leaves l f (effect_of l (at_moment f moment step) step).flat
 effect_leaves l f moment (EndStart caller plan) quiet = record {
   moves = λ tried service. refl;
@@ -322,8 +387,8 @@ effect_leaves l f moment (EndStart caller plan) quiet = record {
 effect_leaves l f moment LaunchTaken quiet =
     let rows = if_found (λ process. map (taken_if process)) (first_wanted f.wanted) f.processes in
     record {
-      moves = λ tried service. move_same l f f.services rows (many_taken (first_wanted f.wanted) f.processes) (λ row. refl) tried service
-          (service_of f service);
+      moves = λ tried service. move_same l f f.services rows (many_taken (first_wanted f.wanted) f.processes) (λ row. refl)
+          (hosts_same f rows (λ n. shared_taken (first_wanted f.wanted) n f.processes)) tried service (service_of f service);
       rest = λ rests. rests;
       waits = record { plans = λ number none. none; wanted = λ none. none_taken f.wanted none };
     }

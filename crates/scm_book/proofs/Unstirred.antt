@@ -1,6 +1,6 @@
 -- A step leaves the controls of each process whose bell it doesn't ring, and lists it as it was.
-use Rattle.std.proofs.Common.{ℕ, ◌≡◌, ◌∙◌, ◌<◌, ◌==◌, Bool, true, false, not, cond, List, Option, None, Some, find, filter, map, ap, sym}
-use Rattle.std.proofs.Common.{refl, subst, eqb-true}
+use Rattle.std.proofs.Common.{ℕ, ◌≡◌, ◌∙◌, ◌<◌, ◌==◌, ◌&&◌, Bool, true, false, not, cond, List, Option, None, Some, find, filter, map, ap}
+use Rattle.std.proofs.Common.{refl, subst, sym, eqb-true}
 use Rattle.std.proofs.lemmas.Bool.{and_parts, and_right}
 use Rattle.std.specs.Prelude.{option_map}
 use Rattle.scm_model.specs.declared.calls.Request.{Request}
@@ -39,7 +39,8 @@ use Rattle.scm_history.proofs.Finds.{found_map}
 use Rattle.scm_history.proofs.Processes.{IsOf, after_effect, apart, has, launches, others_changed, takes, ticked_still}
 use Rattle.scm_book.specs.declared.bells.Children.{Children}
 use Rattle.scm_book.specs.declared.bells.Children.TheVariants as children
-use Rattle.scm_book.specs.Ringing.{StirsNoOther, children_rung, controls_rung, if_stopped, is_rung, one_or_nobody, shared_or_nobody}
+use Rattle.scm_book.specs.Ringing.{StirsNoOther, children_rung, controls_rung, effect_rung, if_stopped, is_rung, may_host, one_or_nobody}
+use Rattle.scm_book.specs.Ringing.{rings_common, shared_or_nobody}
 
 -- the controls of a process, if it is among these
 abbrev listed : ℕ → List Process → Option (List Order)
@@ -206,7 +207,7 @@ call_unstirred l f moment caller asked append number quiet = ap (listed number)
 -- ## Steps
 
 effect_unstirred : (l : Limits) (f : Flat) (moment : ℕ) (step : Step) (number : ℕ) → number < f.next.process
-    → is_rung (children_rung f step) number ≡ false
+    → is_rung (effect_rung f step) number ≡ false
     → listed number (effect_of l (at_moment f moment step) step).flat.processes ≡ listed number f.processes
 effect_unstirred l f moment (Call caller asked append) number low quiet = call_unstirred l f moment caller asked append number quiet
 effect_unstirred l f moment LaunchTaken number low quiet =
@@ -237,6 +238,20 @@ effect_unstirred l f moment Tick number low quiet = ap (option_map (λ (row : Pr
 effect_unstirred l f moment (Raised caller subtype) number low quiet = absurd cc
 effect_unstirred l f moment step number low quiet = refl
 
+-- the effect of a step doesn't ring a process, and the step asks no service to start in one that is listed
+pub record IsAside (f : Flat) (step : Step) (number : ℕ) : Type 0 where
+  pub effect : is_rung (effect_rung f step) number ≡ false
+  pub hosts : (rings_common step && may_host f step) ≡ false
+
+-- a process that a step doesn't ring
+pub aside_by : (f : Flat) (step : Step) (number : ℕ) → is_rung (children_rung f step) number ≡ false → IsAside f step number
+aside_by f step number quiet =
+    elim (rings_common step && may_host f step) as (λ b. (rings_common step && may_host f step) ≡ b
+    → is_rung (cond b children.All (effect_rung f step)) number ≡ false → IsAside f step number) [
+      | true ↦ λ all no. absurd cc
+      | false ↦ λ none no. record { effect = no; hosts = none }
+    ] refl quiet
+
 -- what became of a change plays no part
 pub rung_kept : (f : Flat) (step : Step) (append : Kept) → children_rung f (with_kept step append) ≡ children_rung f step
 rung_kept f (Call caller asked now) append = refl
@@ -245,9 +260,10 @@ rung_kept f step append = refl
 unstirred : (f : Flat) (step : Step) → StirsNoOther f step (children_rung f step)
 unstirred f step l moment append process low quiet =
     let made = with_kept step append in
+    let aside : IsAside f made process =
+    aside_by f made process (subst (λ (rung : Children). is_rung rung process ≡ false) (sym (rung_kept f step append)) quiet) in
     ap (option_map (λ (row : Process). row.controls)) (after_effect l f moment made process low)
-    ∙ effect_unstirred l f moment made process low (subst (λ (rung : Children). is_rung rung process ≡ false)
-    (sym (rung_kept f step append)) quiet)
+    ∙ effect_unstirred l f moment made process low aside.effect
 
 pub stirs_no_other : (f : Flat) (step : Step) (rung : Children) → rung ≡ children_rung f step → StirsNoOther f step rung
 stirs_no_other f step rung is = subst (StirsNoOther f step) (sym is) (unstirred f step)

@@ -1,6 +1,7 @@
 -- Which bells a step rings, and that it leaves what is waited for at the others as it is.
-use Rattle.std.specs.Prelude.{ℕ, ◌≡◌, ◌<◌, ◌==◌, Bool, true, false, not, List, Option, None, Some, filter, map, option_map}
+use Rattle.std.specs.Prelude.{ℕ, ◌≡◌, ◌<◌, ◌==◌, ◌&&◌, ◌||◌, Bool, true, false, not, List, Option, None, Some, filter, map, option_map}
 use Rattle.std.specs.Prelude.{if◌then◌else◌}
+use Rattle.std.specs.List.{list_any}
 use Rattle.scm_model.specs.declared.codes.TheConstants.{SERVICE_STOPPED}
 use Rattle.scm_model.specs.declared.flat.Flat.{Flat}
 use Rattle.scm_model.specs.declared.flat.Limits.{Limits}
@@ -13,10 +14,10 @@ use Rattle.scm_model.specs.declared.calls.Request.TheVariants as request
 use Rattle.scm_model.specs.declared.steps.Kept.{Kept}
 use Rattle.scm_model.specs.declared.steps.Step.{Step}
 use Rattle.scm_model.specs.declared.steps.Step.TheVariants.{Joined, Call, EndStart, LaunchTaken, LaunchFailed, Report, Ended, ControlTaken}
-use Rattle.scm_model.specs.declared.steps.Step.TheVariants.{Raised, NoMemory}
+use Rattle.scm_model.specs.declared.steps.Step.TheVariants.{Raised, NoMemory, Tick}
 use Rattle.scm_model.specs.Entries.{Entry, with_kept}
 use Rattle.scm_model.specs.Processes.{is_shared}
-use Rattle.start_plan.specs.Decided.{code_of}
+use Rattle.start_plan.specs.Decided.{code_of, is_any_undecided}
 use Rattle.scm_rules.specs.Controls.{is_asked_by}
 use Rattle.scm_rules.specs.Histories.{state}
 use Rattle.scm_rules.specs.Launches.{process_of}
@@ -27,6 +28,7 @@ use Rattle.book_rule.specs.declared.view.Opening.{Opening}
 use Rattle.scm_book.specs.declared.bells.Children.{Children}
 use Rattle.scm_book.specs.declared.bells.Children.TheVariants as children
 use Rattle.scm_book.specs.declared.bells.Ring.{Ring}
+use Rattle.scm_book.specs.Called.{is_start}
 use Rattle.scm_book.specs.Holds.{Runs}
 
 -- the state that a step leaves, settled and purged, whatever became of its change
@@ -112,15 +114,30 @@ controls_rung f caller (request.Control handle control) = one_or_nobody (process
 controls_rung f caller (request.SetStatus handle status) = if_stopped status (shared_or_nobody f (process_held f caller handle))
 controls_rung f caller asked = children.Nobody
 
--- the processes whose bells a step rings in a state
+-- the processes whose bells the effect of a step rings in a state
+abbrev pub effect_rung : Flat → Step → Children
+effect_rung f (Call caller asked append) = controls_rung f caller asked
+effect_rung f (LaunchFailed process code) = children.One process
+effect_rung f (Report process service status) = if_stopped status (shared_or_nobody f (Some process))
+effect_rung f (Ended process) = children.One process
+effect_rung f (ControlTaken process) = children.One process
+effect_rung f (Raised caller subtype) = children.All
+effect_rung f step = children.Nobody
+
+-- the steps by which plans may begin
+abbrev pub begins_plans : Step → Bool
+begins_plans (Call caller asked append) = is_start asked
+begins_plans Tick = true
+begins_plans (Raised caller subtype) = true
+begins_plans step = false
+
+-- whether a step may ask a service to start in a process that is listed: one is shared, and a plan is undecided or may begin
+abbrev pub may_host : Flat → Step → Bool
+may_host f step = list_any (λ (row : Process). row.shared) f.processes && (begins_plans step || is_any_undecided f.plans)
+
+-- the processes whose bells a step rings in a state: all, if it may ask a service to start in one of them, and else those of its effect
 abbrev pub children_rung : Flat → Step → Children
-children_rung f (Call caller asked append) = controls_rung f caller asked
-children_rung f (LaunchFailed process code) = children.One process
-children_rung f (Report process service status) = if_stopped status (shared_or_nobody f (Some process))
-children_rung f (Ended process) = children.One process
-children_rung f (ControlTaken process) = children.One process
-children_rung f (Raised caller subtype) = children.All
-children_rung f step = children.Nobody
+children_rung f step = if rings_common step && may_host f step then children.All else effect_rung f step
 
 abbrev pub is_rung : Children → ℕ → Bool
 is_rung children.Nobody process = false

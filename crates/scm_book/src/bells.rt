@@ -1,9 +1,10 @@
 // The bells of a book, and which of them a step rings.
 ghost use Rattle.std.specs.Prelude.{◌≡◌, false};
-ghost use Rattle.scm_model.specs.declared.flat.Flat.{Flat};
+ghost use Rattle.scm_book.specs.Called.{is_start};
 ghost use Rattle.scm_book.specs.Ringing.{AsksNoOther, StirsNoOther, StirsNobody};
-ghost use Rattle.scm_book.specs.Ringing.{children_rung, controls_rung, is_quiet};
-ghost use Rattle.scm_book.specs.Ringing.{one_or_nobody, ring_of, rings_common, shared_or_nobody};
+ghost use Rattle.scm_book.specs.Ringing.{begins_plans, children_rung, controls_rung, effect_rung};
+ghost use Rattle.scm_book.specs.Ringing.{is_quiet, may_host, one_or_nobody, ring_of, rings_common};
+ghost use Rattle.scm_book.specs.Ringing.{shared_or_nobody};
 ghost use Rattle.scm_book.specs.Steps.{owed_step};
 
 use crate::held::Owed;
@@ -241,13 +242,9 @@ fn controls_rung(manager: &Manager, caller: u64, request: &Request) -> Children
     }
 }
 
-/// The processes whose bells a step rings when it is made next. No other process gets or loses an
-/// order by it, is asked to start another service, or ends.
-#[tactic(auto, using(crate::proofs::Unstirred::stirs_no_other, crate::proofs::Asked::asks_no_other))]
-pub fn children_rung(manager: &Manager, step: &Step) -> Children
-    ensures rung { result ≡ children_rung manager.now.flat step.now }
-    ensures others { StirsNoOther manager.now.flat step.now result }
-    ensures asked { AsksNoOther manager.now.flat step.now result }
+/// The processes whose bells the effect of a step rings when it is made next.
+fn effect_rung(manager: &Manager, step: &Step) -> Children
+    ensures { result ≡ effect_rung manager.now.flat step.now }
 {
     match step {
         Step::Call {
@@ -268,6 +265,46 @@ pub fn children_rung(manager: &Manager, step: &Step) -> Children
     }
 }
 
+/// Whether a call asks for a start.
+fn is_start(request: &Request) -> bool
+    ensures { result ≡ is_start request.now }
+{
+    matches!(request, Request::Start { .. })
+}
+
+/// Whether plans may begin by a step.
+fn begins_plans(step: &Step) -> bool
+    ensures { result ≡ begins_plans step.now }
+{
+    match step {
+        Step::Call { request, .. } => is_start(request),
+        Step::Tick | Step::Raised { .. } => true,
+        _ => false,
+    }
+}
+
+/// Whether a step may ask a service to start in a process that is listed.
+fn may_host(manager: &Manager, step: &Step) -> bool
+    ensures { result ≡ may_host manager.now.flat step.now }
+{
+    manager.is_any_shared() && (begins_plans(step) || manager.is_any_undecided())
+}
+
+/// The processes whose bells a step rings when it is made next. No other process gets or loses an
+/// order by it, is asked to start another service, or ends.
+#[tactic(auto, using(crate::proofs::Unstirred::stirs_no_other, crate::proofs::Asked::asks_no_other))]
+pub fn children_rung(manager: &Manager, step: &Step) -> Children
+    ensures rung { result ≡ children_rung manager.now.flat step.now }
+    ensures others { StirsNoOther manager.now.flat step.now result }
+    ensures asked { AsksNoOther manager.now.flat step.now result }
+{
+    if rings_common(step) && may_host(manager, step) {
+        Children::All
+    } else {
+        effect_rung(manager, step)
+    }
+}
+
 /// The bells that a step rings when it is made next.
 #[inline(always)]
 pub fn ring_of(manager: &Manager, step: &Step) -> Ring
@@ -280,24 +317,14 @@ pub fn ring_of(manager: &Manager, step: &Step) -> Ring
 }
 
 impl Owed {
-    /// The bells that the step rings, in whatever state it is made.
+    /// The bells that the step rings when it is made next.
     #[inline(always)]
-    pub fn ring(self) -> Ring
-        ensures { (f : Flat) → result ≡ ring_of f (owed_step self) }
+    pub fn ring(self, manager: &Manager) -> Ring
+        ensures { result ≡ ring_of manager.now.flat (owed_step self) }
     {
-        match self {
-            Owed::EndStart { .. } | Owed::LaunchTaken => Ring {
-                common: false,
-                children: Children::Nobody,
-            },
-            Owed::Launched { .. } | Owed::Gone { .. } => Ring {
-                common: true,
-                children: Children::Nobody,
-            },
-            Owed::LaunchFailed { process, code: _ } | Owed::Ended { process } => Ring {
-                common: true,
-                children: Children::One(process),
-            },
-        }
+        let step = self.step();
+        let ring = ring_of(manager, &step);
+        drop(step);
+        ring
     }
 }

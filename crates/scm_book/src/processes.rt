@@ -102,12 +102,13 @@ impl<K: Keeper> Shared<K> {
             path.new result }
         ensures waits { Waits self.now.turn seat.new }
     {
+        let ring = Owed::LaunchTaken.ring(&held.manager);
         let Some(taken) = held.take_launch(moment, path) else {
             self.turn.unlock(rt, seat, held);
             return None;
         };
         self.turn.commit(rt, seat, held);
-        self.bells.ring(rt, Owed::LaunchTaken.ring());
+        self.bells.ring(rt, ring);
         Some(taken)
     }
 

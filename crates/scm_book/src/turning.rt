@@ -69,9 +69,10 @@ impl<K: Keeper> Shared<K> {
             (owed_step owed) result }
         ensures waits { Waits self.now.turn seat.new }
     {
+        let ring = owed.ring(&held.manager);
         let told = held.add(moment, owed);
         self.turn.commit(rt, seat, held);
-        self.bells.ring(rt, owed.ring());
+        self.bells.ring(rt, ring);
         told
     }
 
