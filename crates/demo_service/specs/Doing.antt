@@ -180,21 +180,16 @@ is_answered code = code == 0 || code == SERVICE_CONTROL_STOP || code == SERVICE_
 abbrev pub answer_to : (running : List ℕ) → Order → List ℕ
 answer_to running order = if is_answered order.code then shared_report_of order.service (state_of running order.service) else []
 
--- the process ends after a STOP after which no service runs
-abbrev pub goes_on : (running : List ℕ) → Order → Bool
-goes_on running order = not (order.code == SERVICE_CONTROL_STOP) || not (length running == 0)
-
 -- what a shared process makes of a line, which may be no order
 pub record Obeyed : Type 0 where
   pub running : List ℕ
   pub told : List ℕ
-  pub on : Bool
 
 abbrev pub obeyed : List ℕ → Option Order → Obeyed
-obeyed running None = record { running = running; told = []; on = true }
+obeyed running None = record { running = running; told = [] }
 obeyed running (Some order) =
     let now = running_after running order in
-    record { running = now; told = answer_to now order; on = goes_on now order }
+    record { running = now; told = answer_to now order }
 
 -- the services that run, and what the input and the output tell
 pub record SharedPoint : Type 0 where
@@ -204,39 +199,32 @@ pub record SharedPoint : Type 0 where
 abbrev pub shared_at : List ℕ → Point → SharedPoint
 shared_at running at = record { running = running; at = at }
 
--- The line of these bytes and a line feed was read and obeyed, and lets the process read on or not. Of a longer line the
--- first 4,096 bytes are read.
-pub record Obeys (on : Bool) (a : SharedPoint) (front : List ℕ) (b : SharedPoint) : Type 0 where
+-- The line of these bytes and a line feed was read and obeyed. Of a longer line the first 4,096 bytes are read.
+pub record Obeys (a : SharedPoint) (front : List ℕ) (b : SharedPoint) : Type 0 where
   pub line : IsWholeLine front
   pub few : IsBelowMost front
   pub read : Consumes a.at.left b.at.left (front ++ 10 ∷ [])
   pub runs : b.running ≡ (obeyed a.running (ordered (kept_line front))).running
-  pub goes : (obeyed a.running (ordered (kept_line front))).on ≡ on
   pub told : Appends a.at.held b.at.held (obeyed a.running (ordered (kept_line front))).told
 
--- no service runs after the last line, or the input ended
-abbrev pub SharedEnds : SharedPoint → SharedPoint → Type 0
-SharedEnds a b = ((front : List ℕ) × Obeys false a front b) ⊎ Ends a.at b.at
-
--- a line was obeyed and lets the process read on; or it doesn't
+-- a line was obeyed; or the input ended
 abbrev pub ObeysOne : SharedPoint → Bool → SharedPoint → Type 0
-ObeysOne a true b = (front : List ℕ) × Obeys true a front b
-ObeysOne a false b = SharedEnds a b
+ObeysOne a true b = (front : List ℕ) × Obeys a front b
+ObeysOne a false b = Ends a.at b.at
 
--- lines were obeyed, from none running on, up to a STOP after which no service runs, or to the end of the input
+-- lines were obeyed, from none running on, up to the end of the input
 pub record Shares (a b : Point) : Type 0 where
   pub fronts : List (List ℕ)
   pub last : SharedPoint
-  pub running : List ℕ
-  pub obeys : FoldsTo (Obeys true) (shared_at [] a) fronts last
+  pub obeys : FoldsTo Obeys (shared_at [] a) fronts last
   pub few : IsBelowMost fronts
-  pub ends : SharedEnds last (shared_at running b)
+  pub ends : Ends last.at b
 
 -- lines were obeyed, up to the greatest number of them or to a line that is too long
 pub record WearsShared (a b : Point) : Type 0 where
   pub fronts : List (List ℕ)
   pub last : SharedPoint
-  pub obeys : FoldsTo (Obeys true) (shared_at [] a) fronts last
+  pub obeys : FoldsTo Obeys (shared_at [] a) fronts last
   pub worn : IsWorn fronts last.at b
 
 -- ## Words done

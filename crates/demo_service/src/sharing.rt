@@ -2,7 +2,7 @@ ghost use Rattle.std.specs.Prelude.{◌≡◌, ◌==◌, ◌≤◌, ◌++◌, �
 ghost use Rattle.std.specs.Prelude.{filter, not};
 ghost use Rattle.std.specs.Io.KnownBytes.{Appends};
 ghost use Rattle.demo_service.specs.Doing.{IsFaultCaused, IsOfOutput, ObeysOne, Shares};
-ghost use Rattle.demo_service.specs.Doing.{WearsLine, WearsShared, answer_to, goes_on, is_answered};
+ghost use Rattle.demo_service.specs.Doing.{WearsLine, WearsShared, answer_to, is_answered};
 ghost use Rattle.demo_service.specs.Doing.{is_running, obeyed, point_at, running_after, shared_at};
 ghost use Rattle.demo_service.specs.Doing.{state_of};
 ghost use Rattle.demo_service.specs.declared.fault.DemoFault.TheVariants as faults;
@@ -95,38 +95,29 @@ fn answer<O: Sink>(
     }
 }
 
-/// Whether the process goes on after an order: not after a STOP after which no service runs.
-fn goes_on(running: &[u64], order: &Order) -> bool
-    ensures { result ≡ goes_on running.now order.now }
-{
-    order.code != SERVICE_CONTROL_STOP || !running.is_empty()
-}
-
-/// Obeys an order, and passes over a line that is none. Whether to read on.
+/// Obeys an order, and passes over a line that is none.
 fn obey<O: Sink>(
     alloc: Global,
     running: &mut Vec<u64>,
     order: Option<Order>,
     output: &mut O,
-) -> Result<bool, DemoFault>
+) -> Result<(), DemoFault>
     ensures runs { OnOk result (running.new.items ≡ (obeyed running.old.items order).running) }
-    ensures on { IfOk result (λ on. on ≡ (obeyed running.old.items order).on) }
     ensures told { OnOk result
         (Appends (O.held output.old) (O.held output.new) (obeyed running.old.items order).told) }
     ensures cause { IfErr result (IsOfOutput (O.faults output.old) (O.faults output.new)) }
     ensures output { O.faults output.old ≤ O.faults output.new }
 {
     let Some(order) = order else {
-        return Ok(true);
+        return Ok(());
     };
     if change(running, &order).is_err() {
         return Err(DemoFault::OutOfMemory);
     }
-    answer(alloc, running.as_slice(), &order, output)?;
-    Ok(goes_on(running.as_slice(), &order))
+    answer(alloc, running.as_slice(), &order, output)
 }
 
-/// Reads a line, and obeys it. Whether to read on.
+/// Reads a line, and obeys it. Whether there was one before the input ended.
 fn obey_next<I: Source, O: Sink>(
     alloc: Global,
     line: &mut LineCutter,
@@ -148,11 +139,11 @@ fn obey_next<I: Source, O: Sink>(
     if !read_line(line, input)? {
         return Ok(false);
     }
-    obey(alloc, running, read_order_line(line.line()), output)
+    obey(alloc, running, read_order_line(line.line()), output)?;
+    Ok(true)
 }
 
-/// Obeys the orders of a shared process, until each service that was started is stopped or the
-/// input ends.
+/// Obeys the orders of a shared process, until the input ends.
 pub fn share<I: Source, O: Sink>(
     alloc: Global,
     input: &mut I,

@@ -1,4 +1,4 @@
-use Rattle.std.proofs.Common.{Bool, arith, subst, true, ◌++◌, ◌∷◌, []}
+use Rattle.std.proofs.Common.{Bool, arith, subst, ◌++◌, ◌∷◌, []}
 use Rattle.std.proofs.lemmas.List.{length-append}
 use Rattle.demo_service.specs.Doing.{Obeys, ObeysOne, SharedPoint, point_at, shared_at}
 use Rattle.demo_service.proofs.Folds.{folds_more}
@@ -15,7 +15,7 @@ loop-preserved g c =
     record {
       fronts = before.fronts ++ now.0 ∷ [];
       count = omega (arith, before.count, length-append before.fronts (now.0 ∷ []));
-      obeys = folds_more (Obeys true) a before.fronts m now.0 b before.obeys now.1;
+      obeys = folds_more Obeys a before.fronts m now.0 b before.obeys now.1;
       input = omega (arith, before.input, c.in-Ok-true.ensures.input);
       output = omega (arith, before.output, c.in-Ok-true.ensures.output);
     }
