@@ -141,6 +141,19 @@ the start is answered       | end 1 1                 | reply 0
 it runs, and accepts a stop | report 1 16 4 1 0 0 0 0 | done",
     ),
     (
+        "hosted",
+        "A has type 0x20        | call 1 create h1 'A' - #F01FF 32 3 1 '/bin/sh' plain | reply - h2 0
+B has it, and A's path | call 1 create h1 'B' - #F01FF 32 3 1 '/bin/sh' plain | reply - h3 0
+A is started           | call 1 start h2 0 -; take; launched 1 101            | plan 1; launch 1; done
+                       | end 1 1                                              | reply 0
+its process gets       | control 1; control 1                                 | control 1 0; empty
+A runs                 | report 1 1 32 4 1 0 0 0 0                            | done
+B is started at once   | call 1 start h3 0 -                                  | reply 0
+no launch is wanted    | take                                                 | empty
+A's process gets       | control 1; control 1                                 | control 2 0; empty
+B runs                 | report 1 2 32 4 1 0 0 0 0                            | done",
+    ),
+    (
         "group",
         "three members     | call 1 create h1 'M1' - own '/bin/m1' * 'G' - - 0 - - 0 | reply - h2 0
                   | call 1 create h1 'M2' - own '/bin/m2' * 'G' - - 0 - - 0 | reply - h3 0
@@ -608,6 +621,88 @@ it is stopped            | call 1 control h2 1                                  
 its start comes first    | control 1; control 1; control 1                       | control 1 0; control 1 1; empty
 a stop waits             | call 1 control h2 1                                   | reply 32 4 1 0 0 0 0 0
 until it has stopped     | report 1 1 32 1 0 0 0 0 0; control 1                  | done; empty
+= 0 replay: a service enters the process of another that has its path
+administrator
+hosted
+both have one process   | call 1 process h2 0 36    | reply 36 32 4 1 0 0 0 0 101 0 0 0
+                        | call 1 process h3 0 36    | reply 36 32 4 1 0 0 0 0 101 0 0 0
+A stops                 | report 1 1 32 1 0 0 0 0 0 | done
+one waits for its start | call 1 watch h2 2         | reply h4 0
+it is started again     | call 1 start h2 0 -; take | reply 0; empty
+in the same process     | control 1; control 1      | control 1 0; empty
+it is notified          | call 1 event h4           | reply 2 32 2 0 0 0 0 0 101 0 * 'A' 0
+                        | report 1 1 32 4 1 0 0 0 0 | done
+A is in it              | call 1 process h2 0 36    | reply 36 32 4 1 0 0 0 0 101 0 0 0
+= 0 replay: an end stops all services of a process
+administrator
+hosted
+one waits for A's stop | call 1 watch h2 1 | reply h4 0
+another for that of B  | call 1 watch h3 1 | reply h5 0
+the process ends       | ended 1           | done
+A is stopped           | call 1 status h2  | reply 32 1 0 1067 0 0 0 0
+                       | call 1 event h4   | reply 1 32 1 0 1067 0 0 0 0 0 * 'A' 0
+and so is B            | call 1 status h3  | reply 32 1 0 1067 0 0 0 0
+                       | call 1 event h5   | reply 1 32 1 0 1067 0 0 0 0 0 * 'B' 0
+it is listed no more   | control 1         | over
+= 0 replay: nobody enters a process in which no service is left
+administrator
+hosted
+A stops                | report 1 1 32 1 0 0 0 0 0 | done
+B stops                | report 1 2 32 1 0 0 0 0 0 | done
+A gets another process | call 1 start h2 0 -; take | plan 3; launch 2
+the first one is there | control 1                 | empty
+it ends                | ended 1                   | stale
+A is still starting    | call 1 status h2          | reply 32 2 0 0 0 0 0 0
+= 0 replay: a stop that waits goes with the service that has stopped
+administrator
+hosted
+a stop waits for A  | call 1 control h2 1       | reply 32 4 1 0 0 0 0 0
+which stops already | report 1 1 32 1 0 0 0 0 0 | done
+and is started      | call 1 start h2 0 -       | reply 0
+there is no stop    | control 1; control 1      | control 1 0; empty
+= 0 replay: a service starts in a process that isn't launched yet
+administrator
+A has type 0x20    | call 1 create h1 'A' - #F01FF 32 3 1 '/bin/sh' plain | reply - h2 0
+B has A's path     | call 1 create h1 'B' - #F01FF 32 3 1 '/bin/sh' plain | reply - h3 0
+C has another      | call 1 create h1 'C' - #F01FF 32 3 1 '/bin/SH' plain | reply - h4 0
+D has another type | call 1 create h1 'D' - own '/bin/sh' plain           | reply - h5 0
+all are started    | call 1 start h2 0 -; call 1 start h3 0 -             | plan 1; plan 2
+                   | call 1 start h4 0 -; call 1 start h5 0 -             | plan 3; plan 4
+three launches     | take; take; take; take                 | launch 1; launch 2; launch 3; empty
+B waits for A's    | end 1 2; launched 1 101                | again; done
+which is for both  | end 1 1; end 1 2; end 1 3; end 1 4     | reply 0; reply 0; again; again
+it gets both       | control 1; control 1; control 1        | control 1 0; control 2 0; empty
+= 0 replay: a launch that fails ends each start of a service in its process
+administrator
+A has type 0x20 | call 1 create h1 'A' - #F01FF 32 3 1 '/bin/sh' plain | reply - h2 0
+B has A's path  | call 1 create h1 'B' - #F01FF 32 3 1 '/bin/sh' plain | reply - h3 0
+                | call 1 start h2 0 -; call 1 start h3 0 -             | plan 1; plan 2
+its launch      | take; unlaunched 1 5                                 | launch 1; done
+                | end 1 1; end 1 2                                     | reply 5; reply 5
+                | call 1 status h2                                     | reply 32 1 0 5 0 0 0 0
+                | call 1 status h3                                     | reply 32 1 0 5 0 0 0 0
+= 0 replay: a start succeeds once the start of another enters its service
+administrator
+A has type 0x20     | call 1 create h1 'A' - #F01FF 32 3 1 '/bin/sh' plain | reply - h2 0
+                    | call 1 create h1 'M' - own '/bin/m' plain            | reply - h3 0
+B needs M           | call 1 create h1 'B' - #F01FF 32 3 1 '/bin/sh' - - * [M] 6 - - 0 | reply - h4 0
+T needs B           | call 1 create h1 'T' - own '/bin/t' - - * [B] 6 - - 0            | reply - h5 0
+A is launched       | call 1 start h2 0 -; take; launched 1 101  | plan 1; launch 1; done
+B waits for M       | call 1 start h4 0 -; end 1 2               | plan 2; again
+it needs M no more  | call 1 change h4 kept - - - * [] 2 - - 0 - | reply - 0
+and waits still     | end 1 2                                    | again
+T is started, and B | call 1 start h5 0 -                        | plan 3
+B has started       | end 1 2                                    | reply 0
+in A's process      | control 1; control 1; control 1            | control 1 0; control 3 0; empty
+= 0 replay: of two services of an ended process the marked one leaves
+administrator
+hosted
+A is deleted     | call 1 delete h2; call 1 close h2 | reply 0; reply h0 0
+it is there yet  | call 1 open h1 'A' 4              | reply h4 0
+                 | call 1 close h4                   | reply h0 0
+the process ends | ended 1                           | done
+A is gone        | call 1 open h1 'A' 4              | reply h0 1060
+B is stopped     | call 1 status h3                  | reply 32 1 0 1067 0 0 0 0
 = 0 replay: no stop of a service that is needed
 administrator
                        | call 1 create h1 'B' - own '/bin/b' plain     | reply - h2 0
@@ -632,7 +727,7 @@ and is listed        | call 1 services h1 #30 3 44 - | reply 44 36 40 16 1 0 107
                      | call 1 event h5 | reply 0 0 0 0 0 0 0 0 0 0 - 0
 its last handle goes | gone 2          | done
 and A with it        | call 1 services h1 #30 3 44 - | reply 44 x00^44 0 0 - 0
-which is told        | call 1 event h5 | reply #100 16 1 0 1077 0 0 0 0 0 * 'A' 0
+it is notified       | call 1 event h5 | reply #100 16 1 0 1077 0 0 0 0 0 * 'A' 0
 = 0 replay: events of a service that runs
 administrator
 A
