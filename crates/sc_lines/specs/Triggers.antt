@@ -9,8 +9,8 @@ use Rattle.sc_lines.specs.Lines.{Text, lines}
 use Rattle.sc_lines.specs.Printed.{printed}
 use Rattle.sc_lines.specs.Reading.{byte_at, u32_at, rows}
 
-abbrev pub action_name : ℕ → List ℕ
-action_name action =
+abbrev pub trigger_action_name : ℕ → List ℕ
+trigger_action_name action =
     if action == SERVICE_TRIGGER_ACTION_SERVICE_START then codes "START SERVICE"
     else if action == SERVICE_TRIGGER_ACTION_SERVICE_STOP then codes "STOP SERVICE"
     else codes "UNKNOWN"
@@ -46,7 +46,7 @@ trigger_by action kind subtype = trigger_text action (kind_label kind) subtype (
 
 -- the type, the action and the subtype
 abbrev pub trigger_lines : List ℕ → List ℕ
-trigger_lines row = trigger_by (action_name (u32_at row 4)) (u32_at row 0) (uuid_text (uuid_at row 8))
+trigger_lines row = trigger_by (trigger_action_name (u32_at row 4)) (u32_at row 0) (uuid_text (uuid_at row 8))
 
 abbrev pub no_triggers : (name : List ℕ) → List ℕ
 no_triggers name = codes "The service " ++ (printed name ++ codes " has not registered for any start or stop triggers.\n")

@@ -1,9 +1,9 @@
 ghost use Rattle.std.specs.Prelude.{◌≡◌, ◌++◌, ◌≤◌, ◌^◌, OnOk, length, map};
 ghost use Rattle.std.specs.List.{flat_map};
-ghost use Rattle.sc_lines.specs.Triggers.{action_name, counted_triggers, guid_at, kind_label};
-ghost use Rattle.sc_lines.specs.Triggers.{named_triggers, no_triggers, subtype_note, trigger_by};
-ghost use Rattle.sc_lines.specs.Triggers.{trigger_lines, trigger_text, triggers_text, uuid_at};
-ghost use Rattle.sc_lines.specs.Triggers.{uuid_text};
+ghost use Rattle.sc_lines.specs.Triggers.{counted_triggers, guid_at, kind_label, named_triggers};
+ghost use Rattle.sc_lines.specs.Triggers.{no_triggers, subtype_note, trigger_action_name};
+ghost use Rattle.sc_lines.specs.Triggers.{trigger_by, trigger_lines, trigger_text, triggers_text};
+ghost use Rattle.sc_lines.specs.Triggers.{uuid_at, uuid_text};
 
 use super::lines::{Appended, Line, add_lines};
 use super::printing::printed;
@@ -16,8 +16,8 @@ use scm_text::{Items, OutOfMemory};
 use std::alloc::Global;
 use uuid::Uuid;
 
-fn action_name(action: u32) -> &'static str
-    ensures { result.now ≡ action_name action }
+fn trigger_action_name(action: u32) -> &'static str
+    ensures { result.now ≡ trigger_action_name action }
 {
     match action {
         SERVICE_TRIGGER_ACTION_SERVICE_START => "START SERVICE",
@@ -117,7 +117,7 @@ fn add_trigger(text: &mut Items<u8>, row: &[u8]) -> Appended
 {
     let mut buffer = Uuid::encode_buffer();
     let subtype = uuid_text(uuid_at(row, 8), &mut buffer);
-    let action = action_name(number_at(row, 4));
+    let action = trigger_action_name(number_at(row, 4));
     add_by(text, action, number_at(row, 0), subtype)
 }
 

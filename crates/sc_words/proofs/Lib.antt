@@ -1,4 +1,5 @@
 mod Lists
+mod Adding
 mod Pairs
 mod Counts
 mod Bytes

@@ -25,13 +25,13 @@ uuid_named word = parsed word
 unfoldable pub subtype_named : List ℕ → Option (List ℕ)
 subtype_named word = if length word == 36 then option_map swap_fields (uuid_named word) else None
 
-unfoldable pub trigger_by : (action kind subtype : List ℕ) → Option TriggerIn
-trigger_by action kind subtype =
+unfoldable pub trigger_of_parts : (action kind subtype : List ℕ) → Option TriggerIn
+trigger_of_parts action kind subtype =
     option_and_then (λ a. option_and_then (λ k. option_map (λ s. record { kind = k; action = a; subtype = Some s; items = 0 })
     (subtype_named subtype)) (trigger_kind kind)) (trigger_action action)
 
 abbrev pub trigger_of : List (List ℕ) → Option TriggerIn
-trigger_of (action ∷ kind ∷ subtype ∷ []) = trigger_by action kind subtype
+trigger_of (action ∷ kind ∷ subtype ∷ []) = trigger_of_parts action kind subtype
 trigger_of _ = None
 
 -- an action, a type and a subtype with `/` between them

@@ -1,5 +1,5 @@
 -- What the words `ADDRESS VERB NAME REST` are a command to do.
-use Rattle.std.specs.Prelude.{ℕ, ◌+◌, ◌==◌, Bool, true, false, List, [], ◌∷◌, length, drop, Option, None, Some, is_some, is_none, Result}
+use Rattle.std.specs.Prelude.{ℕ, ◌+◌, ◌==◌, Bool, true, false, List, [], length, drop, Option, None, Some, is_some, is_none, Result}
 use Rattle.std.specs.Prelude.{Ok, Err, bytes_eq, codes, if◌then◌else◌}
 use Rattle.scm_model.specs.declared.codes.TheConstants.{SERVICE_CONTROL_STOP, SERVICE_CONTROL_PAUSE, SERVICE_CONTROL_CONTINUE}
 use Rattle.scm_model.specs.declared.codes.TheConstants.{SERVICE_CONTROL_INTERROGATE}

@@ -1,7 +1,8 @@
 ghost use Rattle.std.specs.Prelude.{◌≡◌, IfOk, drop, map};
+ghost use Rattle.sc_words.specs.Along.{IsPut, with_next};
 ghost use Rattle.sc_words.specs.Places.{AnswersAs, each_from};
-ghost use Rattle.sc_words.specs.Triggers.{subtype_named, trigger_action, trigger_by, trigger_kind};
-ghost use Rattle.sc_words.specs.Triggers.{trigger_named, trigger_of, uuid_named};
+ghost use Rattle.sc_words.specs.Triggers.{subtype_named, trigger_action, trigger_kind};
+ghost use Rattle.sc_words.specs.Triggers.{trigger_named, trigger_of, trigger_of_parts, uuid_named};
 
 use super::fault::WordsFault;
 use super::values::slash_pieces;
@@ -55,9 +56,9 @@ fn subtype_named(word: &str) -> Option<[u8; 16]>
 }
 
 /// The trigger of an action, a type and a subtype.
-#[tactic(auto, unfolding(crate::specs::Triggers::trigger_by))]
-fn trigger_by(action: &str, kind: &str, subtype: &str) -> Option<TriggerIn>
-    ensures { result ≡ trigger_by action.now kind.now subtype.now }
+#[tactic(auto, unfolding(crate::specs::Triggers::trigger_of_parts))]
+fn trigger_of_parts(action: &str, kind: &str, subtype: &str) -> Option<TriggerIn>
+    ensures { result ≡ trigger_of_parts action.now kind.now subtype.now }
 {
     let action = trigger_action(action)?;
     let kind = trigger_kind(kind)?;
@@ -75,7 +76,7 @@ fn trigger_of(pieces: &[&str]) -> Option<TriggerIn>
     ensures { result ≡ trigger_of (map (λ word. word.now) pieces.now) }
 {
     match pieces {
-        [action, kind, subtype] => trigger_by(action, kind, subtype),
+        [action, kind, subtype] => trigger_of_parts(action, kind, subtype),
         _ => None,
     }
 }
@@ -86,7 +87,27 @@ fn trigger_named(alloc: Global, word: &str) -> Result<Option<TriggerIn>, OutOfMe
     ensures { IfOk result (λ trigger. trigger ≡ trigger_named word.now) }
 {
     let pieces = slash_pieces(alloc, word)?;
-    Ok(trigger_of(pieces.as_slice()))
+    let trigger = trigger_of(pieces.as_slice());
+    drop(pieces);
+    Ok(trigger)
+}
+
+/// Adds the trigger that the word at a place is.
+fn add_trigger(
+    alloc: Global,
+    triggers: &mut Items<TriggerIn>,
+    place: usize,
+    word: &str,
+) -> Result<(), WordsFault>
+    ensures { IsPut place (with_next triggers.old (trigger_named word.now)) triggers.new result }
+{
+    let Some(trigger) = trigger_named(alloc, word)? else {
+        return Err(WordsFault::BadWord(place));
+    };
+    match triggers.push(trigger) {
+        Ok(()) => Ok(()),
+        Err(_) => Err(WordsFault::OutOfMemory),
+    }
 }
 
 /// The triggers that the words from a place on are, or the place of the first word that is none.
@@ -99,11 +120,9 @@ pub fn triggers_from(
 {
     let mut triggers = Items::new(alloc);
     for place in start..words.len() {
-        let Some(trigger) = trigger_named(alloc, words[place].as_str())? else {
-            return Err(WordsFault::BadWord(place));
-        };
-        if triggers.push(trigger).is_err() {
-            return Err(WordsFault::OutOfMemory);
+        if let Err(fault) = add_trigger(alloc, &mut triggers, place, words[place].as_str()) {
+            drop(triggers);
+            return Err(fault);
         }
     }
     Ok(triggers)
