@@ -14,6 +14,7 @@ use Rattle.conn_desk.specs.declared.served.Served.{Served}
 use Rattle.conn_desk.specs.declared.served.Served.TheVariants as served
 use Rattle.conn_desk.specs.declared.serving.Stop.{Stop}
 use Rattle.conn_desk.specs.declared.serving.Stop.TheVariants as stop
+use Rattle.conn_desk.specs.Bodies.{spoken}
 use Rattle.conn_desk.specs.Talks.{AreAnswered}
 use Rattle.conn_desk.specs.Along.{Point, FedOn, GoesOn, GoesBad, IsFront}
 use Rattle.conn_desk.specs.Connection.{Reached, AllServed, AllBefore, FirstServed, IsAhead, IsOpenEnd, piece_size}
@@ -97,42 +98,14 @@ module _ {D : Type 0} (called : D → D → DecodedRequest → Option Reply → 
       serves_all left left_now m read served.Worn on consumed (omega (arith, e)) refl
       (λ told written all. (e, record { ending = open_end m.session; goes_on = end_if (is_at_rest m.session); served = all }))
 
-  -- the stream ends badly
-  serves_bad : (left left_now : Option (List ℕ)) (m b : Point D) (read more : List ℕ) (how : Served) (ending : StreamEnd)
-      → SoFar called d held m read → Consumes left left_now (read ++ more) → length read + length more ≤ 2 ^ 40 → length more ≤ piece_size
-      → GoesBad called (fed more) m b ending → Leaves rests how b.desk b.desk
-      → ((done : List Incoming) (told : List (Option Reply)) (written : List ℕ) → AllBefore (read ++ more) done ending told written
-      → Reached full b.desk how (read ++ more) left_now done told written)
-      → Serves called rests full d b.desk left left_now held b.held how
-  serves_bad left left_now m b read more how ending on p most short bad leaves reach =
-      let a = answers_append called d m.desk b.desk held m.held b.held on.given bad.given on.answers bad.answers in
-      record {
-        read = read ++ more;
-        done = on.given ++ bad.given;
-        heard = a.talks.heard;
-        written = a.text;
-        last = b.desk;
-        chain = a.talks.chain;
-        leaves = leaves;
-        consumed = p;
-        most = omega (arith, most, length-append read more);
-        appended = a.written;
-        reached = reach (on.given ++ bad.given) a.talks.heard a.text (record {
-          all = bad.ends read on.given on.gave;
-          text = sym a.talks.answered;
-          ahead = ahead_of m.session read more on.given (on.given ++ bad.given) on.gave on.waits short (bad.given, refl);
-        });
-      }
-
-  -- the first items are served
-  serves_first : (left left_now : Option (List ℕ)) (m b : Point D) (read more : List ℕ) (how : Served) (given : List Incoming) (last : D)
+  -- items more are answered
+  serves_more : (left left_now : Option (List ℕ)) (m b : Point D) (read more : List ℕ) (how : Served) (given : List Incoming) (last : D)
       → (on : SoFar called d held m read) → Consumes left left_now (read ++ more) → length read + length more ≤ 2 ^ 40
-      → length more ≤ piece_size
-      → IsFront (fed more) m.session given → AreAnswered called m.desk last m.held b.held given → Leaves rests how last b.desk
-      → ((told : List (Option Reply)) (written : List ℕ) → FirstServed (read ++ more) (on.given ++ given) told written
+      → AreAnswered called m.desk last m.held b.held given → Leaves rests how last b.desk
+      → ((told : List (Option Reply)) (written : List ℕ) → spoken (on.given ++ given) told ≡ written
       → Reached full b.desk how (read ++ more) left_now (on.given ++ given) told written)
       → Serves called rests full d b.desk left left_now held b.held how
-  serves_first left left_now m b read more how given last on p most short front answers leaves reach =
+  serves_more left left_now m b read more how given last on p most answers leaves reach =
       let a = answers_append called d m.desk last held m.held b.held on.given given on.answers answers in
       record {
         read = read ++ more;
@@ -145,12 +118,39 @@ module _ {D : Type 0} (called : D → D → DecodedRequest → Option Reply → 
         consumed = p;
         most = omega (arith, most, length-append read more);
         appended = a.written;
-        reached = reach a.talks.heard a.text (record {
-          first = front read on.given on.gave;
-          text = sym a.talks.answered;
-          ahead = ahead_of m.session read more on.given (on.given ++ given) on.gave on.waits short (given, refl);
-        });
+        reached = reach a.talks.heard a.text a.talks.answered;
       }
+
+  -- the stream ends badly
+  serves_bad : (left left_now : Option (List ℕ)) (m b : Point D) (read more : List ℕ) (how : Served) (ending : StreamEnd)
+      → SoFar called d held m read → Consumes left left_now (read ++ more) → length read + length more ≤ 2 ^ 40 → length more ≤ piece_size
+      → GoesBad called (fed more) m b ending → Leaves rests how b.desk b.desk
+      → ((done : List Incoming) (told : List (Option Reply)) (written : List ℕ) → AllBefore (read ++ more) done ending told written
+      → Reached full b.desk how (read ++ more) left_now done told written)
+      → Serves called rests full d b.desk left left_now held b.held how
+  serves_bad left left_now m b read more how ending on p most short bad leaves reach =
+      serves_more left left_now m b read more how bad.given b.desk on p most bad.answers leaves
+      (λ told written is. reach (on.given ++ bad.given) told written (record {
+        all = bad.ends read on.given on.gave;
+        text = sym is;
+        ahead = ahead_of m.session read more on.given (on.given ++ bad.given) on.gave on.waits short (bad.given, refl);
+      }))
+
+  -- the first items are served
+  serves_first : (left left_now : Option (List ℕ)) (m b : Point D) (read more : List ℕ) (how : Served) (given : List Incoming) (last : D)
+      → (on : SoFar called d held m read) → Consumes left left_now (read ++ more) → length read + length more ≤ 2 ^ 40
+      → length more ≤ piece_size
+      → IsFront (fed more) m.session given → AreAnswered called m.desk last m.held b.held given → Leaves rests how last b.desk
+      → ((told : List (Option Reply)) (written : List ℕ) → FirstServed (read ++ more) (on.given ++ given) told written
+      → Reached full b.desk how (read ++ more) left_now (on.given ++ given) told written)
+      → Serves called rests full d b.desk left left_now held b.held how
+  serves_first left left_now m b read more how given last on p most short front answers leaves reach =
+      serves_more left left_now m b read more how given last on p most answers leaves
+      (λ told written is. reach told written (record {
+        first = front read on.given on.gave;
+        text = sym is;
+        ahead = ahead_of m.session read more on.given (on.given ++ given) on.gave on.waits short (given, refl);
+      }))
 
   -- a piece stops it
   pub serves_stopped : (left left_now : Option (List ℕ)) (m b : Point D) (read more : List ℕ) (why : Stop) (rest : Bool)

@@ -25,6 +25,10 @@ pub record Point (D : Type 0) : Type 0 where
   pub desk : D
   pub held : Option (List ℕ)
 
+-- a connection that stands at these
+abbrev pub connection_at : {D : Type 0} → Seen → D → Option (List ℕ) → Point D
+connection_at session desk held = record { session = session; desk = desk; held = held }
+
 -- where a connection stands whose session eats what is read
 abbrev pub point_of : {D O : Type 0} → (O → Option (List ℕ)) → At ConnectionReader D O → Point D
 point_of held a = record { session = a.eater.session; desk = a.place; held = held a.output }

@@ -1,4 +1,4 @@
-use Rattle.feed_loop.specs.Feeding.{At}
+use Rattle.feed_loop.specs.Feeding.{fed_at}
 use Rattle.conn_desk.specs.declared.serving.ConnectionReader.{ConnectionReader}
 use Rattle.conn_desk.proofs.Ends.{begins}
 use Rattle.conn_desk.proofs.Whole.{cause_fed, grows_fed, serves_fed}
@@ -7,16 +7,9 @@ use Rattle.conn_desk.proofs.serving.serve.Goals as goal
 pub returns-clause-served : goal.returns-clause-served
 returns-clause-served g c =
     let d = g.D.RequestHandler in
-    let a : At ConnectionReader g.row.D.Denot g.row.O.Denot = record {
-      eater = record { alloc = c.args.alloc; session = c.new.result };
-      place = c.args.desk.now;
-      output = c.args.output.now;
-    } in
-    let e : At ConnectionReader g.row.D.Denot g.row.O.Denot = record {
-      eater = c.feed_all-fed.new.eater;
-      place = c.feed_all-fed.new.place;
-      output = c.feed_all-fed.new.output;
-    } in
+    let reader : ConnectionReader = record { alloc = c.args.alloc; session = c.new.result } in
+    let a = fed_at reader c.args.desk.now c.args.output.now in
+    let e = fed_at c.feed_all-fed.new.eater c.feed_all-fed.new.place c.feed_all-fed.new.output in
     rw (c.served_as.ensures, c.at_rest.ensures)
     (serves_fed d.called d.rests d.full g.O.Sink.held g.O.Sink.faults a e (g.I.Source.left c.args.input.now)
     (g.I.Source.left c.feed_all-fed.new.input) c.feed_all-fed.new.count
@@ -26,16 +19,9 @@ returns-clause-served g c =
 pub returns-clause-output : goal.returns-clause-output
 returns-clause-output g c =
     let d = g.D.RequestHandler in
-    let a : At ConnectionReader g.row.D.Denot g.row.O.Denot = record {
-      eater = record { alloc = c.args.alloc; session = c.new.result };
-      place = c.args.desk.now;
-      output = c.args.output.now;
-    } in
-    let e : At ConnectionReader g.row.D.Denot g.row.O.Denot = record {
-      eater = c.feed_all-fed.new.eater;
-      place = c.feed_all-fed.new.place;
-      output = c.feed_all-fed.new.output;
-    } in
+    let reader : ConnectionReader = record { alloc = c.args.alloc; session = c.new.result } in
+    let a = fed_at reader c.args.desk.now c.args.output.now in
+    let e = fed_at c.feed_all-fed.new.eater c.feed_all-fed.new.place c.feed_all-fed.new.output in
     grows_fed d.called d.rests d.full g.O.Sink.held g.O.Sink.faults a e (g.I.Source.left c.args.input.now)
     (g.I.Source.left c.feed_all-fed.new.input) c.feed_all-fed.new.count
     c.feed_all-fed.result c.feed_all-fed.ensures.feeds
@@ -43,16 +29,9 @@ returns-clause-output g c =
 pub returns-clause-cause : goal.returns-clause-cause
 returns-clause-cause g c =
     let d = g.D.RequestHandler in
-    let a : At ConnectionReader g.row.D.Denot g.row.O.Denot = record {
-      eater = record { alloc = c.args.alloc; session = c.new.result };
-      place = c.args.desk.now;
-      output = c.args.output.now;
-    } in
-    let e : At ConnectionReader g.row.D.Denot g.row.O.Denot = record {
-      eater = c.feed_all-fed.new.eater;
-      place = c.feed_all-fed.new.place;
-      output = c.feed_all-fed.new.output;
-    } in
+    let reader : ConnectionReader = record { alloc = c.args.alloc; session = c.new.result } in
+    let a = fed_at reader c.args.desk.now c.args.output.now in
+    let e = fed_at c.feed_all-fed.new.eater c.feed_all-fed.new.place c.feed_all-fed.new.output in
     rw c.served_as.ensures
     (cause_fed d.called d.rests d.full g.O.Sink.held g.O.Sink.faults a e (g.I.Source.left c.args.input.now)
     (g.I.Source.left c.feed_all-fed.new.input) c.feed_all-fed.new.count
