@@ -6,10 +6,13 @@
 //!
 //! `ask PORT CONNECTIONS SERVICES QUERIES` makes so many services, over a connection that it then ends, and has each of so many connections make so many
 //! queries of the services in turn, each behind the reply to the one before. It prints the seconds from the first query to the last reply.
+//!
+//! `tree PATH COUNT` starts a program so many times, each once the one before has reported RUNNING, and prints the seconds until the last has.
 
 use std::collections::HashMap;
-use std::io::{Read, Result, Write};
+use std::io::{BufRead, BufReader, Read, Result, Write};
 use std::net::{TcpListener, TcpStream};
+use std::process::{Child, Command, Stdio};
 use std::sync::{Barrier, Mutex, RwLock};
 use std::time::Instant;
 
@@ -300,13 +303,39 @@ fn ask(port: u16, connections: usize, services: usize, count: usize) -> Result<(
     Ok(())
 }
 
+/// Starts a program with the name of a service, and waits until it reports RUNNING.
+fn start(path: &str, number: usize) -> Result<Child> {
+    let mut child = Command::new(path).arg(format!("S{number}")).stdin(Stdio::piped()).stdout(Stdio::piped()).spawn()?;
+    let mut output = BufReader::new(child.stdout.as_mut().expect("a pipe"));
+    let mut line = String::new();
+    while !line.starts_with("STATUS 16 4 ") {
+        line.clear();
+        assert!(output.read_line(&mut line)? > 0, "{path} ended before it ran");
+    }
+    Ok(child)
+}
+
+fn tree(path: &str, count: usize) -> Result<()> {
+    let began = Instant::now();
+    let children: Vec<_> = (1..=count).rev().map(|number| start(path, number)).collect::<Result<_>>()?;
+    println!("{:.6}", began.elapsed().as_secs_f64());
+    for mut child in children {
+        child.kill()?;
+        child.wait()?;
+    }
+    Ok(())
+}
+
 fn main() -> Result<()> {
     let words: Vec<String> = std::env::args().skip(1).collect();
+    if words[0] == "tree" {
+        return tree(&words[1], words[2].parse().expect("a number"));
+    }
     let numbers: Vec<usize> = words.iter().skip(1).map(|it| it.parse().expect("a number")).collect();
     match (words[0].as_str(), &numbers[..]) {
         ("plain", [port, take]) => serve_all(Shared::Plain(RwLock::default()), *port as u16, *take),
         ("mutex", [port, take]) => serve_all(Shared::Locked(Mutex::default()), *port as u16, *take),
         ("ask", [port, connections, services, count]) => ask(*port as u16, *connections, *services, *count),
-        _ => panic!("plain PORT TAKE, mutex PORT TAKE, or ask PORT CONNECTIONS SERVICES QUERIES"),
+        _ => panic!("plain PORT TAKE, mutex PORT TAKE, ask PORT CONNECTIONS SERVICES QUERIES, or tree PATH COUNT"),
     }
 }
