@@ -33,10 +33,10 @@ same_swap = (lists_equiv (on_equiv fold_unit nat_eq_equiv)).symm
 pub same_with : (x y z : List ℕ) → same_text x y ≡ true → same_text x z ≡ same_text y z
 same_with = (lists_equiv (on_equiv fold_unit nat_eq_equiv)).congr
 
--- ## Configurations that a manager with 512 places can begin with
+-- ## Configurations that a manager with 1,024 places can begin with
 
 abbrev places : Limits
-places = record { services = 512; handles = 0; registrations = 0; callers = 0; processes = 0; controls = 0; steps = 0; text = 0 }
+places = record { services = 1024; handles = 0; registrations = 0; callers = 0; processes = 0; controls = 0; steps = 0; text = 0 }
 
 opened : (configs : List Config) → CanBegin configs → CanOpen places configs
 opened configs begins = begins.under places (omega arith)
@@ -102,12 +102,12 @@ created configs config begins can = record {
   under = λ l many.
       let whole = and_parts _ (stays_acyclic configs (Created config)) can in
       let fit = and_parts _ (is_fit configs config) whole.0 in
-      let place = and_parts (not (list_any (has_name config.name) configs)) (nat_lt (length configs) 512) fit.0 in
+      let place = and_parts (not (list_any (has_name config.name) configs)) (nat_lt (length configs) 1024) fit.0 in
       let ok = fits configs config fit.1 in
       let others = none_passes (has_name config.name) configs (not_true _ place.0) in
       let old = begins.under l many in
       record {
-        few = let long = length-append configs (config ∷ []) in let lt = ltb-true (length configs) 512 place.1 in
+        few = let long = length-append configs (config ∷ []) in let lt = ltb-true (length configs) 1024 place.1 in
             omega (arith, long, lt, many);
         names = all_pairs_push HasOtherName configs config old.names (λ k d lt. others k d lt);
         displays = all_pairs_push HasOtherDisplay configs config old.displays

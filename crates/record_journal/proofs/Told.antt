@@ -27,14 +27,14 @@ use Rattle.record_journal.proofs.Renumbered.{same_cycles}
 
 pub created_told : (rows : List Service) (config : Config) (number : ℕ) (cyclic : Bool) → AreRisingBy number_of rows
     → AllByRecursion (λ (row : Service). row.number < number) rows
-    → list_any (has_name config.name) (configs_of rows) ≡ false → length (configs_of rows) < 512 → is_fit (configs_of rows) config ≡ true
+    → list_any (has_name config.name) (configs_of rows) ≡ false → length (configs_of rows) < 1024 → is_fit (configs_of rows) config ≡ true
     → cyclic ≡ is_cyclic (with_row (need_rows rows) (need_row_of number config))
     → not cyclic ≡ can_replay (configs_of rows) (Created config)
 created_told rows config number cyclic rising above fresh few fit is =
     let new : Service = new_service number config (new_status config.kind) in
     let more : List Config = configs_of rows ++ config ∷ [] in
-    let all : (not (list_any (has_name config.name) (configs_of rows)) && nat_lt (length (configs_of rows)) 512 && is_fit
-    (configs_of rows) config) ≡ true = rw (fresh, lt-ltb (length (configs_of rows)) 512 few, fit) refl in
+    let all : (not (list_any (has_name config.name) (configs_of rows)) && nat_lt (length (configs_of rows)) 1024 && is_fit
+    (configs_of rows) config) ≡ true = rw (fresh, lt-ltb (length (configs_of rows)) 1024 few, fit) refl in
     let graph : need_rows (rows ++ new ∷ []) ≡ with_row (need_rows rows) (need_row_of number config) =
     rows_added rows new (All-from_recursion (λ (row : Service). row.number < number) rows above) in
     let whole : configs_of (rows ++ new ∷ []) ≡ more = map-append (λ (row : Service). row.config) rows (new ∷ []) in

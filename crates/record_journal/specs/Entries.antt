@@ -102,7 +102,7 @@ stays_acyclic configs change = not (is_cyclic (needs_in (after_change configs ch
 -- what is created has a new name and a place, what is changed or removed is there
 abbrev pub can_replay : List Config → Change → Bool
 can_replay configs (Created config) =
-    not (list_any (has_name config.name) configs) && nat_lt (length configs) 512
+    not (list_any (has_name config.name) configs) && nat_lt (length configs) 1024
     && is_fit configs config && stays_acyclic configs (Created config)
 can_replay configs (Changed config) =
     list_any (has_name config.name) configs && is_fit configs config

@@ -11,9 +11,9 @@ use Rattle.record_journal.specs.declared.opening.JournalFault.TheVariants as fau
 use Rattle.record_journal.specs.declared.opening.Restored.{Restored}
 use Rattle.record_journal.specs.declared.replaying.Replay.{Replay}
 
--- configurations that a manager for 512 services or more can begin with
+-- configurations that a manager for 1,024 services or more can begin with
 pub record CanBegin (configs : List Config) : Type 0 where
-  pub under : (l : Limits) → 512 ≤ l.services → CanOpen l configs
+  pub under : (l : Limits) → 1024 ≤ l.services → CanOpen l configs
 
 -- what stands under a path; without one nothing stands
 abbrev pub content_under : Bool → Option (List ℕ) → Option (List ℕ)

@@ -25,7 +25,7 @@ use std::alloc::Global;
 use std::marker::Model;
 
 /// How many services there may be.
-pub const SERVICES: usize = 512;
+pub const SERVICES: usize = 1024;
 
 /// Configurations in the order in which they were created, each found by its name and its display
 /// name. Contracts see them in order.
