@@ -35,7 +35,7 @@ KeepsMade l f made (Some step) = IsMadeFor l f made step
 pub record IsSound (a : Inside) : Type 0 where
   pub handles : a.tables.flat.next.handle ≤ a.steps + 1
   pub callers : a.tables.flat.next.caller ≤ a.steps + 1
-  pub services : a.tables.flat.next.service ≤ a.steps + 2 ^ 10
+  pub services : a.tables.flat.next.service ≤ a.steps + 2 ^ 11
   pub plans : a.tables.flat.next.plan + starts_in a.tables.flat.dues ≤ (a.steps + 1) * 2 ^ 11
   pub dues : a.tables.flat.next.due + starts_in a.tables.flat.dues ≤ (a.steps + 1) * 2 ^ 12
   pub registrations : a.tables.flat.next.registration ≤ a.steps + 1

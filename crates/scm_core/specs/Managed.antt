@@ -30,13 +30,13 @@ WasMadeFor room step = Unit {0}
 
 -- no limit is greater than these
 pub record AreSmall (limits : Limits) : Type 0 where
-  pub services : limits.services ≤ 512
+  pub services : limits.services ≤ 1024
   pub handles : limits.handles ≤ 1024
   pub registrations : limits.registrations ≤ 64
   pub callers : limits.callers ≤ 64
-  pub processes : limits.processes ≤ 32
+  pub processes : limits.processes ≤ 128
   pub controls : limits.controls ≤ 16
-  pub steps : limits.steps ≤ 4194304
+  pub steps : limits.steps ≤ 16777216
   pub text : limits.text ≤ 268435456
 
 -- the process of the service that a caller's handle is of
