@@ -28,7 +28,7 @@ use Rattle.scm_replies.proofs.Listings.{IsLow, IsShort, dependents_least, found_
 
 -- few services, with short texts and low numbers
 pub record IsWithinLimits (f : Flat) : Type 0 where
-  pub few : length f.services ≤ 512
+  pub few : length f.services ≤ 1024
   pub short : All IsShort f.services
   pub whole : All IsToldWhole f.services
   pub levels : All (λ (row : Service). HasShortLevels row.config) f.services
@@ -86,7 +86,7 @@ enumeration_least : (n : ℕ) → min 262144 n ≤ 262144
 enumeration_least n = omega arith
 
 few_dependents_least : (f : Flat) (caller handle states : ℕ) → IsWithinLimits f
-    → listing_size (dependents_by f caller handle states) ≤ 544768
+    → listing_size (dependents_by f caller handle states) ≤ 1089536
 few_dependents_least f caller handle states within =
     let few = within.few in
     omega (arith, dependents_least f caller handle states within.short, few)

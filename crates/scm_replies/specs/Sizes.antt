@@ -84,11 +84,11 @@ needed_size f caller (request.QueryConfig2 handle level size) = length (level_by
 needed_size f caller (request.QueryStatusEx handle level size) = 36
 needed_size f caller asked = 0
 
--- the greatest size of what each call may ask for. Of 512 services: a record of 36 bytes and two names of 256 units, each with a zero. Of a
--- configuration: a path, a group, 512 needs, each a name after + and before /, the account and a display name. Of its levels: the actions
+-- the greatest size of what each call may ask for. Of 1,024 services: a record of 36 bytes and two names of 256 units, each with a zero. Of
+-- a configuration: a path, a group, 512 needs, each a name after + and before /, the account and a display name. Of its levels: the actions
 -- after a failure, with their command
 abbrev pub greatest_size : Request → ℕ
-greatest_size (request.EnumDependents handle states size) = 512 * (36 + 2 * 257 + 2 * 257)
+greatest_size (request.EnumDependents handle states size) = 1024 * (36 + 2 * 257 + 2 * 257)
 greatest_size (request.EnumServices handle kinds states size resume) = MAX_ENUM_SIZE
 greatest_size (request.QueryConfig handle size) = 36 + 2 * 2049 + 2 * 257 + 2 * (512 * 258 + 1) + 2 * 12 + 2 * 257
 greatest_size (request.QueryLock handle size) = 12 + 2 * 6
@@ -113,9 +113,9 @@ resume_index f asked code = None
 
 -- ## The law
 
--- at most 512 services, and so few steps that 32 bits hold the number of each service
+-- at most 1,024 services, and so few steps that 32 bits hold the number of each service
 pub record AreSmall (l : Limits) : Type 0 where
-  pub services : l.services ≤ 512
+  pub services : l.services ≤ 1024
   pub steps : l.steps < 2 ^ 31
 
 -- the subtypes of triggers have the 16 bytes of a UUID: those of a service, and those that a request gives
