@@ -50,7 +50,7 @@ configs_fit f s each =
     recursion_from_All IsConfig (unmarked f.services)
     (λ k d lt. config_fits _ (is_small _ (checked_unmarked f s k d lt)) (All-from_recursion HasUnits (unmarked f.services) each k d lt))
 
-kept_placed : (l : Limits) (f : Flat) (step : Step) → l.services ≤ 512 → Sound f → FitsStep step → HaveUnits f.services
+kept_placed : (l : Limits) (f : Flat) (step : Step) → l.services ≤ 1024 → Sound f → FitsStep step → HaveUnits f.services
     → IfSome (kept_change l f step) (IsPlaced f)
 kept_placed l f (Call caller asked appended.Kept) few s fits each = call_placed l f caller asked few s fits each
 kept_placed l f (Call caller asked appended.NotAsked) few s fits each = tt
@@ -58,7 +58,7 @@ kept_placed l f (Call caller asked appended.Failed) few s fits each = tt
 kept_placed l f step few s fits each = tt
 
 -- what is held after a step is what was held, after its kept change
-held_step : (l : Limits) (f : Flat) (moment : ℕ) (step : Step) → l.services ≤ 512 → Sound f → IsTrue (may l f moment step) → FitsStep step
+held_step : (l : Limits) (f : Flat) (moment : ℕ) (step : Step) → l.services ≤ 1024 → Sound f → IsTrue (may l f moment step) → FitsStep step
     → HaveUnits f.services
     → held_of (step_of l f moment step).flat ≡ replayed (held_of f) (map held_change (one_or_none (kept_change l f step)))
 held_step l f moment step few s ok fits each =
@@ -76,7 +76,7 @@ one_can : (f : Flat) (now : List Config) (change : Option Change) → now ≡ re
 one_can f now None is fine placed = tt
 one_can f now (Some change) is fine placed = (placed.entry, can (held_of f) (held_change change) (subst AreFine is fine) placed.place)
 
-step_can : (l : Limits) (f : Flat) (moment : ℕ) (step : Step) → l.services ≤ 512 → Sound f → IsTrue (may l f moment step) → FitsStep step
+step_can : (l : Limits) (f : Flat) (moment : ℕ) (step : Step) → l.services ≤ 1024 → Sound f → IsTrue (may l f moment step) → FitsStep step
     → HaveUnits f.services
     → IfSome (kept_change l f step) (IsReplayable (held_of f))
 step_can l f moment step few s ok fits each =
@@ -85,7 +85,7 @@ step_can l f moment step few s ok fits each =
     (fine_state after (keeps l f (moment, step) s ok)) (kept_placed l f step few s fits each)
 
 -- whatever became of its append, the change of a step that may be made can be replayed
-pub next_can : (l : Limits) (f : Flat) (moment : ℕ) (step : Step) → l.services ≤ 512 → Sound f → IsTrue (may l f moment step)
+pub next_can : (l : Limits) (f : Flat) (moment : ℕ) (step : Step) → l.services ≤ 1024 → Sound f → IsTrue (may l f moment step)
     → FitsStep step → HaveUnits f.services
     → IfSome (change_of l f step) (IsReplayable (held_of f))
 next_can l f moment (Call caller asked append) few s ok fits each =
@@ -105,7 +105,7 @@ behind : (configs : List Config) (change : Option Change) (changes : List Change
 behind configs None changes one rest = rest
 behind configs (Some change) changes one rest = (one.0, one.1, rest)
 
-pub run_can : (l : Limits) (f : Flat) (es : List Entry) → l.services ≤ 512 → Sound f → IsLegal l f es → AllFit es → HaveUnits f.services
+pub run_can : (l : Limits) (f : Flat) (es : List Entry) → l.services ≤ 1024 → Sound f → IsLegal l f es → AllFit es → HaveUnits f.services
     → AreReplayable (held_of f) (kept_changes l f es)
 unfolding kept_changes
 run_can l f [] few s legal fits each = tt
@@ -122,7 +122,7 @@ pub record HasEnded (l : Limits) (f : Flat) (es : List Entry) : Type 0 where
   pub units : HaveUnits (run_state l f es).services
   pub held : held_of (run_state l f es) ≡ replayed (held_of f) (map held_change (kept_changes l f es))
 
-pub run_ends : (l : Limits) (f : Flat) (es : List Entry) → l.services ≤ 512 → Sound f → IsLegal l f es → AllFit es → HaveUnits f.services
+pub run_ends : (l : Limits) (f : Flat) (es : List Entry) → l.services ≤ 1024 → Sound f → IsLegal l f es → AllFit es → HaveUnits f.services
     → HasEnded l f es
 unfolding kept_changes
 run_ends l f [] few s legal fits each = record { sound = s; units = each; held = refl }

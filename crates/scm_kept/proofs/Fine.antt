@@ -52,7 +52,7 @@ pub record AreFine (configs : List Config) : Type 0 where
 
 -- a place for what is created, and what is changed or removed is there
 abbrev pub HasPlace : List Config → Change → Type 0
-HasPlace configs (Created config) = length configs < 512
+HasPlace configs (Created config) = length configs < 1024
 HasPlace configs (Changed config) = list_any (has_name config.name) configs ≡ true
 HasPlace configs (Removed name) = list_any (has_name name) configs ≡ true
 
@@ -84,7 +84,7 @@ last_apart R (x ∷ xs) y pairs =
 
 -- ## What can be replayed
 
-created_can : (configs : List Config) (config : Config) → AreFine (configs ++ config ∷ []) → length configs < 512
+created_can : (configs : List Config) (config : Config) → AreFine (configs ++ config ∷ []) → length configs < 1024
     → can_replay configs (Created config) ≡ true
 created_can configs config fine few =
     let fresh = list_any_none (has_name config.name) configs (last_apart HasOtherName configs config fine.names) in
@@ -93,7 +93,7 @@ created_can configs config fine few =
     (All-weaker (λ (old : Config). HasOtherDisplay old config) (λ old. shows_as config old ≡ false)
     (λ old h. and_left _ _ h) configs apart) in
     let checked = eq-eqb (check_new config None) 0 (the_last IsChecked configs config fine.checked) in
-    and_from _ _ (and_from _ _ (and_from _ _ (not_from_false _ fresh) (lt-ltb (length configs) 512 few))
+    and_from _ _ (and_from _ _ (and_from _ _ (not_from_false _ fresh) (lt-ltb (length configs) 1024 few))
     (and_from _ _ checked (not_from_false _ alone)))
     (not_from_false _ (acyclic_ends (needs_in (configs ++ config ∷ [])) fine.acyclic))
 

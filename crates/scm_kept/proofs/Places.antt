@@ -141,14 +141,14 @@ not_refused f code change passes =
       | false ↦ λ e. tt
     ] refl
 
-few_held : (rows : List Service) (n : ℕ) → length rows < n → n ≤ 512 → length (map held (unmarked rows)) < 512
+few_held : (rows : List Service) (n : ℕ) → length rows < n → n ≤ 1024 → length (map held (unmarked rows)) < 1024
 few_held rows n few small =
     let first = length-map (unmarked rows) held in
     let second = length-map (filter stays rows) config_of in
     let third = filter_short stays rows in
     omega (arith, first, second, third, few, small)
 
-creation : (l : Limits) (f : Flat) (caller : ℕ) (new : NewService) → l.services ≤ 512 → FitsCreation new
+creation : (l : Limits) (f : Flat) (caller : ℕ) (new : NewService) → l.services ≤ 1024 → FitsCreation new
     → IfSome (change_of_call l f caller (request.Create new)) (IsPlaced f)
 creation l f caller new few fits =
     not_refused f (create_verdict l f caller new appended.Kept) (Some (Created (created_config f new))) (λ e.
@@ -226,7 +226,7 @@ level l f caller handle asked fits each =
     kept_other f row.config new (placed_by f row new (name_left asked row) stands found accepted
     (level_units asked row.config fits (found_config HasUnits row.number row f.services found stands each)))))
 
-pub call_placed : (l : Limits) (f : Flat) (caller : ℕ) (asked : Request) → l.services ≤ 512 → Sound f → FitsRequest asked
+pub call_placed : (l : Limits) (f : Flat) (caller : ℕ) (asked : Request) → l.services ≤ 1024 → Sound f → FitsRequest asked
     → HaveUnits f.services
     → IfSome (change_of_call l f caller asked) (IsPlaced f)
 call_placed l f caller (request.Create new) few s fits each = creation l f caller new few fits

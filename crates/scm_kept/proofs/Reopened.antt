@@ -63,20 +63,20 @@ made_units bytes f made = held_units (unmarked f.services) (made_held bytes f ma
 made_same : (bytes : List ℕ) (f : Flat) → IsMadeOf bytes f → held_of f ≡ unmarked f.services
 made_same bytes f made = held_already (unmarked f.services) (made_held bytes f made)
 
-pub kept_replayable : (l : Limits) (f : Flat) (es : List Entry) → l.services ≤ 512 → IsOpening l f → Legal l f es → AllFit es
+pub kept_replayable : (l : Limits) (f : Flat) (es : List Entry) → l.services ≤ 1024 → IsOpening l f → Legal l f es → AllFit es
     → (bytes : List ℕ) → IsMadeOf bytes f
     → KeepsReplayable l f es
 kept_replayable l f es few begins legal fits bytes made =
     subst (λ (configs : List Config). AreReplayable configs (kept_changes l f es)) (made_same bytes f made)
     (run_can l f es few (begun l f begins) (legal_made l f es legal) fits (made_units bytes f made))
 
-pub reopened : (l : Limits) (f : Flat) (es : List Entry) → l.services ≤ 512 → IsOpening l f → Legal l f es → AllFit es → (bytes : List ℕ)
+pub reopened : (l : Limits) (f : Flat) (es : List Entry) → l.services ≤ 1024 → IsOpening l f → Legal l f es → AllFit es → (bytes : List ℕ)
     → IsMadeOf bytes f
     → IsReopened bytes l f es
 reopened l f es few begins legal fits bytes made =
     read_on bytes (unmarked f.services) (kept_changes l f es) made.read (kept_replayable l f es few begins legal fits bytes made)
 
-pub left_so : (l : Limits) (f : Flat) (es : List Entry) → l.services ≤ 512 → IsOpening l f → Legal l f es → AllFit es → (bytes : List ℕ)
+pub left_so : (l : Limits) (f : Flat) (es : List Entry) → l.services ≤ 1024 → IsOpening l f → Legal l f es → AllFit es → (bytes : List ℕ)
     → IsMadeOf bytes f
     → (j : Journal) (now : List ℕ) → IsLeftSo bytes l f es j now
 left_so l f es few begins legal fits bytes made j now =
@@ -85,7 +85,7 @@ left_so l f es few begins legal fits bytes made j now =
     (and_changes (Some bytes) (kept_changes l f es)) (λ kept is borne. borne_left kept (kept_configs l f es) j now is borne)
     (reopened l f es few begins legal fits bytes made)
 
-pub reopened_cut : (l : Limits) (f : Flat) (es : List Entry) → l.services ≤ 512 → IsOpening l f → Legal l f es → AllFit es
+pub reopened_cut : (l : Limits) (f : Flat) (es : List Entry) → l.services ≤ 1024 → IsOpening l f → Legal l f es → AllFit es
     → (bytes : List ℕ) → IsMadeOf bytes f
     → (moment : ℕ) (step : Step) → IsTrue (may l (state l f es) moment step) → FitsStep step → (size : ℕ)
     → IsReopenedCut bytes l f es step size

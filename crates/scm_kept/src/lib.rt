@@ -48,11 +48,11 @@ pub fn openings_have_their_configurations()
         unmarked (opening l groups configs moment).services ≡ configs }
 {}
 
-/// A legal history that begins with what a journal is read as, under a limit of 512 services, keeps
-/// changes that can be replayed, each over what those before it result in: appended to that journal
-/// they are read, so what one run kept never opens as damaged. A keeper that bears them after that
-/// journal holds no damage, unless all of an entry stands at its end whose append failed. An append
-/// of the next step's change leaves none, after whichever of its bytes it ended.
+/// A legal history that begins with what a journal is read as, under a limit of 1,024 services,
+/// keeps changes that can be replayed, each over what those before it result in: appended to that
+/// journal they are read, so what one run kept never opens as damaged. A keeper that bears them
+/// after that journal holds no damage, unless all of an entry stands at its end whose append
+/// failed. An append of the next step's change leaves none, after whichever of its bytes it ended.
 pub fn what_a_run_keeps_is_read(
     limits: &Limits,
     journal: &[u8],
@@ -60,7 +60,7 @@ pub fn what_a_run_keeps_is_read(
     steps: &Items<(u64, Step)>,
     next: &(u64, Step),
 )
-    requires few { limits.now.services ≤ 512 }
+    requires few { limits.now.services ≤ 1024 }
     requires begins { IsOpening limits.now opening.now }
     requires read { IsJournalOf journal.now (unmarked opening.now.services) }
     requires legal { Legal limits.now opening.now steps.now }
