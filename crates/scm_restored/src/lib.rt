@@ -33,7 +33,7 @@ pub fn open_manager<K: Keeper>(
     path: Option<&str>,
     moment: u64,
 ) -> Result<Opened, JournalFault>
-    requires places { 512 ≤ limits.services }
+    requires places { 1024 ≤ limits.services }
     requires small { AreSmall limits }
     ensures comes { Comes limits groups moment (is_some path.entry)
         (K.held keeper.old) (K.held keeper.new) result }
