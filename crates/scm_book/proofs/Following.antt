@@ -56,7 +56,7 @@ module _ {K : Type 0} (tells : K → Option (List ℕ)) (faulted : K → ℕ) (o
   counted = let w = within o.limits o.first runs.opens.begins (log ++ e ∷ []) legal_then in let n = length-append log (e ∷ []) in
       omega arith
 
-  pub short : length log + 1 ≤ 4194304
+  pub short : length log + 1 ≤ 16777216
   short = let c = counted in let small = runs.opens.small.steps in omega arith
 
   new_name : (n : Name) → Has n (names_made (state o.limits o.first log) e.1) → (k : ℕ) → MadeAt (way_of tells faulted) o log k n → ⊥

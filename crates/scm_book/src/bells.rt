@@ -100,11 +100,11 @@ impl Bell {
     }
 }
 
-/// How many bells the processes share. At most 32 processes are listed at a time.
-const CHILDREN: usize = 64;
+/// How many bells the processes share. At most 128 processes are listed at a time.
+const CHILDREN: usize = 256;
 
 /// The bells of a book: a common one, and one for each process. Processes share one if their
-/// numbers are the same modulo 64.
+/// numbers are the same modulo 256.
 #[derive(Drop)]
 pub struct Bells {
     pub common: Bell,
