@@ -5,13 +5,13 @@ use Rattle.scm_model.specs.declared.flat.Limits.{Limits}
 -- the limits of the program
 abbrev pub program_limits : Limits
 program_limits = record {
-  services = 512;
+  services = 1024;
   handles = 1024;
   registrations = 64;
   callers = 64;
-  processes = 32;
+  processes = 128;
   controls = 16;
-  steps = 4194304;
+  steps = 16777216;
   text = 268435456;
 }
 

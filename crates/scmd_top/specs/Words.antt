@@ -50,7 +50,7 @@ with_options job words = option_and_then job (options_from no_options words)
 abbrev pub within : ℕ → Option ℕ
 within number = if nat_le 1 number && nat_le number 512 then Some number else None
 
--- at most as many services are to be made as may be
+-- at most 512 services are to be made
 abbrev pub IsFew : Job → Type 0
 IsFew (Pipe principal) = Unit {0}
 IsFew Replay = Unit {0}

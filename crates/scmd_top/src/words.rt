@@ -31,7 +31,7 @@ pub enum Job {
     Serve { admin: Listening, user: Listening },
 }
 
-/// A number of services, if there may be so many.
+/// A number of services, if steps are generated for so many.
 fn within(number: u64) -> Option<u32>
     ensures number { result ≡ within number }
     ensures few { IfSome result (λ services. services ≤ 512) }
