@@ -23,15 +23,15 @@ pub struct Site<'a, R> {
 
 /// The greatest limits, but for how many steps there may be.
 pub fn limits(steps: u64) -> Limits
-    requires { steps ≤ 4194304 }
+    requires { steps ≤ 16777216 }
     ensures { AreSmall result }
 {
     Limits {
-        services: 512,
+        services: 1024,
         handles: 1024,
         registrations: 64,
         callers: 64,
-        processes: 32,
+        processes: 128,
         controls: 16,
         steps,
         text: 268_435_456,
