@@ -8,13 +8,13 @@ use scm_text::{Items, OutOfMemory};
 use std::alloc::Global;
 
 pub const LIMITS: Limits = Limits {
-    services: 512,
+    services: 1024,
     handles: 1024,
     registrations: 64,
     callers: 2,
-    processes: 32,
+    processes: 128,
     controls: 16,
-    steps: 4_194_304,
+    steps: 16_777_216,
     text: 268_435_456,
 };
 
