@@ -35,7 +35,7 @@ fn close_whole<R: Wait>(rt: &R, book: Book<MemoryKeeper>, crowd: Crowd) -> Whole
 fn many<R: Threads + Wait + Sync>(rt: &R, alloc: Global, threads: u64, calls: u64) -> Option<Whole>
     requires { 0 < threads }
 {
-    let Opened { book, pass } = new_book(alloc, limits(4_194_304), Vec::new(alloc))?;
+    let Opened { book, pass } = new_book(alloc, limits(16_777_216), Vec::new(alloc))?;
     match gather(rt, alloc, &book, pass, 0, threads, calls) {
         Some(crowd) => Some(close_whole(rt, book, crowd)),
         None => {
@@ -185,7 +185,7 @@ fn are_told(alloc: Global, manager: &mut Manager, trail: &Trail, visits: &mut [V
 
 /// Whether a manager that begins as the book's did tells all callers the same again.
 fn is_one_history(alloc: Global, trail: &Trail, visits: &mut [Visit]) -> bool {
-    match new_manager(alloc, limits(4_194_304)) {
+    match new_manager(alloc, limits(16_777_216)) {
         Ok(mut manager) => {
             let told = are_told(alloc, &mut manager, trail, visits);
             manager.close();

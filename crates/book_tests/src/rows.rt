@@ -198,7 +198,7 @@ fn crowds<R: Wait>(rt: &R, book: &Book<MemoryKeeper>, root: &mut Pass) -> bool
 
 /// The same in a new book.
 fn may_64_join<R: Wait>(rt: &R, alloc: Global) -> bool {
-    match new_book(alloc, limits(4_194_304), Vec::new(alloc)) {
+    match new_book(alloc, limits(16_777_216), Vec::new(alloc)) {
         Some(Opened { book, mut pass }) => {
             let are_right = crowds(rt, &book, &mut pass);
             drop(pass);
@@ -245,7 +245,7 @@ fn kept<R: Wait>(rt: &R, alloc: Global, rows: &[Row]) -> Option<Closed<MemoryKee
     let Ok(fates) = Vec::from_array(alloc, [Fate::Fails { done: 5 }, Fate::Succeeds]) else {
         return None;
     };
-    let Opened { book, pass } = new_book(alloc, limits(4_194_304), fates)?;
+    let Opened { book, pass } = new_book(alloc, limits(16_777_216), fates)?;
     let at = Site {
         rt,
         alloc,

@@ -389,7 +389,7 @@ fn sees<R: Wait>(at: &Site<'_, R>, root: &mut Pass, sight: Sight) -> bool
 
 /// Whether a caller of a new book sees it.
 pub fn is_seen<R: Wait>(rt: &R, alloc: Global, sight: Sight) -> bool {
-    match new_book(alloc, limits(4_194_304), Vec::new(alloc)) {
+    match new_book(alloc, limits(16_777_216), Vec::new(alloc)) {
         Some(Opened { book, mut pass }) => {
             let at = Site {
                 rt,
