@@ -47,7 +47,7 @@ fn staged<R: Wait>(rt: &R, opened: Opened<MemoryKeeper>) -> Option<Stage>
 
 /// An administrator joins, with room for so many steps.
 pub fn begin_within<R: Wait>(rt: &R, alloc: Global, steps: u64) -> Option<Stage>
-    requires { steps ≤ 4194304 }
+    requires { steps ≤ 16777216 }
     ensures { IfSome result (λ s. IsOf s.book s.caller × (s.caller.caller ≢ 0)) }
 {
     match new_book(alloc, limits(steps), Vec::new(alloc)) {

@@ -21,16 +21,16 @@ const JOURNAL: [u8; 74] = [
 /// Limits with room for all that it does.
 fn limits() -> Limits
     ensures small { AreSmall result }
-    ensures places { 512 ≤ result.services }
+    ensures places { 1024 ≤ result.services }
 {
     Limits {
-        services: 512,
+        services: 1024,
         handles: 2,
         registrations: 0,
         callers: 2,
         processes: 2,
         controls: 1,
-        steps: 4_194_304,
+        steps: 16_777_216,
         text: 4096,
     }
 }
