@@ -1089,7 +1089,7 @@ runs
 || steps 11; services 1; launches 1; running 0
 = 0 generate 2: two, with their needs
 || steps 24; services 2; launches 3; running 0
-= 0 generate 512: as many services as there may be
+= 0 generate 512: as many services as it makes at most
 || steps 22074; services 512; launches 4107; running 0
 = 5 generate 0: too few
 = 5 generate 513: too many

@@ -84,6 +84,26 @@ fn put_handles(alloc: Global, rows: &mut String) -> Option<()> {
     rows.push_str("| manager - - #F003F | h0 1816\n").ok()
 }
 
+/// Puts the creation of a service, and the close of its handle.
+fn put_service(alloc: Global, rows: &mut String, handle: u32) -> Option<()> {
+    let creation = format!(in alloc; "| create h1 'S{handle}' - own '/a' plain | - h{handle} 0\n");
+    let creation = creation.ok()?;
+    rows.push_str(creation.as_str()).ok()?;
+    drop(creation);
+    let close = format!(in alloc; "| close h{handle} | h0 0\n").ok()?;
+    rows.push_str(close.as_str()).ok()
+}
+
+/// Puts as many services as there may be, each with its handle closed, and one that is refused.
+fn put_services(alloc: Global, rows: &mut String) -> Option<()> {
+    rows.push_str("bind\n| manager - - #F003F | h1 0\n").ok()?;
+    for handle in 2..1026 {
+        put_service(alloc, rows, handle)?;
+    }
+    rows.push_str("| create h1 'T' - own '/a' plain | - h0 1816\n")
+        .ok()
+}
+
 /// Puts a request of a megabyte that doesn't end.
 fn put_megabyte(rows: &mut String) -> Option<()> {
     rows.push_str("bind\n").ok()?;
@@ -114,6 +134,17 @@ fn too_many_handles(rt: HostRuntime) {
     let mut sheet = Sheet::new(alloc, GROUPS);
     let mut rows = String::new(alloc);
     assert!(rt; put_handles(alloc, &mut rows).is_some());
+    pipe_holds(&rt, &mut sheet, rows.as_str(), 0);
+    drop(rows);
+    drop(sheet);
+}
+
+#[test]
+fn too_many_services(rt: HostRuntime) {
+    let alloc = rt.alloc();
+    let mut sheet = Sheet::new(alloc, GROUPS);
+    let mut rows = String::new(alloc);
+    assert!(rt; put_services(alloc, &mut rows).is_some());
     pipe_holds(&rt, &mut sheet, rows.as_str(), 0);
     drop(rows);
     drop(sheet);
