@@ -48,10 +48,10 @@ const CONTINUE_PENDING: u32 = 5;
 const PAUSE_PENDING: u32 = 6;
 const PAUSED: u32 = 7;
 
-const MAX_SERVICES: usize = 512;
+const MAX_SERVICES: usize = 1024;
 const MAX_HANDLES: usize = 1024;
 const MAX_CALLERS: usize = 64;
-const MAX_PROCESSES: usize = 32;
+const MAX_PROCESSES: usize = 128;
 const MAX_CONTROLS: usize = 16;
 const DEADLINE: u64 = 120_000;
 const DISABLED_START: u32 = 4;
