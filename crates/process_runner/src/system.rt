@@ -7,7 +7,7 @@ use outside::WriteSink;
 use scm_text::{Items, Text};
 use std::alloc::Global;
 use std::io;
-use std::process::{Command, Processes, Stdio, SystemProcess};
+use std::process::{Child, Command, Processes, Stdio, SystemProcess};
 
 /// Starts programs of the system. The standard input and output of each are pipes, its standard
 /// error stays where that of this process goes, and no other descriptor of this process is handed
@@ -29,6 +29,32 @@ fn fault_of(error: &io::Error) -> SpawnFault {
     }
 }
 
+/// Gives a command its arguments, and pipes for its standard input and output.
+fn set_up(command: &mut Command, arguments: &[Text]) -> io::Result<()> {
+    for argument in arguments {
+        command.arg(argument.as_str())?;
+    }
+    command.stdin(Stdio::piped()).stdout(Stdio::piped());
+    Ok(())
+}
+
+/// Takes the ends of a child's pipes.
+fn spawned(mut child: Child) -> io::Result<Spawned<PipeLink, PipeFeed>> {
+    let Some(input) = child.stdin.take() else {
+        drop(child);
+        return Err(io::Error::from(io::ErrorKind::Other));
+    };
+    let Some(output) = child.stdout.take() else {
+        drop(input);
+        drop(child);
+        return Err(io::Error::from(io::ErrorKind::Other));
+    };
+    Ok(Spawned {
+        link: PipeLink::new(child, output),
+        feed: WriteSink::new(input),
+    })
+}
+
 impl<R: Processes<Started = SystemProcess>> ProcessSpawner<R> {
     /// Has started nothing yet.
     pub fn new(processes: R, alloc: Global) -> Self
@@ -41,24 +67,21 @@ impl<R: Processes<Started = SystemProcess>> ProcessSpawner<R> {
         }
     }
 
+    /// Starts a command with these arguments.
+    fn spawn(&self, command: &mut Command, arguments: &[Text]) -> io::Result<Child> {
+        set_up(command, arguments)?;
+        command.spawn(&self.processes)
+    }
+
     /// Starts a program, and takes the ends of its pipes.
     fn run(&self, words: &[Text]) -> io::Result<Spawned<PipeLink, PipeFeed>> {
         let Some((program, arguments)) = words.split_first() else {
             return Err(io::Error::from(io::ErrorKind::InvalidInput));
         };
         let mut command = Command::new(self.alloc, program.as_str())?;
-        for argument in arguments {
-            command.arg(argument.as_str())?;
-        }
-        command.stdin(Stdio::piped()).stdout(Stdio::piped());
-        let mut child = command.spawn(&self.processes)?;
-        match (child.stdin.take(), child.stdout.take()) {
-            (Some(input), Some(output)) => Ok(Spawned {
-                link: PipeLink::new(child, output),
-                feed: WriteSink::new(input),
-            }),
-            _ => Err(io::Error::from(io::ErrorKind::Other)),
-        }
+        let child = self.spawn(&mut command, arguments);
+        drop(command);
+        spawned(child?)
     }
 }
 
