@@ -76,16 +76,26 @@ impl Run {
         })
     }
 
+    /// Makes a step that may be made now, where it lies.
+    fn make_lent(&mut self, step: &mut Step) -> Result<(), OutOfMemory>
+        requires { IsOpenTo self.old (at_once step.old ∷ []) }
+        ensures { OnOk result (Makes self.old (at_once step.old ∷ []) self.new) }
+    {
+        self.manager.reserve_for(step)?;
+        self.launches += launch_in(step);
+        self.steps += 1;
+        act(&mut self.manager, step);
+        Ok(())
+    }
+
     /// Makes a step that may be made now.
     pub fn make(&mut self, mut step: Step) -> Result<(), OutOfMemory>
         requires { IsOpenTo self.old (at_once step ∷ []) }
         ensures { OnOk result (Makes self.old (at_once step ∷ []) self.new) }
     {
-        self.manager.reserve_for(&step)?;
-        self.launches += launch_in(&step);
-        self.steps += 1;
-        act(&mut self.manager, &mut step);
-        Ok(())
+        let made = self.make_lent(&mut step);
+        drop(step);
+        made
     }
 
     /// The summary of the steps that were made.
