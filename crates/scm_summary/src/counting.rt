@@ -49,10 +49,12 @@ fn counted(trail: &Trail, place: u64) -> Result<Count, OutOfMemory>
     ensures { IfOk result (λ c. IsCounted trail.now.entries place c.joined c.calling) }
 {
     let (_, step) = trail.entry(place)?;
-    Ok(Count {
+    let count = Count {
         joined: one_joined(&step),
         calling: calling(&step),
-    })
+    };
+    drop(step);
+    Ok(count)
 }
 
 /// How many callers joined.
