@@ -1,11 +1,12 @@
 -- The room that a step uses.
-use Rattle.std.specs.Prelude.{ℕ, Bool, true, false, ◌≡◌, ◌≤◌, ◌<◌, ◌+◌, ◌^◌, length, nat_lt, IfSome, None, Some}
+use Rattle.std.specs.Prelude.{ℕ, Bool, true, false, ◌≡◌, ◌≤◌, ◌<◌, ◌+◌, ◌^◌, length, nat_lt, IfSome, None, Some, Result, Ok, Err}
 use Rattle.scm_model.specs.declared.flat.Flat.{Flat}
 use Rattle.scm_model.specs.declared.calls.Request.{Request}
 use Rattle.scm_model.specs.declared.calls.Request.TheVariants as request
 use Rattle.scm_model.specs.declared.steps.Step.{Step}
 use Rattle.scm_model.specs.declared.steps.Step.TheVariants.{Joined, Call, Tick, Raised}
 use Rattle.scm_model.specs.declared.flat.Limits.{Limits}
+use Rattle.scm_text.specs.declared.OutOfMemory.{OutOfMemory}
 use Rattle.scm_model.specs.declared.steps.Kept.TheVariants as appended
 use Rattle.scm_rules.specs.Change.{asked_config, change_verdict}
 use Rattle.scm_rules.specs.Change2.{asked_level, change2_verdict}
@@ -74,6 +75,11 @@ needs_memory f step = false
 
 abbrev pub nothing_made : Prepared
 nothing_made = record { name = None; config = None; code = 0; change = None; entries = None; reply = None }
+
+-- what is made of a value, if there was memory for it
+abbrev pub made_with : {T : Type 0} → (T → Prepared) → Result T OutOfMemory → Result Prepared OutOfMemory
+made_with make (Ok value) = Ok (make value)
+made_with make (Err fault) = Err fault
 
 -- for a creation and a change the new configuration, and what they are refused with if they are kept; for what may change the
 -- configurations the change; for a start the services that it goes by; for a query of the lock the owner's name; for another call that only

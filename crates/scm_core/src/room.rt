@@ -4,7 +4,7 @@ ghost use Rattle.scm_model.specs.declared.calls.Request.TheVariants as request;
 ghost use Rattle.scm_model.specs.declared.steps.Change.TheVariants.{Created};
 ghost use Rattle.scm_rules.specs.Verdicts.{unless_refused};
 ghost use Rattle.scm_core.specs.Room.{prepared_for, nothing_made, HasRoomForStep, HasRoomForCall};
-ghost use Rattle.scm_core.specs.Room.{IsMadeFor, call_needs_memory, needs_memory};
+ghost use Rattle.scm_core.specs.Room.{IsMadeFor, call_needs_memory, made_with, needs_memory};
 ghost use Rattle.std.specs.Borrow.{ftrue};
 ghost use Rattle.scm_model.specs.declared.steps.Step.{Step};
 ghost use Rattle.scm_tables.specs.Promised.{KeepsRooms};
@@ -81,10 +81,14 @@ pub fn nothing_made() -> Prepared
     made_of(None, None, None)
 }
 
-fn made_of_name(name: WText) -> Prepared
-    ensures { result ≡ record nothing_made { name = Some name } }
+/// What is made of the name of who holds the lock.
+fn made_of_name(name: Result<WText, OutOfMemory>) -> Result<Prepared, OutOfMemory>
+    ensures { result ≡ made_with (λ owner. record nothing_made { name = Some owner }) name }
 {
-    made_of(Some(name), None, None)
+    match name {
+        Ok(name) => Ok(made_of(Some(name), None, None)),
+        Err(fault) => Err(fault),
+    }
 }
 
 fn made_of_config(config: Option<Config>, code: u32, change: Option<Change>) -> Prepared
@@ -100,22 +104,34 @@ fn made_of_config(config: Option<Config>, code: u32, change: Option<Change>) -> 
     }
 }
 
-fn made_of_removal(change: Option<Change>) -> Prepared
-    ensures { result ≡ record nothing_made { change = change } }
+/// What is made of the change that a deletion makes.
+fn made_of_removal(change: Result<Option<Change>, OutOfMemory>) -> Result<Prepared, OutOfMemory>
+    ensures { result ≡ made_with (λ removal. record nothing_made { change = removal }) change }
 {
-    made_of_config(None, 0, change)
+    match change {
+        Ok(change) => Ok(made_of_config(None, 0, change)),
+        Err(fault) => Err(fault),
+    }
 }
 
-fn made_of_entries(entries: Items<u64>) -> Prepared
-    ensures { result ≡ record nothing_made { entries = Some entries } }
+/// What is made of the services that a start goes by.
+fn made_of_entries(entries: Result<Items<u64>, OutOfMemory>) -> Result<Prepared, OutOfMemory>
+    ensures { result ≡ made_with (λ list. record nothing_made { entries = Some list }) entries }
 {
-    made_of(None, Some(entries), None)
+    match entries {
+        Ok(entries) => Ok(made_of(None, Some(entries), None)),
+        Err(fault) => Err(fault),
+    }
 }
 
-fn made_of_reply(reply: Reply) -> Prepared
-    ensures { result ≡ record nothing_made { reply = Some reply } }
+/// What is made of the reply to a call that only reads.
+fn made_of_reply(reply: Result<Reply, OutOfMemory>) -> Result<Prepared, OutOfMemory>
+    ensures { result ≡ made_with (λ told. record nothing_made { reply = Some told }) reply }
 {
-    made_of(None, None, Some(reply))
+    match reply {
+        Ok(reply) => Ok(made_of(None, None, Some(reply))),
+        Err(fault) => Err(fault),
+    }
 }
 
 /// The change that a creation makes, unless it is refused.
@@ -189,50 +205,48 @@ pub fn make_for_call(
 {
     match request {
         Request::Create(new) => make_for_create(tables, caller, new, alloc),
-        Request::Delete { handle } => {
-            Ok(made_of_removal(removed(tables, caller, *handle, alloc)?))
-        }
-        Request::QueryLock { .. } => Ok(made_of_name(lock_owner(tables, alloc)?)),
+        Request::Delete { handle } => made_of_removal(removed(tables, caller, *handle, alloc)),
+        Request::QueryLock { .. } => made_of_name(lock_owner(tables, alloc)),
         Request::Change(change) => make_for_change(tables, caller, change, alloc),
         Request::Change2 { handle, info } => {
             make_for_change2(tables, caller, *handle, info, alloc)
         }
-        Request::QueryConfig { handle, size } => Ok(made_of_reply(query_config(
-            tables, caller, *handle, *size, alloc,
-        )?)),
-        Request::Start { handle, words } => Ok(made_of_entries(start_entries(
-            tables, caller, *handle, words, alloc,
-        )?)),
+        Request::QueryConfig { handle, size } => {
+            made_of_reply(query_config(tables, caller, *handle, *size, alloc))
+        }
+        Request::Start { handle, words } => {
+            made_of_entries(start_entries(tables, caller, *handle, words, alloc))
+        }
         Request::EnumDependents {
             handle,
             states,
             size,
-        } => Ok(made_of_reply(enum_dependents(tables, caller, *handle, *states, *size, alloc)?)),
+        } => made_of_reply(enum_dependents(tables, caller, *handle, *states, *size, alloc)),
         Request::EnumServices {
             handle,
             kinds,
             states,
             size,
             resume,
-        } => Ok(made_of_reply(enum_services(
+        } => made_of_reply(enum_services(
             tables, caller, *handle, *kinds, *states, *size, *resume, alloc,
-        )?)),
+        )),
         Request::QueryConfig2 {
             handle,
             level,
             size,
-        } => Ok(made_of_reply(query_config2(tables, caller, *handle, *level, *size, alloc)?)),
+        } => made_of_reply(query_config2(tables, caller, *handle, *level, *size, alloc)),
         Request::QueryStatusEx {
             handle,
             level,
             size,
-        } => Ok(made_of_reply(query_status_ex(tables, caller, *handle, *level, *size, alloc)?)),
-        Request::DisplayName { handle, name, size } => Ok(made_of_reply(display_name(
-            tables, caller, *handle, name, *size, alloc,
-        )?)),
-        Request::KeyName { handle, name, size } => Ok(made_of_reply(key_name(
-            tables, caller, *handle, name, *size, alloc,
-        )?)),
+        } => made_of_reply(query_status_ex(tables, caller, *handle, *level, *size, alloc)),
+        Request::DisplayName { handle, name, size } => {
+            made_of_reply(display_name(tables, caller, *handle, name, *size, alloc))
+        }
+        Request::KeyName { handle, name, size } => {
+            made_of_reply(key_name(tables, caller, *handle, name, *size, alloc))
+        }
         _ => Ok(nothing_made()),
     }
 }
