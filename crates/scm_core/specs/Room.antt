@@ -1,6 +1,7 @@
 -- The room that a step uses.
 use Rattle.std.specs.Prelude.{ℕ, Bool, true, false, ◌≡◌, ◌≤◌, ◌<◌, ◌+◌, ◌^◌, length, nat_lt, IfSome, None, Some, Result, Ok, Err}
 use Rattle.scm_model.specs.declared.flat.Flat.{Flat}
+use Rattle.scm_model.specs.declared.calls.NewService.{NewService}
 use Rattle.scm_model.specs.declared.calls.Request.{Request}
 use Rattle.scm_model.specs.declared.calls.Request.TheVariants as request
 use Rattle.scm_model.specs.declared.steps.Step.{Step}
@@ -127,6 +128,26 @@ prepared_for l f caller (request.QueryStatusEx handle level size) = record nothi
       Some (query_ex_reply f caller handle level size);
 }
 prepared_for l f caller asked = nothing_made
+
+-- whether a call goes by what was made for it
+abbrev pub uses_made : Request → Bool
+uses_made (request.Change change) = true
+uses_made (request.Change2 handle asked) = true
+uses_made (request.Create new) = true
+uses_made (request.QueryLock handle size) = true
+uses_made (request.Start handle words) = true
+uses_made (request.QueryConfig handle size) = true
+uses_made (request.DisplayName handle name size) = true
+uses_made (request.KeyName handle name size) = true
+uses_made (request.EnumDependents handle states size) = true
+uses_made (request.EnumServices handle kinds states size resume) = true
+uses_made (request.QueryConfig2 handle level size) = true
+uses_made (request.QueryStatusEx handle level size) = true
+uses_made asked = false
+
+-- a service is asked to be created
+abbrev pub IsCreation : Request → Type 0
+IsCreation asked = (new : NewService) × (asked ≡ request.Create new)
 
 abbrev pub IsMadeFor : Limits → Flat → Prepared → Step → Type 0
 IsMadeFor l f made (Call caller asked append) = made ≡ prepared_for l f caller asked

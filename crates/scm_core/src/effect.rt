@@ -1,10 +1,11 @@
-ghost use Rattle.std.specs.Prelude.{◌≡◌, IfOk, option_copied, ◌≤◌, ◌<◌, ◌^◌};
+ghost use Rattle.std.specs.Prelude.{◌≡◌, IfOk, IsTrue, option_copied, ◌≤◌, ◌<◌, ◌^◌};
 ghost use Rattle.scm_rules.specs.Steps.{may_come, at_moment, effect_of, finished, step_of};
 ghost use Rattle.scm_core.specs.Judged.{change_if_kept, told_in};
 ghost use Rattle.scm_rules.specs.Verdicts.{change_of, change_of_call, tells_right};
 ghost use Rattle.scm_model.specs.declared.steps.Step.TheVariants.{Call};
 ghost use Rattle.scm_core.specs.Room.{HasNumbers, HasRoomForStep, HasRoomForCall, IsMadeFor};
-ghost use Rattle.scm_core.specs.Room.{prepared_for};
+ghost use Rattle.scm_core.specs.Room.{IsCreation, prepared_for, uses_made};
+ghost use Rattle.scm_model.specs.declared.calls.Request.TheVariants as request;
 
 use super::room::Prepared;
 use scm_arms_handle::{close, join, leave, lock, open_manager, open_service, query_lock, unlock};
@@ -15,7 +16,7 @@ use scm_arms_service::{
 };
 use scm_arms_start::{end_start, fail_launch, finish, launched, start, take_launch, tick};
 use scm_model::codes::ERROR_CALL_NOT_IMPLEMENTED;
-use scm_model::{Answer, Change, Kept, Request, Step, refused};
+use scm_model::{Answer, Change, Kept, NewService, Request, Step, refused};
 use scm_tables::Tables;
 use scm_text::OutOfMemory;
 use std::alloc::Global;
@@ -121,11 +122,74 @@ pub fn change_of(tables: &Tables, step: &Step, alloc: Global) -> Result<Option<C
     }
 }
 
-/// What the arm of a creation takes out of its request.
-fn taken(request: &mut Request) -> Request
-    ensures { result ≡ request.old }
+/// Takes what a creation asks out of its request.
+fn taken(asked: &mut Request) -> NewService
+    requires { IsCreation asked.old }
+    ensures { asked.old ≡ request.Create result }
 {
-    replace(request, Request::Close { handle: 0 })
+    let request = replace(asked, Request::Close { handle: 0 });
+    match request {
+        Request::Create(new) => new,
+        other => {
+            drop(other);
+            unreachable!()
+        }
+    }
+}
+
+/// Does a call that goes by what was made for it.
+fn call_made(
+    tables: &mut Tables,
+    alloc: Global,
+    caller: u64,
+    request: &mut Request,
+    kept: Kept,
+    made: &mut Prepared,
+) -> Answer
+    requires made { made.old ≡ prepared_for tables.old.limits tables.old.flat caller request.old }
+    requires room { HasRoomForCall tables.old caller request.old }
+    requires numbers { HasNumbers tables.old.flat }
+    requires controls { tables.old.limits.controls ≤ 16 }
+    requires uses { IsTrue (uses_made request.old) }
+    ensures answer { result ≡ (effect_of tables.old.limits tables.old.flat
+        (Call caller request.old kept)).answer }
+    ensures flat { tables.new.flat ≡ (effect_of tables.old.limits tables.old.flat
+        (Call caller request.old kept)).flat }
+    ensures limits { tables.new.limits ≡ tables.old.limits }
+{
+    let limits = tables.limits();
+    let code = made.code;
+    match request {
+        Request::Change(asked) => {
+            let config = made.config.take();
+            Answer::Reply(change(tables, caller, asked, code, config, kept))
+        }
+        Request::Change2 { handle, info } => {
+            let config = made.config.take();
+            Answer::Reply(change2(tables, caller, *handle, info, code, config, kept))
+        }
+        Request::Create(_) => {
+            let new = taken(request);
+            let config = made.config.take();
+            Answer::Reply(create(tables, &limits, caller, new, code, config, kept))
+        }
+        Request::QueryLock { handle, size } => {
+            let owner = made.name.take().unwrap();
+            Answer::Reply(query_lock(tables, caller, *handle, *size, owner))
+        }
+        Request::Start { handle, words } => {
+            let words = words.take();
+            start(tables, alloc, caller, *handle, words, made.entries.take())
+        }
+        Request::QueryConfig { .. }
+        | Request::DisplayName { .. }
+        | Request::KeyName { .. }
+        | Request::EnumDependents { .. }
+        | Request::EnumServices { .. }
+        | Request::QueryConfig2 { .. }
+        | Request::QueryStatusEx { .. } => Answer::Reply(made.reply.take().unwrap()),
+        _ => unreachable!(),
+    }
 }
 
 /// Does a call.
@@ -148,7 +212,6 @@ fn call(
     ensures limits { tables.new.limits ≡ tables.old.limits }
 {
     let limits = tables.limits();
-    let code = made.code;
     match request {
         Request::Close { handle } => Answer::Reply(close(tables, caller, *handle)),
         Request::Control {
@@ -162,21 +225,6 @@ fn call(
             Answer::Reply(set_status(tables, caller, *handle, status))
         }
         Request::Unlock { handle } => Answer::Reply(unlock(tables, caller, *handle)),
-        Request::Change(asked) => {
-            let config = made.config.take();
-            Answer::Reply(change(tables, caller, asked, code, config, kept))
-        }
-        Request::Change2 { handle, info } => {
-            let config = made.config.take();
-            Answer::Reply(change2(tables, caller, *handle, info, code, config, kept))
-        }
-        Request::Create(_) => {
-            let Request::Create(new) = taken(request) else {
-                unreachable!()
-            };
-            let config = made.config.take();
-            Answer::Reply(create(tables, &limits, caller, new, code, config, kept))
-        }
         Request::OpenManager { database, access } => {
             Answer::Reply(open_manager(tables, &limits, caller, database, *access))
         }
@@ -185,29 +233,15 @@ fn call(
             name,
             access,
         } => Answer::Reply(open_service(tables, &limits, caller, *handle, name, *access)),
-        Request::QueryLock { handle, size } => {
-            let owner = made.name.take().unwrap();
-            Answer::Reply(query_lock(tables, caller, *handle, *size, owner))
-        }
-        Request::Start { handle, words } => {
-            let words = words.take();
-            start(tables, alloc, caller, *handle, words, made.entries.take())
-        }
         Request::Notify { handle, mask } => {
             Answer::Reply(notify(tables, &limits, caller, *handle, *mask))
         }
         Request::GetNotify { handle } => Answer::Reply(get_notify(tables, caller, *handle)),
         Request::CloseNotify { handle } => Answer::Reply(close_notify(tables, caller, *handle)),
-        Request::QueryConfig { .. }
-        | Request::DisplayName { .. }
-        | Request::KeyName { .. }
-        | Request::EnumDependents { .. }
-        | Request::EnumServices { .. }
-        | Request::QueryConfig2 { .. }
-        | Request::QueryStatusEx { .. } => Answer::Reply(made.reply.take().unwrap()),
         Request::QuerySecurity { .. } | Request::SetSecurity { .. } => {
             Answer::Reply(refused(alloc, request, ERROR_CALL_NOT_IMPLEMENTED))
         }
+        _ => call_made(tables, alloc, caller, request, kept, made),
     }
 }
 
@@ -234,7 +268,6 @@ fn begin(tables: &mut Tables, moment: u64, step: &Step)
     }
 }
 
-#[tactic(auto, using(crate::proofs::Beforehand::can_fire, crate::proofs::Beforehand::end_numbers, crate::proofs::Beforehand::raise_numbers))]
 /// Does what a step does before the plans are settled and marked services leave.
 fn effect(tables: &mut Tables, alloc: Global, step: &mut Step, made: &mut Prepared) -> Answer
     requires made { IsMadeFor tables.old.limits tables.old.flat made.old step.old }
