@@ -13,6 +13,30 @@ loop-init g c = record {
 pub look-requires-clause-path : goal.look-requires-clause-path
 look-requires-clause-path g c = omega (arith, c.requires.path, c.loop.invariant.path)
 
+pub look-requires-clause-book : goal.look-requires-clause-book
+look-requires-clause-book g c = c.loop.invariant.book
+
+pub look-requires-clause-nobody : goal.look-requires-clause-nobody
+look-requires-clause-nobody g c = c.loop.invariant.sees.nobody
+
+pub reap-requires-clause-by : goal.reap-requires-clause-by
+reap-requires-clause-by g c = c.look.ensures.book
+
+pub reap-requires-clause-nobody : goal.reap-requires-clause-nobody
+reap-requires-clause-nobody g c = c.look.ensures.sees.nobody
+
+pub reap-requires-clause-all : goal.reap-requires-clause-all
+reap-requires-clause-all g c = c.loop.invariant.all
+
+pub returns-then-asked-clause-all : goal.returns-then-asked-clause-all
+returns-then-asked-clause-all g c = c.loop.invariant.all
+
+pub returns-then-asked-clause-book : goal.returns-then-asked-clause-book
+returns-then-asked-clause-book g c = c.loop.invariant.book
+
+pub returns-then-asked-clause-sees : goal.returns-then-asked-clause-sees
+returns-then-asked-clause-sees g c = c.loop.invariant.sees
+
 pub loop-preserved-in-Child : goal.loop-preserved-in-Child
 loop-preserved-in-Child g c =
     let o = c.args.self.now.book.now.opening in
