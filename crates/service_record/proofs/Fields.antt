@@ -3,10 +3,10 @@ use Rattle.std.proofs.Common.{◌≡◌, ℕ, zero, suc, ◌+◌, ◌^◌, ◌<�
 use Rattle.std.proofs.Common.{take, drop, Result, Ok, Err, refl, sym, ap, subst, ◌∙◌, append_assoc, arith, inl, inr}
 use Rattle.std.specs.Int.{w32, from_le_bytes}
 use Rattle.std.proofs.lemmas.Bool.{cases_lt, ltb-false, le-ltb}
-use Rattle.std.proofs.lemmas.List.{take-append-drop, length-take, get_or-drop, get_or-take, get_or_past}
+use Rattle.std.proofs.lemmas.List.{take-append-drop, length-append, length-take, length-take-le, take_at, drop_at, get_or-drop, get_or-take, get_or_past}
 use Rattle.std.proofs.lemmas.Nat.{le_bytes_4, from_le_bytes-to_le_bytes_4}
-use Rattle.service_record.specs.Spelling.{number, flag, FitsNumber}
-use Rattle.service_record.specs.Reading.{◌>>=◌, Item, take_number, take_flag}
+use Rattle.service_record.specs.Spelling.{number, flag, FitsNumber, IsSubtype}
+use Rattle.service_record.specs.Reading.{◌>>=◌, Item, take_number, take_flag, take_subtype}
 
 abbrev pub IsBytes : List ℕ → Type 0
 IsBytes bytes = (i : ℕ) → get_or bytes i 0 < 256
@@ -120,3 +120,30 @@ flag_again true rest h = refl
 
 pub a_flag : IsField Bool take_flag flag IsFlag
 a_flag = record { takes = flag_takes; again = flag_again }
+
+-- ## Subtypes
+
+abbrev pub as_is : List ℕ → List ℕ
+as_is bytes = bytes
+
+subtype_takes : (bytes : List ℕ) (x : List ℕ × List ℕ) → IsBytes bytes → take_subtype bytes ≡ Ok x → Takes bytes x.0 x.1 × IsSubtype x.0
+subtype_takes bytes x fits e =
+    let g = guard_ok (ltb (length bytes) 16) (length bytes) (take 16 bytes, drop 16 bytes) x e in
+    let long : 16 ≤ length bytes = ltb-false _ _ g.0 in
+    let taken : Takes bytes (take 16 bytes) (drop 16 bytes) = record {
+      parts = sym (take-append-drop 16 bytes);
+      rest_fits = IsBytes-drop 16 bytes fits;
+    } in
+    subst (λ (p : List ℕ × List ℕ). Takes bytes p.0 p.1 × IsSubtype p.0) g.1 (taken, length-take-le 16 bytes long)
+
+subtype_again : (subtype rest : List ℕ) → IsSubtype subtype → take_subtype (subtype ++ rest) ≡ Ok (subtype, rest)
+subtype_again subtype rest size =
+    let long = length-append subtype rest in
+    rw (
+      le-ltb (length (subtype ++ rest)) 16 (omega (arith, long, size)),
+      take_at subtype rest 16 size,
+      drop_at subtype rest 16 size,
+    ) refl
+
+pub a_subtype : IsField (List ℕ) take_subtype as_is IsSubtype
+a_subtype = record { takes = subtype_takes; again = subtype_again }

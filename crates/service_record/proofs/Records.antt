@@ -11,18 +11,22 @@ use Rattle.scm_model.specs.declared.flat.Action.{Action}
 use Rattle.scm_model.specs.declared.flat.Config.{Config}
 use Rattle.scm_model.specs.declared.flat.Need.{Need}
 use Rattle.scm_model.specs.declared.flat.Need.TheVariants as needs
+use Rattle.scm_model.specs.declared.flat.Trigger.{Trigger}
 use Rattle.service_record.specs.declared.reading.Front.{Front}
 use Rattle.service_record.specs.declared.reading.Middle.{Middle}
 use Rattle.service_record.specs.declared.reading.Back.{Back}
+use Rattle.service_record.specs.declared.reading.End.{End}
 use Rattle.service_record.specs.declared.reading.RecordFault.{RecordFault}
-use Rattle.service_record.specs.Spelling.{number, flag, text, need_bytes, action, counted_items, front, middle, back, encoding, held}
-use Rattle.service_record.specs.Spelling.{FitsNumber, FitsText, IsNeed, IsAction, AreItems, IsConfig}
-use Rattle.service_record.specs.Reading.{◌>>=◌, Item, Tells, take_number, need_of, take_need, take_action, take_items, take_counted}
-use Rattle.service_record.specs.Reading.{take_front, take_middle, take_back, config_of, take_config, whole_of, placed, record_of}
-use Rattle.service_record.proofs.Fields.{IsBytes, bind_ok, Takes, Takes-then, IsField, step, ok_is, a_number, a_flag}
+use Rattle.service_record.specs.Spelling.{number, flag, text, need_bytes, action, trigger_bytes, counted_items, front, middle, back, end}
+use Rattle.service_record.specs.Spelling.{encoding, encoding_1, held, FitsNumber, FitsText, IsNeed, IsAction, IsTrigger, AreItems, IsConfig}
+use Rattle.service_record.specs.Spelling.{IsConfig_1}
+use Rattle.service_record.specs.Reading.{◌>>=◌, Item, Tells, take_number, need_of, take_need, take_action, take_subtype, take_trigger}
+use Rattle.service_record.specs.Reading.{take_items, take_counted, take_front, take_middle, take_back, take_end, config_from, with_end}
+use Rattle.service_record.specs.Reading.{take_config, take_config_1, all_of, whole_of, whole_of_1, placed, record_of, record_of_1}
+use Rattle.service_record.proofs.Fields.{IsBytes, bind_ok, Takes, Takes-then, IsField, step, ok_is, a_number, a_flag, a_subtype}
 use Rattle.service_record.proofs.Texts.{a_text}
 
--- ## Needs and actions
+-- ## Needs, actions and triggers
 
 need_made : (bytes : List ℕ) (group : Bool) (name rest : List ℕ) → Takes bytes (flag group ++ text name) rest → FitsText name
     → Takes bytes (need_bytes (need_of group name)) rest × IsNeed (need_of group name)
@@ -64,6 +68,28 @@ action_again a rest fits =
 
 an_action : IsField Action take_action action IsAction
 an_action = record { takes = action_takes; again = action_again }
+
+trigger_takes : (bytes : List ℕ) (x : Trigger × List ℕ) → IsBytes bytes → take_trigger bytes ≡ Ok x → Takes bytes (trigger_bytes x.0) x.1
+    × IsTrigger x.0
+unfolding take_trigger
+trigger_takes bytes x fits e =
+    step a_number _ bytes x fits e (λ action r1 t1 f1 e1.
+    step a_subtype _ r1 x t1.rest_fits e1 (λ subtype r2 t2 f2 e2.
+    let made : Trigger × List ℕ = (record { action = action; subtype = subtype }, r2) in
+    subst (λ (y : Trigger × List ℕ). Takes bytes (trigger_bytes y.0) y.1 × IsTrigger y.0) (ok_is made x e2)
+    (Takes-then bytes (number action) r1 subtype r2 t1 t2, (f1, f2))))
+
+trigger_again : (t : Trigger) (rest : List ℕ) → IsTrigger t → take_trigger (trigger_bytes t ++ rest) ≡ Ok (t, rest)
+unfolding take_trigger
+trigger_again t rest fits =
+    ap (λ (r : Item ℕ). r >>= λ action. take_subtype action.1 >>= λ subtype. Ok
+    (record { action = action.0; subtype = subtype.0 }, subtype.1))
+    (a_number.again t.action (t.subtype ++ rest) fits.0)
+    ∙ ap (λ (r : Item (List ℕ)). r >>= λ subtype. Ok (record { action = t.action; subtype = subtype.0 }, subtype.1))
+    (a_subtype.again t.subtype rest fits.1)
+
+a_trigger : IsField Trigger take_trigger trigger_bytes IsTrigger
+a_trigger = record { takes = trigger_takes; again = trigger_again }
 
 -- ## Lists
 
@@ -127,7 +153,10 @@ some_needs = are_items a_need
 some_actions : IsField (List Action) (take_counted take_action) (counted_items action) (AreItems IsAction)
 some_actions = are_items an_action
 
--- ## The three parts of a configuration
+some_triggers : IsField (List Trigger) (take_counted take_trigger) (counted_items trigger_bytes) (AreItems IsTrigger)
+some_triggers = are_items a_trigger
+
+-- ## The parts of a configuration
 
 abbrev pub front_text : Front → List ℕ
 front_text f = text f.name ++ text f.display ++ number f.kind ++ number f.start ++ number f.error ++ text f.path
@@ -291,6 +320,33 @@ back_again b rest fits =
 a_back : IsField Back take_back back_text IsBack
 a_back = record { takes = back_takes; again = back_again }
 
+abbrev pub end_text : End → List ℕ
+end_text e = flag e.delayed ++ counted_items trigger_bytes e.triggers
+
+pub record IsEnd (e : End) : Type 0 where
+  pub triggers : AreItems IsTrigger e.triggers
+
+end_takes : (bytes : List ℕ) (x : End × List ℕ) → IsBytes bytes → take_end bytes ≡ Ok x → Takes bytes (end_text x.0) x.1 × IsEnd x.0
+unfolding take_end
+end_takes bytes x fits e =
+    step a_flag _ bytes x fits e (λ delayed r1 t1 _ e1.
+    step some_triggers _ r1 x t1.rest_fits e1 (λ triggers r2 t2 f2 e2.
+    let made : End = record { delayed = delayed; triggers = triggers } in
+    subst (λ (y : End × List ℕ). Takes bytes (end_text y.0) y.1 × IsEnd y.0) (ok_is (made, r2) x e2)
+    (Takes-then bytes (flag delayed) r1 (counted_items trigger_bytes triggers) r2 t1 t2, record { triggers = f2 })))
+
+end_again : (e : End) (rest : List ℕ) → IsEnd e → take_end (end_text e ++ rest) ≡ Ok (e, rest)
+unfolding take_end
+end_again e rest fits =
+    let triggers = counted_items trigger_bytes e.triggers in
+    ap take_end (append_assoc (flag e.delayed) triggers rest) ∙ rw (
+      a_flag.again e.delayed (triggers ++ rest) tt,
+      some_triggers.again e.triggers rest fits.triggers,
+    ) refl
+
+an_end : IsField End take_end end_text IsEnd
+an_end = record { takes = end_takes; again = end_again }
+
 -- ## A configuration
 
 abbrev front_in : Config → Front
@@ -302,75 +358,151 @@ middle_in c = record { group = c.group; tag = c.tag; needs = c.needs; descriptio
 abbrev back_in : Config → Back
 back_in c = record { reset = c.reset; actions = c.actions; command = c.command; on_exit = c.on_exit }
 
-fits_of : (f : Front) (m : Middle) (b : Back) → IsFront f → IsMiddle m → IsBack b → IsConfig (config_of f m b)
+abbrev end_in : Config → End
+end_in c = record { delayed = c.delayed; triggers = c.triggers }
+
+fits_of : (f : Front) (m : Middle) (b : Back) → IsFront f → IsMiddle m → IsBack b → IsConfig_1 (config_from f m b)
 fits_of f m b x y z = (
   record { name = x.name; display = x.display; kind = x.kind; start = x.start; error = x.error; path = x.path },
   record { group = y.group; tag = y.tag; needs = y.needs; description = y.description },
   record { reset = z.reset; actions = z.actions; command = z.command },
 )
 
-front_fits : (c : Config) → IsConfig c → IsFront (front_in c)
+front_fits : (c : Config) → IsConfig_1 c → IsFront (front_in c)
 front_fits c h = record { name = h.0.name; display = h.0.display; kind = h.0.kind; start = h.0.start; error = h.0.error; path = h.0.path }
 
-middle_fits : (c : Config) → IsConfig c → IsMiddle (middle_in c)
+middle_fits : (c : Config) → IsConfig_1 c → IsMiddle (middle_in c)
 middle_fits c h = record { group = h.1.group; tag = h.1.tag; needs = h.1.needs; description = h.1.description }
 
-back_fits : (c : Config) → IsConfig c → IsBack (back_in c)
+back_fits : (c : Config) → IsConfig_1 c → IsBack (back_in c)
 back_fits c h = record { reset = h.2.reset; actions = h.2.actions; command = h.2.command }
 
-config_takes : (bytes : List ℕ) (x : Config × List ℕ) → IsBytes bytes → take_config bytes ≡ Ok x → Takes bytes (encoding x.0) x.1
-    × IsConfig x.0
-unfolding take_config
-config_takes bytes x fits e =
+-- what form 2 adds to form 1 leaves the rest as it is
+fits_more : (c : Config) (e : End) → IsConfig_1 c → IsEnd e → IsConfig (with_end c e)
+fits_more c e h last = (
+  record { name = h.0.name; display = h.0.display; kind = h.0.kind; start = h.0.start; error = h.0.error; path = h.0.path },
+  record { group = h.1.group; tag = h.1.tag; needs = h.1.needs; description = h.1.description },
+  record { reset = h.2.reset; actions = h.2.actions; command = h.2.command },
+  record { triggers = last.triggers },
+)
+
+pub fits_1 : (c : Config) → IsConfig c → IsConfig_1 c
+fits_1 c h = (h.0, h.1, h.2)
+
+-- a form of configurations: what is read is spelled so, and holds no more than that; what is spelled so is read
+record IsForm (read : List ℕ → Item Config) (spell : Config → List ℕ) (Fits : Config → Type 0) (hold : Config → Config) : Type 0 where
+  takes : (bytes : List ℕ) (x : Config × List ℕ) → IsBytes bytes → read bytes ≡ Ok x
+      → Takes bytes (spell x.0) x.1 × Fits x.0 × (hold x.0 ≡ x.0)
+  again : (c : Config) (rest : List ℕ) → Fits c → read (spell c ++ rest) ≡ Ok (hold c, rest)
+
+config_takes_1 : (bytes : List ℕ) (x : Config × List ℕ) → IsBytes bytes → take_config_1 bytes ≡ Ok x
+    → Takes bytes (encoding_1 x.0) x.1 × IsConfig_1 x.0 × (held x.0 ≡ x.0)
+unfolding take_config_1
+config_takes_1 bytes x fits e =
     step a_front _ bytes x fits e (λ f r1 t1 f1 e1.
     step a_middle _ r1 x t1.rest_fits e1 (λ m r2 t2 f2 e2.
     step a_back _ r2 x t2.rest_fits e2 (λ b r3 t3 f3 e3.
     let p2 = Takes-then bytes (front_text f) r1 (middle_text m) r2 t1 t2 in
     let p3 = Takes-then bytes (front_text f ++ middle_text m) r2 (back_text b) r3 p2 t3 in
-    subst (λ (y : Config × List ℕ). Takes bytes (encoding y.0) y.1 × IsConfig y.0) (ok_is (config_of f m b, r3) x e3)
-    (p3, fits_of f m b f1 f2 f3))))
+    subst (λ (y : Config × List ℕ). Takes bytes (encoding_1 y.0) y.1 × IsConfig_1 y.0 × (held y.0 ≡ y.0))
+    (ok_is (config_from f m b, r3) x e3) (p3, fits_of f m b f1 f2 f3, refl))))
 
-config_again : (c : Config) (rest : List ℕ) → IsConfig c → take_config (encoding c ++ rest) ≡ Ok (held c, rest)
-unfolding take_config
-config_again c rest fits =
+pub config_again_1 : (c : Config) (rest : List ℕ) → IsConfig_1 c → take_config_1 (encoding_1 c ++ rest) ≡ Ok (held c, rest)
+unfolding take_config_1
+config_again_1 c rest fits =
     let last = back c ++ rest in
     let r1 = middle c ++ last in
-    let regrouped : encoding c ++ rest ≡ front c ++ r1 = append_assoc (front c ++ middle c) (back c) rest
+    let regrouped : encoding_1 c ++ rest ≡ front c ++ r1 = append_assoc (front c ++ middle c) (back c) rest
     ∙ append_assoc (front c) (middle c) last in
-    ap take_config regrouped ∙ rw (
+    ap take_config_1 regrouped ∙ rw (
       a_front.again (front_in c) r1 (front_fits c fits),
       a_middle.again (middle_in c) last (middle_fits c fits),
       a_back.again (back_in c) rest (back_fits c fits),
     ) refl
 
+form_1 : IsForm take_config_1 encoding_1 IsConfig_1 held
+form_1 = record { takes = config_takes_1; again = config_again_1 }
+
+-- all of it is held
+abbrev all_held : Config → Config
+all_held c = c
+
+config_takes : (bytes : List ℕ) (x : Config × List ℕ) → IsBytes bytes → take_config bytes ≡ Ok x
+    → Takes bytes (encoding x.0) x.1 × IsConfig x.0 × (all_held x.0 ≡ x.0)
+unfolding take_config
+config_takes bytes x fits e =
+    let b = bind_ok (take_config_1 bytes) (λ config. take_end config.1 >>= λ last. Ok (with_end config.0 last.0, last.1)) x e in
+    let t = config_takes_1 bytes b.0 fits b.1 in
+    step an_end _ b.0.1 x t.0.rest_fits b.2 (λ last r2 t2 f2 e2.
+    subst (λ (y : Config × List ℕ). Takes bytes (encoding y.0) y.1 × IsConfig y.0 × (all_held y.0 ≡ y.0))
+    (ok_is (with_end b.0.0 last, r2) x e2)
+    (Takes-then bytes (encoding_1 b.0.0) b.0.1 (end_text last) r2 t.0 t2, fits_more b.0.0 last t.1 f2, refl))
+
+config_again : (c : Config) (rest : List ℕ) → IsConfig c → take_config (encoding c ++ rest) ≡ Ok (c, rest)
+unfolding take_config
+config_again c rest fits =
+    ap take_config (append_assoc (encoding_1 c) (end c) rest) ∙ rw (
+      config_again_1 c (end c ++ rest) (fits_1 c fits),
+      an_end.again (end_in c) rest (record { triggers = fits.3.triggers }),
+    ) refl
+
+form_2 : IsForm take_config encoding IsConfig all_held
+form_2 = record { takes = config_takes; again = config_again }
+
+-- ## All of the bytes
+
 guard_ended : {A : Type 0} (b : Bool) (d : ℕ) (x y : A) → cond b (Ok x) (Err d) ≡ Ok y → (b ≡ true) × (x ≡ y)
 guard_ended true d x y e = (refl, cc)
 guard_ended false d x y e = absurd cc
 
-whole_takes : (bytes : List ℕ) (c : Config) → IsBytes bytes → whole_of bytes ≡ Ok c → IsConfig c × (bytes ≡ encoding c)
-unfolding whole_of
-whole_takes bytes c fits e =
-    let a = bind_ok (take_config bytes) (λ x. cond (length x.1 == 0) (Ok x.0) (Err (length x.1))) c e in
-    let g = guard_ended (length a.0.1 == 0) (length a.0.1) a.0.0 c a.2 in
-    let t = config_takes bytes a.0 fits a.1 in
-    let nothing : a.0.1 ≡ [] = nil_from_length a.0.1 (eqb-true _ _ g.0) in
-    let whole : bytes ≡ encoding a.0.0 = t.0.parts ∙ ap (λ (r : List ℕ). encoding a.0.0 ++ r) nothing ∙ append-nil (encoding a.0.0) in
-    subst (λ (d : Config). IsConfig d × (bytes ≡ encoding d)) g.1 (t.1, whole)
+abbrev ended : {A : Type 0} → A × List ℕ → Result A ℕ
+ended {A} x = cond {A = Result A ℕ} (length x.1 == 0) (Ok x.0) (Err (length x.1))
 
-pub record_again : (c : Config) → IsConfig c → record_of (encoding c) ≡ Ok (held c)
-unfolding whole_of
-record_again c fits =
-    let e : take_config (encoding c) ≡ Ok (held c, []) = ap take_config (sym (append-nil (encoding c))) ∙ config_again c [] fits in
-    ap (λ (r : Item Config). placed (length (encoding c)) (r >>= λ x. cond (length x.1 == 0) (Ok x.0) (Err (length x.1)))) e
+whole_takes : {read : List ℕ → Item Config} {spell : Config → List ℕ} {Fits : Config → Type 0} {hold : Config → Config}
+    → IsForm read spell Fits hold → (bytes : List ℕ) (c : Config) → IsBytes bytes → all_of read bytes ≡ Ok c
+    → Fits c × (hold c ≡ c) × (bytes ≡ spell c)
+whole_takes {read} {spell} {Fits} {hold} form bytes c fits e =
+    let a = bind_ok (read bytes) ended c e in
+    let g = guard_ended (length a.0.1 == 0) (length a.0.1) a.0.0 c a.2 in
+    let t = form.takes bytes a.0 fits a.1 in
+    let nothing : a.0.1 ≡ [] = nil_from_length a.0.1 (eqb-true _ _ g.0) in
+    let whole : bytes ≡ spell a.0.0 = t.0.parts ∙ ap (λ (r : List ℕ). spell a.0.0 ++ r) nothing ∙ append-nil (spell a.0.0) in
+    subst (λ (d : Config). Fits d × (hold d ≡ d) × (bytes ≡ spell d)) g.1 (t.1, t.2, whole)
+
+whole_again : {read : List ℕ → Item Config} {spell : Config → List ℕ} {Fits : Config → Type 0} {hold : Config → Config}
+    → IsForm read spell Fits hold → (c : Config) → Fits c → placed (length (spell c)) (all_of read (spell c)) ≡ Ok (hold c)
+whole_again {read} {spell} {Fits} {hold} form c fits =
+    let e : read (spell c) ≡ Ok (hold c, []) = ap read (sym (append-nil (spell c))) ∙ form.again c [] fits in
+    ap (λ (r : Item Config). placed (length (spell c)) (r >>= ended)) e
 
 placed_ok : {A : Type 0} (size : ℕ) (r : Result A ℕ) (x : A) → placed size r ≡ Ok x → r ≡ Ok x
 placed_ok size (Ok y) x e = cc
 placed_ok size (Err left) x e = absurd cc
 
-pub is_found : (bytes : List ℕ) (r : Result Config RecordFault) → IsBytes bytes → Tells r (record_of bytes)
-    → IfOk r (λ c. IsConfig c × (bytes ≡ encoding c))
-is_found bytes (Ok c) fits told = whole_takes bytes c fits (placed_ok (length bytes) (whole_of bytes) c told)
+pub record_again_1 : (c : Config) → IsConfig_1 c → record_of_1 (encoding_1 c) ≡ Ok (held c)
+unfolding whole_of_1
+record_again_1 c fits = whole_again form_1 c fits
+
+pub record_again : (c : Config) → IsConfig c → record_of (encoding c) ≡ Ok c
+unfolding whole_of
+record_again c fits = whole_again form_2 c fits
+
+abbrev pub IsFound_1 : List ℕ → Config → Type 0
+IsFound_1 bytes c = IsConfig_1 c × (held c ≡ c) × (bytes ≡ encoding_1 c)
+
+abbrev pub IsFound : List ℕ → Config → Type 0
+IsFound bytes c = IsConfig c × (bytes ≡ encoding c)
+
+pub is_found_1 : (bytes : List ℕ) (r : Result Config RecordFault) → IsBytes bytes → Tells r (record_of_1 bytes) → IfOk r (IsFound_1 bytes)
+unfolding whole_of_1
+is_found_1 bytes (Ok c) fits told = whole_takes form_1 bytes c fits (placed_ok (length bytes) (whole_of_1 bytes) c told)
+is_found_1 bytes (Err e) fits told = tt
+
+pub is_found : (bytes : List ℕ) (r : Result Config RecordFault) → IsBytes bytes → Tells r (record_of bytes) → IfOk r (IsFound bytes)
+unfolding whole_of
+is_found bytes (Ok c) fits told =
+    let w = whole_takes form_2 bytes c fits (placed_ok (length bytes) (whole_of bytes) c told) in (w.0, w.2)
 is_found bytes (Err e) fits told = tt
 
-pub read_back : (c : Config) (bytes : List ℕ) → IsConfig c → bytes ≡ encoding c → record_of bytes ≡ Ok (held c)
+pub read_back : (c : Config) (bytes : List ℕ) → IsConfig c → bytes ≡ encoding c → record_of bytes ≡ Ok c
 read_back c bytes fits e = ap record_of e ∙ record_again c fits

@@ -8,9 +8,11 @@ use Rattle.scm_model.specs.declared.flat.Action.{Action}
 use Rattle.scm_model.specs.declared.flat.Config.{Config}
 use Rattle.scm_model.specs.declared.flat.Need.{Need}
 use Rattle.scm_model.specs.declared.flat.Need.TheVariants as needs
+use Rattle.scm_model.specs.declared.flat.Trigger.{Trigger}
 use Rattle.service_record.specs.declared.reading.Front.{Front}
 use Rattle.service_record.specs.declared.reading.Middle.{Middle}
 use Rattle.service_record.specs.declared.reading.Back.{Back}
+use Rattle.service_record.specs.declared.reading.End.{End}
 use Rattle.service_record.specs.declared.reading.Stop.{Stop}
 use Rattle.service_record.specs.declared.reading.Stop.TheVariants as stops
 use Rattle.service_record.specs.declared.reading.RecordFault.{RecordFault}
@@ -67,6 +69,16 @@ take_action bytes = do
   delay ← take_number what.1
   Ok (record { what = what.0; delay = delay.0 }, delay.1)
 
+-- 16 bytes as they stand
+abbrev pub take_subtype : List ℕ → Item (List ℕ)
+take_subtype bytes = if nat_lt (length bytes) 16 then Err (length bytes) else Ok (take 16 bytes, drop 16 bytes)
+
+unfoldable pub take_trigger : List ℕ → Item Trigger
+take_trigger bytes = do
+  action ← take_number bytes
+  subtype ← take_subtype action.1
+  Ok (record { action = action.0; subtype = subtype.0 }, subtype.1)
+
 -- so many items one after the other
 unfoldable pub take_items : {A : Type 0} → (List ℕ → Item A) → ℕ → List ℕ → Item (List A)
 take_items item zero bytes = Ok ([], bytes)
@@ -107,9 +119,15 @@ take_back bytes = do
   on_exit ← take_flag command.1
   Ok (record { reset = reset.0; actions = actions.0; command = command.0; on_exit = on_exit.0 }, on_exit.1)
 
--- a delayed start and triggers aren't held
-abbrev pub config_of : Front → Middle → Back → Config
-config_of front middle back = record {
+unfoldable pub take_end : List ℕ → Item End
+take_end bytes = do
+  delayed ← take_flag bytes
+  triggers ← take_counted take_trigger delayed.1
+  Ok (record { delayed = delayed.0; triggers = triggers.0 }, triggers.1)
+
+-- without a delayed start and without triggers
+abbrev pub config_from : Front → Middle → Back → Config
+config_from front middle back = record {
   name = front.name;
   display = front.display;
   kind = front.kind;
@@ -128,25 +146,46 @@ config_of front middle back = record {
   triggers = [];
 }
 
-unfoldable pub take_config : List ℕ → Item Config
-take_config bytes = do
+abbrev pub with_end : Config → End → Config
+with_end config last = record config { delayed = last.delayed; triggers = last.triggers }
+
+-- form 1
+unfoldable pub take_config_1 : List ℕ → Item Config
+take_config_1 bytes = do
   front ← take_front bytes
   middle ← take_middle front.1
   back ← take_back middle.1
-  Ok (config_of front.0 middle.0 back.0, back.1)
+  Ok (config_from front.0 middle.0 back.0, back.1)
 
--- all of the bytes
+-- form 2: form 1, and after it what form 1 doesn't hold
+unfoldable pub take_config : List ℕ → Item Config
+take_config bytes = do
+  config ← take_config_1 bytes
+  last ← take_end config.1
+  Ok (with_end config.0 last.0, last.1)
+
+-- an item that is all of the bytes
+abbrev pub all_of : {A : Type 0} → (List ℕ → Item A) → List ℕ → Result A ℕ
+all_of item bytes = do
+  x ← item bytes
+  if length x.1 == 0 then Ok x.0 else Err (length x.1)
+
+unfoldable pub whole_of_1 : List ℕ → Result Config ℕ
+whole_of_1 bytes = all_of take_config_1 bytes
+
 unfoldable pub whole_of : List ℕ → Result Config ℕ
-whole_of bytes = do
-  config ← take_config bytes
-  if length config.1 == 0 then Ok config.0 else Err (length config.1)
+whole_of bytes = all_of take_config bytes
 
 -- the place of the first item that fails
 abbrev pub placed : {A : Type 0} → ℕ → Result A ℕ → Result A ℕ
 placed size (Ok x) = Ok x
 placed size (Err left) = Err (size - left)
 
--- the configuration that the bytes are, or the place of the first item that fails
+-- the configuration that the bytes are in form 1, or the place of the first item that fails
+abbrev pub record_of_1 : List ℕ → Result Config ℕ
+record_of_1 bytes = placed (length bytes) (whole_of_1 bytes)
+
+-- the same in form 2
 abbrev pub record_of : List ℕ → Result Config ℕ
 record_of bytes = placed (length bytes) (whole_of bytes)
 

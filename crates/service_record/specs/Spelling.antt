@@ -1,11 +1,12 @@
 -- The bytes of a configuration.
-use Rattle.std.specs.Prelude.{All, ℕ, ◌<◌, ◌^◌, Bool, true, false, List, [], ◌∷◌, ◌++◌, length}
+use Rattle.std.specs.Prelude.{All, ℕ, ◌≡◌, ◌<◌, ◌^◌, Bool, true, false, List, [], ◌∷◌, ◌++◌, length}
 use Rattle.std.specs.List.{flat_map}
 use Rattle.std.specs.Int.{w16, w32, to_le_bytes}
 use Rattle.scm_model.specs.declared.flat.Action.{Action}
 use Rattle.scm_model.specs.declared.flat.Config.{Config}
 use Rattle.scm_model.specs.declared.flat.Need.{Need}
 use Rattle.scm_model.specs.declared.flat.Need.TheVariants as needs
+use Rattle.scm_model.specs.declared.flat.Trigger.{Trigger}
 
 abbrev pub number : ℕ → List ℕ
 number n = to_le_bytes w32 n
@@ -40,11 +41,23 @@ middle config = text config.group ++ number config.tag ++ counted_items need_byt
 abbrev pub back : Config → List ℕ
 back config = number config.reset ++ counted_items action config.actions ++ text config.command ++ flag config.on_exit
 
--- the bytes of a configuration; a delayed start and triggers aren't held
-abbrev pub encoding : Config → List ℕ
-encoding config = front config ++ middle config ++ back config
+-- the action, and the 16 bytes of the subtype
+abbrev pub trigger_bytes : Trigger → List ℕ
+trigger_bytes trigger = number trigger.action ++ trigger.subtype
 
--- ## What has a encoding
+-- whether the start is delayed, and the triggers
+abbrev pub end : Config → List ℕ
+end config = flag config.delayed ++ counted_items trigger_bytes config.triggers
+
+-- the bytes of a configuration in form 1, which holds no delayed start and no triggers
+abbrev pub encoding_1 : Config → List ℕ
+encoding_1 config = front config ++ middle config ++ back config
+
+-- the bytes of a configuration in form 2, which holds all of it
+abbrev pub encoding : Config → List ℕ
+encoding config = encoding_1 config ++ end config
+
+-- ## What has an encoding
 
 abbrev pub FitsNumber : ℕ → Type 0
 FitsNumber n = n < 2 ^ 32
@@ -61,6 +74,12 @@ IsNeed (needs.Group name) = FitsText name
 
 abbrev pub IsAction : Action → Type 0
 IsAction a = FitsNumber a.what × FitsNumber a.delay
+
+abbrev pub IsSubtype : List ℕ → Type 0
+IsSubtype subtype = length subtype ≡ 16
+
+abbrev pub IsTrigger : Trigger → Type 0
+IsTrigger trigger = FitsNumber trigger.action × IsSubtype trigger.subtype
 
 abbrev pub AreItems : {A : Type 0} → (A → Type 0) → List A → Type 0
 AreItems Is items = FitsNumber (length items) × All Is items
@@ -84,10 +103,17 @@ pub record FitsBack (config : Config) : Type 0 where
   pub actions : AreItems IsAction config.actions
   pub command : FitsText config.command
 
+pub record FitsEnd (config : Config) : Type 0 where
+  pub triggers : AreItems IsTrigger config.triggers
+
+-- what form 1 holds has its bytes
+abbrev pub IsConfig_1 : Config → Type 0
+IsConfig_1 config = FitsFront config × FitsMiddle config × FitsBack config
+
 -- each number and each text is one, as every value of the type is whose lists are shorter than 2 ^ 32
 abbrev pub IsConfig : Config → Type 0
-IsConfig config = FitsFront config × FitsMiddle config × FitsBack config
+IsConfig config = FitsFront config × FitsMiddle config × FitsBack config × FitsEnd config
 
--- what is held of a configuration
+-- what form 1 holds of a configuration
 abbrev pub held : Config → Config
 held config = record config { delayed = false; triggers = [] }

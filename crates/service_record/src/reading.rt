@@ -1,16 +1,19 @@
-ghost use Rattle.std.specs.Prelude.{◌≡◌, IfOk, Ok};
+ghost use Rattle.std.specs.Prelude.{◌≡◌, IfOk, Ok, Result, ℕ};
 ghost use Rattle.scm_model.specs.declared.flat.Config.{Config};
-ghost use Rattle.service_record.specs.Reading.{Yields, Tells, take_action, take_back, config_of};
-ghost use Rattle.service_record.specs.Reading.{take_counted, take_flag, take_front, take_items};
-ghost use Rattle.service_record.specs.Reading.{take_middle, take_need, take_number, record_of};
-ghost use Rattle.service_record.specs.Reading.{take_text, whole_of};
-ghost use Rattle.service_record.specs.Spelling.{IsConfig, held, encoding};
+ghost use Rattle.service_record.specs.Reading.{Yields, Tells, config_from, placed, record_of};
+ghost use Rattle.service_record.specs.Reading.{record_of_1, take_action, take_back, take_config};
+ghost use Rattle.service_record.specs.Reading.{take_config_1, take_counted, take_end, take_flag};
+ghost use Rattle.service_record.specs.Reading.{take_front, take_items, take_middle, take_need};
+ghost use Rattle.service_record.specs.Reading.{take_number, take_subtype, take_text, take_trigger};
+ghost use Rattle.service_record.specs.Reading.{whole_of, whole_of_1, with_end};
+ghost use Rattle.service_record.specs.Spelling.{IsConfig, IsConfig_1, encoding, encoding_1, held};
 ghost use Rattle.service_record.specs.declared.reading.Stop.TheVariants as stops;
 
 use ndr_body::{has_zero, units_of};
-use scm_model::{Action, Config, Need};
+use scm_model::{Action, Config, Need, Trigger};
 use scm_text::{Items, WText};
 use std::alloc::{AllocError, AllocFailed, Global};
+use std::mem::replace;
 use thiserror::Error;
 
 /// Why bytes are no configuration.
@@ -109,6 +112,28 @@ fn action_of(bytes: &[u8]) -> Result<(Action, &[u8]), Stop>
     Ok((Action { what, delay }, rest))
 }
 
+/// The 16 bytes of a subtype.
+fn subtype_of(bytes: &[u8]) -> Result<([u8; 16], &[u8]), Stop>
+    ensures { Yields (λ x. (x.0, x.1.now)) result (take_subtype bytes.now) }
+{
+    if bytes.len() < 16 {
+        return Err(Stop::Left(bytes.len()));
+    }
+    let (front, rest) = bytes.split_at(16);
+    let mut subtype = [0; 16];
+    subtype.copy_from_slice(front);
+    Ok((subtype, rest))
+}
+
+#[tactic(auto, unfolding(crate::specs::Reading::take_trigger))]
+fn trigger_of(bytes: &[u8]) -> Result<(Trigger, &[u8]), Stop>
+    ensures { Yields (λ x. (x.0, x.1.now)) result (take_trigger bytes.now) }
+{
+    let (action, rest) = number_of(bytes)?;
+    let (subtype, rest) = subtype_of(rest)?;
+    Ok((Trigger { action, subtype }, rest))
+}
+
 fn needs_of(alloc: Global, count: u32, bytes: &[u8]) -> Result<(Vec<Need>, &[u8]), Stop>
     ensures { Yields (λ x. (x.0.items, x.1.now)) result (take_items take_need count bytes.now) }
 {
@@ -135,6 +160,19 @@ fn actions_of(alloc: Global, count: u32, bytes: &[u8]) -> Result<(Vec<Action>, &
     Ok((actions, rest))
 }
 
+fn triggers_of(alloc: Global, count: u32, bytes: &[u8]) -> Result<(Vec<Trigger>, &[u8]), Stop>
+    ensures { Yields (λ x. (x.0.items, x.1.now)) result (take_items take_trigger count bytes.now) }
+{
+    let mut triggers = Vec::new(alloc);
+    let mut rest = bytes;
+    for _ in 0..count {
+        let (trigger, after) = trigger_of(rest)?;
+        triggers.push(trigger)?;
+        rest = after;
+    }
+    Ok((triggers, rest))
+}
+
 #[tactic(auto, unfolding(crate::specs::Reading::take_counted))]
 fn counted_needs(alloc: Global, bytes: &[u8]) -> Result<(Items<Need>, &[u8]), Stop>
     ensures { Yields (λ x. (x.0, x.1.now)) result (take_counted take_need bytes.now) }
@@ -151,6 +189,15 @@ fn counted_actions(alloc: Global, bytes: &[u8]) -> Result<(Items<Action>, &[u8])
     let (count, rest) = number_of(bytes)?;
     let (actions, rest) = actions_of(alloc, count, rest)?;
     Ok((Items::from_vec(actions), rest))
+}
+
+#[tactic(auto, unfolding(crate::specs::Reading::take_counted))]
+fn counted_triggers(alloc: Global, bytes: &[u8]) -> Result<(Items<Trigger>, &[u8]), Stop>
+    ensures { Yields (λ x. (x.0, x.1.now)) result (take_counted take_trigger bytes.now) }
+{
+    let (count, rest) = number_of(bytes)?;
+    let (triggers, rest) = triggers_of(alloc, count, rest)?;
+    Ok((Items::from_vec(triggers), rest))
 }
 
 /// A configuration up to its path.
@@ -238,7 +285,7 @@ fn back_of(alloc: Global, bytes: &[u8]) -> Result<(Back, &[u8]), Stop>
 }
 
 fn config_from(alloc: Global, front: Front, middle: Middle, back: Back) -> Config
-    ensures { result ≡ config_of front middle back }
+    ensures { result ≡ config_from front middle back }
 {
     Config {
         name: front.name,
@@ -260,32 +307,101 @@ fn config_from(alloc: Global, front: Front, middle: Middle, back: Back) -> Confi
     }
 }
 
-#[tactic(auto, unfolding(crate::specs::Reading::take_config, crate::specs::Reading::whole_of))]
-fn whole_of(alloc: Global, bytes: &[u8]) -> Result<Config, Stop>
-    ensures { Yields (λ config. config) result (whole_of bytes.now) }
+/// What a configuration has that form 1 doesn't hold.
+#[derive(Drop)]
+struct End {
+    delayed: bool,
+    triggers: Items<Trigger>,
+}
+
+#[tactic(auto, unfolding(crate::specs::Reading::take_end))]
+fn end_of(alloc: Global, bytes: &[u8]) -> Result<(End, &[u8]), Stop>
+    ensures { Yields (λ x. (x.0, x.1.now)) result (take_end bytes.now) }
+{
+    let (delayed, rest) = flag_of(bytes)?;
+    let (triggers, rest) = counted_triggers(alloc, rest)?;
+    Ok((End { delayed, triggers }, rest))
+}
+
+fn with_end(mut config: Config, end: End) -> Config
+    ensures { result ≡ with_end config end }
+{
+    config.delayed = end.delayed;
+    drop(replace(&mut config.triggers, end.triggers));
+    config
+}
+
+/// A configuration of form 1 at the front.
+#[tactic(auto, unfolding(crate::specs::Reading::take_config_1))]
+fn config_of_1(alloc: Global, bytes: &[u8]) -> Result<(Config, &[u8]), Stop>
+    ensures { Yields (λ x. (x.0, x.1.now)) result (take_config_1 bytes.now) }
 {
     let (front, rest) = front_of(alloc, bytes)?;
     let (middle, rest) = middle_of(alloc, rest)?;
     let (back, rest) = back_of(alloc, rest)?;
+    Ok((config_from(alloc, front, middle, back), rest))
+}
+
+/// A configuration of form 2 at the front.
+#[tactic(auto, unfolding(crate::specs::Reading::take_config))]
+fn config_of(alloc: Global, bytes: &[u8]) -> Result<(Config, &[u8]), Stop>
+    ensures { Yields (λ x. (x.0, x.1.now)) result (take_config bytes.now) }
+{
+    let (config, rest) = config_of_1(alloc, bytes)?;
+    let (end, rest) = end_of(alloc, rest)?;
+    Ok((with_end(config, end), rest))
+}
+
+#[tactic(auto, unfolding(crate::specs::Reading::whole_of_1))]
+fn whole_of_1(alloc: Global, bytes: &[u8]) -> Result<Config, Stop>
+    ensures { Yields (λ config. config) result (whole_of_1 bytes.now) }
+{
+    let (config, rest) = config_of_1(alloc, bytes)?;
     if !rest.is_empty() {
         return Err(Stop::Left(rest.len()));
     }
-    Ok(config_from(alloc, front, middle, back))
+    Ok(config)
 }
 
-/// The configuration that the bytes are, all of them.
-fn record_of(alloc: Global, bytes: &[u8]) -> Result<Config, RecordFault>
-    ensures { Tells result (record_of bytes.now) }
+#[tactic(auto, unfolding(crate::specs::Reading::whole_of))]
+fn whole_of(alloc: Global, bytes: &[u8]) -> Result<Config, Stop>
+    ensures { Yields (λ config. config) result (whole_of bytes.now) }
 {
-    match whole_of(alloc, bytes) {
+    let (config, rest) = config_of(alloc, bytes)?;
+    if !rest.is_empty() {
+        return Err(Stop::Left(rest.len()));
+    }
+    Ok(config)
+}
+
+/// What was read of so many bytes, with the place of the item that is wrong.
+fn placed(size: usize, whole: Result<Config, Stop>) -> Result<Config, RecordFault>
+    ensures { (read : Result Config ℕ) → Yields (λ config. config) whole read
+        → Tells result (placed size read) }
+{
+    match whole {
         Ok(config) => Ok(config),
-        Err(Stop::Left(left)) => Err(RecordFault::Bad(bytes.len().saturating_sub(left))),
+        Err(Stop::Left(left)) => Err(RecordFault::Bad(size.saturating_sub(left))),
         Err(Stop::OutOfMemory) => Err(RecordFault::OutOfMemory),
     }
 }
 
-/// Reads the bytes of a configuration, all of them; the start isn't delayed and there are no
-/// triggers, since neither is held.
+/// Reads the bytes of a configuration in form 1, all of them; the start isn't delayed and there are
+/// no triggers, since form 1 holds neither. `Bad` comes as in `read_record`.
+pub fn read_record_1(alloc: Global, bytes: &[u8]) -> Result<Config, RecordFault>
+    // What is read has these bytes, and nothing that they don't hold.
+    ensures found { IfOk result (λ config.
+        IsConfig_1 config × (held config ≡ config) × (bytes.now ≡ encoding_1 config)) }
+    // Of what has these bytes that is read which they hold, unless memory runs out.
+    ensures only { (config : Config) → IsConfig_1 config → bytes.now ≡ encoding_1 config
+        → Tells result (Ok (held config)) }
+    // Which place it is.
+    ensures place { Tells result (record_of_1 bytes.now) }
+{
+    placed(bytes.len(), whole_of_1(alloc, bytes))
+}
+
+/// Reads the bytes of a configuration in form 2, all of them.
 /// `Bad` comes exactly where no configuration has these bytes: none of its rules is asked for, but
 /// a text has no unit that is 0.
 pub fn read_record(alloc: Global, bytes: &[u8]) -> Result<Config, RecordFault>
@@ -293,9 +409,9 @@ pub fn read_record(alloc: Global, bytes: &[u8]) -> Result<Config, RecordFault>
     ensures found { IfOk result (λ config. IsConfig config × (bytes.now ≡ encoding config)) }
     // What has these bytes is read, unless memory runs out.
     ensures only { (config : Config) → IsConfig config → bytes.now ≡ encoding config
-        → Tells result (Ok (held config)) }
+        → Tells result (Ok config) }
     // Which place it is.
     ensures place { Tells result (record_of bytes.now) }
 {
-    record_of(alloc, bytes)
+    placed(bytes.len(), whole_of(alloc, bytes))
 }

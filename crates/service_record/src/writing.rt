@@ -2,12 +2,13 @@ ghost use Rattle.std.specs.Prelude.{◌≡◌, ◌++◌, ◌<◌, ◌^◌, All, 
 ghost use Rattle.std.specs.Int.{w16, to_le_bytes};
 ghost use Rattle.std.specs.List.{flat_map};
 ghost use Rattle.service_record.specs.Reading.{record_of};
-ghost use Rattle.service_record.specs.Spelling.{AreItems, IsAction, FitsBack, FitsFront, FitsMiddle};
-ghost use Rattle.service_record.specs.Spelling.{IsConfig, IsNeed, FitsNumber, FitsText, IsUnit};
-ghost use Rattle.service_record.specs.Spelling.{action, back, counted_items, flag, front, held};
-ghost use Rattle.service_record.specs.Spelling.{middle, need_bytes, number, encoding, text};
+ghost use Rattle.service_record.specs.Spelling.{AreItems, IsAction, FitsBack, FitsEnd, FitsFront};
+ghost use Rattle.service_record.specs.Spelling.{FitsMiddle, IsConfig, IsNeed, IsTrigger, FitsNumber};
+ghost use Rattle.service_record.specs.Spelling.{FitsText, IsUnit, action, back, counted_items, end};
+ghost use Rattle.service_record.specs.Spelling.{flag, front, middle, need_bytes, number, encoding};
+ghost use Rattle.service_record.specs.Spelling.{text, trigger_bytes};
 
-use scm_model::{Action, Config, Need};
+use scm_model::{Action, Config, Need, Trigger};
 use scm_text::{Items, OutOfMemory, WText};
 use std::alloc::Global;
 
@@ -118,6 +119,32 @@ fn put_actions(out: &mut Items<u8>, actions: &[Action]) -> Result<(), OutOfMemor
     put_each_action(out, actions)
 }
 
+fn put_trigger(out: &mut Items<u8>, value: &Trigger) -> Result<(), OutOfMemory>
+    ensures bytes { OnOk result (out.new ≡ out.old ++ trigger_bytes value.now) }
+    ensures fits { OnOk result (IsTrigger value.now) }
+{
+    put_number(out, value.action)?;
+    out.append(&value.subtype)
+}
+
+fn put_each_trigger(out: &mut Items<u8>, triggers: &[Trigger]) -> Result<(), OutOfMemory>
+    ensures bytes { OnOk result (out.new ≡ out.old ++ flat_map trigger_bytes triggers.now) }
+    ensures fits { OnOk result (All IsTrigger triggers.now) }
+{
+    for value in triggers {
+        put_trigger(out, value)?;
+    }
+    Ok(())
+}
+
+fn put_triggers(out: &mut Items<u8>, triggers: &[Trigger]) -> Result<(), OutOfMemory>
+    ensures bytes { OnOk result (out.new ≡ out.old ++ counted_items trigger_bytes triggers.now) }
+    ensures fits { OnOk result (AreItems IsTrigger triggers.now) }
+{
+    put_count(out, triggers.len())?;
+    put_each_trigger(out, triggers)
+}
+
 fn put_front(out: &mut Items<u8>, config: &Config) -> Result<(), OutOfMemory>
     ensures bytes { OnOk result (out.new ≡ out.old ++ front config.now) }
     ensures fits { OnOk result (FitsFront config.now) }
@@ -150,19 +177,29 @@ fn put_back(out: &mut Items<u8>, config: &Config) -> Result<(), OutOfMemory>
     put_flag(out, config.on_exit)
 }
 
-/// The bytes of a configuration, as the journal keeps them: name, display name, type, start, error
-/// control, path, group, tag, needs, description, reset period, actions, command, and whether a
-/// stop with an error is a failure. Numbers are of four bytes, the lowest first, a text is a count
-/// of units and these, a list a count and its items. A delayed start and triggers aren't held.
+fn put_end(out: &mut Items<u8>, config: &Config) -> Result<(), OutOfMemory>
+    ensures bytes { OnOk result (out.new ≡ out.old ++ end config.now) }
+    ensures fits { OnOk result (FitsEnd config.now) }
+{
+    put_flag(out, config.delayed)?;
+    put_triggers(out, config.triggers.as_slice())
+}
+
+/// The bytes of a configuration in form 2, as a journal keeps them: name, display name, type,
+/// start, error control, path, group, tag, needs, description, reset period, actions, command,
+/// whether a stop with an error is a failure, whether the start is delayed, and triggers. Numbers
+/// are of four bytes, the lowest first, a text is a count of units and these, a list a count and
+/// its items. A trigger is its action and the 16 bytes of its subtype.
 pub fn record_bytes(alloc: Global, config: &Config) -> Result<Items<u8>, OutOfMemory>
     ensures bytes { IfOk result (λ bytes. bytes ≡ encoding config.now) }
     ensures fits { IsOk result → IsConfig config.now }
     // What is written is read back.
-    ensures read_back { IfOk result (λ bytes. record_of bytes ≡ Ok (held config.now)) }
+    ensures read_back { IfOk result (λ bytes. record_of bytes ≡ Ok config.now) }
 {
     let mut out = Items::new(alloc);
     put_front(&mut out, config)?;
     put_middle(&mut out, config)?;
     put_back(&mut out, config)?;
+    put_end(&mut out, config)?;
     Ok(out)
 }
