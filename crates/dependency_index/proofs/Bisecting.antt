@@ -1,7 +1,7 @@
 -- Rows in order of number: where the one with a number stands.
 use Rattle.std.proofs.Common.{ℕ, ◌≡◌, ◌≢◌, ◌<◌, ◌≤◌, ◌∙◌, inl, inr, zero, suc, true, false, ◌||◌, List, [], ◌∷◌, Option, None, Some, Result}
 use Rattle.std.proofs.Common.{Ok, Err, cond, eqb, find, refl, ap, sym, subst, length, get_or, arith, eq-eqb}
-use Rattle.std.specs.Prelude.{IfSome, IfNone, is_some, slice_get}
+use Rattle.std.specs.Prelude.{IfSome, IfNone, is_some, remove, slice_get}
 use Rattle.std.specs.List.{AllByRecursion}
 use Rattle.std.specs.List.Sorted.{IsSearchInRange, IsBinarySearchResult, IsNonDecreasingBy}
 use Rattle.std.specs.Ordering.{nat_cmp, ordering_index}
@@ -13,7 +13,7 @@ use Rattle.std.proofs.lemmas.Option.{slice_get-get_or}
 use Rattle.scm_model.specs.declared.flat.NeedRow.{NeedRow}
 use Rattle.scm_model.specs.Needs.{numbers_of}
 use Rattle.row_slab.specs.Rowed.{AreRisingBy}
-use Rattle.dependency_index.specs.Kept.{key_of, is_row}
+use Rattle.dependency_index.specs.Kept.{key_of, is_row, without_row}
 use Rattle.scm_text.specs.Numbers.{has}
 
 all_at : (P : NeedRow → Type 0) (rows : List NeedRow) (k : ℕ) (d : NeedRow) → AllByRecursion P rows → k < length rows → P (get_or rows k d)
@@ -113,3 +113,23 @@ pub listed_is : (rows : List NeedRow) (n : ℕ) (place : Option ℕ) → IfSome 
     → IfNone place (has (numbers_of rows) n ≡ false) → is_some place ≡ has (numbers_of rows) n
 listed_is rows n (Some i) within found none = sym (has_at rows i n (slice_get rows i) refl found within)
 listed_is rows n None within found none = sym none
+
+-- ## The row with a number goes
+
+-- rows of greater numbers stay
+greater_stay : (rows : List NeedRow) (n : ℕ) → AllByRecursion (λ (row : NeedRow). n < row.number) rows → rows ≡ without_row rows n
+greater_stay [] n greater = refl
+greater_stay (row ∷ rows) n greater = rw (ne_eqb row.number n (omega (arith, greater.0)))
+    (ap (λ (rest : List NeedRow). row ∷ rest) (greater_stay rows n greater.1))
+
+-- what is left without the one at a place are the rows of other numbers
+pub one_gone : (rows : List NeedRow) (i n : ℕ) → AreRisingBy key_of rows → i < length rows
+    → IfSome (slice_get rows i) (λ (row : NeedRow). row.number ≡ n) → remove rows i ≡ without_row rows n
+one_gone [] i n rising lt is = absurd (omega arith)
+one_gone (row ∷ rows) zero n rising lt is = rw (eq-eqb row.number n is) (greater_stay rows n
+    (subst (λ (k : ℕ). AllByRecursion (λ (other : NeedRow). k < other.number) rows) is rising.0))
+one_gone (row ∷ rows) (suc i) n rising lt is =
+    let less = rises (row ∷ rows) 0 (suc i) row rising (omega arith) lt in
+    let found = number_at (row ∷ rows) n (suc i) row lt is in
+    rw (ne_eqb row.number n (omega (arith, less, found))) (ap (λ (rest : List NeedRow). row ∷ rest)
+    (one_gone rows i n rising.1 (omega arith) is))

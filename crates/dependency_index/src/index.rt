@@ -68,11 +68,14 @@ fn put(rows: &mut Vec<NeedRow>, row: NeedRow)
 
 /// Takes a service's row out.
 fn take_out(rows: &mut Vec<NeedRow>, number: u64)
-    requires { IsDistinct eqb (numbers_of rows.old.items) }
+    requires once { IsDistinct eqb (numbers_of rows.old.items) }
+    requires rising { AreRisingBy key_of rows.old.items }
     ensures rows { rows.new.items ≡ filter (λ row. not (row.number == number)) rows.old.items }
     ensures once { IsDistinct eqb (numbers_of rows.new.items) }
 {
-    rows.retain(|row| !(row.number == number));
+    if let Some(place) = place_of(rows.as_slice(), number) {
+        drop(rows.remove(place));
+    }
 }
 
 /// Makes room for a row. The room for one that may be kept stays.
