@@ -18,7 +18,7 @@ ghost use Rattle.scm_tables.specs.Tabled.{HasNeedRoom};
 use super::deleting::code_once_kept;
 use super::making::told_tag;
 use super::needing::are_unreadable;
-use super::replacing::{are_kept_alike, config_with, tag_or, text_or};
+use super::replacing::{are_alike, config_with, tag_or, text_or};
 use scm_model::codes::{
     ERROR_ACCESS_DENIED, ERROR_CIRCULAR_DEPENDENCY, ERROR_DUPLICATE_SERVICE_NAME,
     ERROR_INVALID_HANDLE, ERROR_INVALID_NAME, ERROR_INVALID_PARAMETER,
@@ -198,7 +198,7 @@ pub fn change_verdict(
     }
 }
 
-/// The change from one configuration to another, if they are kept as different bytes.
+/// The change from one configuration to another, if they differ.
 pub fn changed_from(
     old: &Config,
     new: &Config,
@@ -206,7 +206,7 @@ pub fn changed_from(
 ) -> Result<Option<Change>, OutOfMemory>
     ensures { IfOk result (λ told. told ≡ changed_from old.now new.now) }
 {
-    if are_kept_alike(old, new, alloc)? {
+    if are_alike(old, new) {
         return Ok(None);
     }
     Ok(Some(Change::Changed(new.copy(alloc)?)))

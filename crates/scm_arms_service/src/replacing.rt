@@ -1,6 +1,8 @@
 ghost use Rattle.std.specs.Prelude.{◌≡◌, unwrap_or, IfOk};
 ghost use Rattle.scm_arms_service.specs.Replaced.{config_parts, with_parts};
-ghost use Rattle.scm_rules.specs.Change.{config_with, display_or, is_kept_alike, number_or, tag_or};
+ghost use Rattle.std.specs.Cmp.Lexicographic.{pointwise};
+ghost use Rattle.scm_rules.specs.Change.{config_alike, config_with, display_or, end_alike};
+ghost use Rattle.scm_rules.specs.Change.{front_alike, is_need, middle_alike, number_or, tag_or};
 
 use super::making::shown;
 use super::needing::needs_or;
@@ -8,7 +10,6 @@ use scm_model::codes::{SERVICE_AUTO_START, SERVICE_NO_CHANGE};
 use scm_model::{ChangeService, Config, Need};
 use scm_tables::Tables;
 use scm_text::{Items, OutOfMemory, WText};
-use service_record::record_bytes;
 use std::alloc::Global;
 use std::mem::replace;
 
@@ -133,11 +134,65 @@ pub fn config_with(
     Ok(with_parts(old, parts))
 }
 
-/// Whether two configurations are kept as the same bytes.
-pub fn are_kept_alike(old: &Config, new: &Config, alloc: Global) -> Result<bool, OutOfMemory>
-    ensures { IfOk result (λ alike. alike ≡ is_kept_alike old.now new.now) }
+fn is_need(old: &Need, new: &Need) -> bool
+    ensures { result ≡ is_need old.now new.now }
 {
-    let old = record_bytes(alloc, old)?;
-    let new = record_bytes(alloc, new)?;
-    Ok(old.as_slice() == new.as_slice())
+    match (old, new) {
+        (Need::Service(old), Need::Service(new)) | (Need::Group(old), Need::Group(new)) => {
+            old.units() == new.units()
+        }
+        _ => false,
+    }
+}
+
+fn are_needs(old: &[Need], new: &[Need]) -> bool
+    ensures { result ≡ pointwise is_need old.now new.now }
+{
+    if old.len() != new.len() {
+        return false;
+    }
+    for i in 0..old.len() {
+        if !is_need(&old[i], &new[i]) {
+            return false;
+        }
+    }
+    true
+}
+
+fn front_alike(old: &Config, new: &Config) -> bool
+    ensures { result ≡ front_alike old.now new.now }
+{
+    old.name.units() == new.name.units()
+        && old.display.units() == new.display.units()
+        && old.kind == new.kind
+        && old.start == new.start
+        && old.error == new.error
+        && old.path.units() == new.path.units()
+}
+
+fn middle_alike(old: &Config, new: &Config) -> bool
+    ensures { result ≡ middle_alike old.now new.now }
+{
+    old.group.units() == new.group.units()
+        && old.tag == new.tag
+        && are_needs(old.needs.as_slice(), new.needs.as_slice())
+        && old.description.units() == new.description.units()
+}
+
+fn end_alike(old: &Config, new: &Config) -> bool
+    ensures { result ≡ end_alike old.now new.now }
+{
+    old.reset == new.reset
+        && old.actions.as_slice() == new.actions.as_slice()
+        && old.command.units() == new.command.units()
+        && old.on_exit == new.on_exit
+        && old.delayed == new.delayed
+        && old.triggers.as_slice() == new.triggers.as_slice()
+}
+
+/// Whether two configurations are equal, unit for unit. It takes no memory.
+pub fn are_alike(old: &Config, new: &Config) -> bool
+    ensures { result ≡ config_alike old.now new.now }
+{
+    front_alike(old, new) && middle_alike(old, new) && end_alike(old, new)
 }

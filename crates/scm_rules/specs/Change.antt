@@ -1,9 +1,13 @@
 -- RChangeServiceConfigW: a service gets another configuration.
-use Rattle.std.specs.Prelude.{ℕ, Bool, false, ◌||◌, ◌&&◌, ◌==◌, ◌++◌, List, [], ◌∷◌, length, Option, None, Some, is_none, is_some}
+use Rattle.std.specs.Prelude.{ℕ, Bool, true, false, not, ◌||◌, ◌&&◌, ◌==◌, ◌++◌, List, [], ◌∷◌, length, Option, None, Some, is_none, is_some}
 use Rattle.std.specs.Prelude.{unwrap_or, map, option_map, option_and_then, if◌then◌else◌}
 use Rattle.std.specs.Cmp.Lexicographic.{pointwise}
 use Rattle.scm_model.specs.declared.flat.Flat.{Flat}
+use Rattle.scm_model.specs.declared.flat.Action.{Action}
 use Rattle.scm_model.specs.declared.flat.Config.{Config}
+use Rattle.scm_model.specs.declared.flat.Need.{Need}
+use Rattle.scm_model.specs.declared.flat.Need.TheVariants as needs
+use Rattle.scm_model.specs.declared.flat.Trigger.{Trigger}
 use Rattle.scm_model.specs.declared.flat.Service.{Service}
 use Rattle.scm_model.specs.declared.calls.ChangeService.{ChangeService}
 use Rattle.scm_model.specs.declared.calls.Reply.TheVariants as reply
@@ -20,7 +24,6 @@ use Rattle.scm_model.specs.declared.codes.TheConstants.{ERROR_INVALID_HANDLE, ER
 use Rattle.scm_model.specs.declared.codes.TheConstants.{ERROR_INVALID_SERVICE_ACCOUNT, ERROR_SERVICE_MARKED_FOR_DELETE, SERVICE_AUTO_START}
 use Rattle.scm_model.specs.declared.codes.TheConstants.{SERVICE_CHANGE_CONFIG, SERVICE_NO_CHANGE}
 use Rattle.service_record.specs.Checks.{check_change}
-use Rattle.service_record.specs.Spelling.{encoding}
 use Rattle.scm_rules.specs.Rights.{lacks}
 use Rattle.scm_rules.specs.Delete.{is_marked, keeping_refusals}
 use Rattle.scm_rules.specs.Create.{display_of, next_tag, told_tag}
@@ -148,13 +151,46 @@ change_outcome f caller change append = outcome (change_verdict f caller change 
 
 -- ## What is kept
 
--- whether two configurations are kept as the same bytes
-abbrev pub is_kept_alike : Config → Config → Bool
-is_kept_alike old new = pointwise ◌==◌ (encoding old) (encoding new)
+abbrev pub is_text : List ℕ → List ℕ → Bool
+is_text old new = pointwise ◌==◌ old new
+
+abbrev pub is_flag : Bool → Bool → Bool
+is_flag true new = new
+is_flag false new = not new
+
+abbrev pub is_need : Need → Need → Bool
+is_need (needs.Service old) (needs.Service new) = is_text old new
+is_need (needs.Group old) (needs.Group new) = is_text old new
+is_need old new = false
+
+abbrev pub is_action : Action → Action → Bool
+is_action old new = old.what == new.what && old.delay == new.delay
+
+abbrev pub is_trigger : Trigger → Trigger → Bool
+is_trigger old new = old.action == new.action && is_text old.subtype new.subtype
+
+abbrev pub front_alike : Config → Config → Bool
+front_alike old new =
+    is_text old.name new.name && is_text old.display new.display && old.kind == new.kind && old.start == new.start
+    && old.error == new.error && is_text old.path new.path
+
+abbrev pub middle_alike : Config → Config → Bool
+middle_alike old new =
+    is_text old.group new.group && old.tag == new.tag && pointwise is_need old.needs new.needs
+    && is_text old.description new.description
+
+abbrev pub end_alike : Config → Config → Bool
+end_alike old new =
+    old.reset == new.reset && pointwise is_action old.actions new.actions && is_text old.command new.command
+    && is_flag old.on_exit new.on_exit && is_flag old.delayed new.delayed && pointwise is_trigger old.triggers new.triggers
+
+-- whether two configurations are equal, unit for unit
+abbrev pub config_alike : Config → Config → Bool
+config_alike old new = front_alike old new && middle_alike old new && end_alike old new
 
 -- a change that changes nothing isn't kept
 abbrev pub changed_from : Config → Config → Option Change
-changed_from old new = if is_kept_alike old new then None else Some (Changed new)
+changed_from old new = if config_alike old new then None else Some (Changed new)
 
 abbrev pub changed_row : Flat → ChangeService → Service → Option Change
 changed_row f change row = changed_from row.config (new_config f change row)
