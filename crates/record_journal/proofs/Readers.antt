@@ -6,9 +6,12 @@ use Rattle.std.specs.List.{list_any}
 use Rattle.std.proofs.lemmas.Bool.{ltb-false, le-ltb, or_parts}
 use Rattle.std.proofs.lemmas.List.{drop_at, length-append, length-take-le, take-append-drop, take_at}
 use Rattle.ndr_body.specs.Units.{half, le_units}
-use Rattle.service_record.specs.Reading.{◌>>=◌, Item, take_action, take_back, take_config, take_counted, take_flag, take_front, take_items}
-use Rattle.service_record.specs.Reading.{take_middle, take_need, take_number, take_text}
-use Rattle.service_record.proofs.Fields.{bind_ok, guard_ok, ok_is}
+use Rattle.service_record.specs.Reading.{◌>>=◌, Item, take_action, take_back, take_config, take_config_1, take_counted, take_end, take_flag}
+use Rattle.service_record.specs.Reading.{take_front, take_items, take_middle, take_need, take_number, take_subtype, take_text, take_trigger}
+use Rattle.service_record.proofs.Fields.{a_subtype, bind_ok, guard_ok, ok_is}
+use Rattle.scm_model.specs.declared.steps.Form.{Form}
+use Rattle.scm_model.specs.declared.steps.Form.TheVariants.{First, Second}
+use Rattle.record_journal.specs.Entries.{take_in}
 
 -- the front of some bytes that was read, and read again before anything else
 pub record Took {A : Type 0} (read : List ℕ → Item A) (bytes : List ℕ) (x : A × List ℕ) : Type 0 where
@@ -141,6 +144,17 @@ action_reader : IsReader take_action
 unfolding take_action
 action_reader = and_then take_number _ number_reader (λ what. and_then take_number _ number_reader (λ delay. gives _))
 
+subtype_reader : IsReader take_subtype
+subtype_reader bytes x is =
+    let g = guard_ok (nat_lt (length bytes) 16) (length bytes) (take 16 bytes, drop 16 bytes) x is in
+    let size = length-take-le 16 bytes (ltb-false (length bytes) 16 g.0) in
+    subst (λ (y : List ℕ × List ℕ). Took take_subtype bytes y) g.1
+    (record { front = take 16 bytes; parts = sym (take-append-drop 16 bytes); any = λ after. a_subtype.again (take 16 bytes) after size })
+
+trigger_reader : IsReader take_trigger
+unfolding take_trigger
+trigger_reader = and_then take_number _ number_reader (λ action. and_then take_subtype _ subtype_reader (λ subtype. gives _))
+
 items_reader : {A : Type 0} (item : List ℕ → Item A) → IsReader item → (n : ℕ) → IsReader (take_items item n)
 unfolding take_items
 items_reader item one zero = gives []
@@ -173,7 +187,20 @@ back_reader =
     (λ actions.
     and_then take_text _ text_reader (λ command. and_then take_flag _ flag_reader (λ on_exit. gives _))))
 
-pub config_reader : IsReader take_config
-unfolding take_config
-config_reader = and_then take_front _ front_reader
+end_reader : IsReader take_end
+unfolding take_end
+end_reader = and_then take_flag _ flag_reader
+    (λ delayed. and_then (take_counted take_trigger) _ (counted_reader take_trigger trigger_reader) (λ triggers. gives _))
+
+config_reader_1 : IsReader take_config_1
+unfolding take_config_1
+config_reader_1 = and_then take_front _ front_reader
     (λ front. and_then take_middle _ middle_reader (λ middle. and_then take_back _ back_reader (λ back. gives _)))
+
+config_reader_2 : IsReader take_config
+unfolding take_config
+config_reader_2 = and_then take_config_1 _ config_reader_1 (λ config. and_then take_end _ end_reader (λ last. gives _))
+
+pub config_reader : (form : Form) → IsReader (take_in form)
+config_reader First = config_reader_1
+config_reader Second = config_reader_2

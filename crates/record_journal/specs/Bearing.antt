@@ -1,16 +1,18 @@
 -- What a keeper holds of a journal, where it tells its bytes.
 use Rattle.std.specs.Prelude.{ℕ, ◌≡◌, ◌⊎◌, ◌+◌, Bool, true, false, List, [], ◌++◌, fold, length, take, Option, None, Some, Result, Ok, Err}
-use Rattle.std.specs.Prelude.{if◌then◌else◌}
+use Rattle.std.specs.Prelude.{if◌then◌else◌, option_map}
 use Rattle.outside.specs.Written.{Begins}
 use Rattle.scm_model.specs.declared.steps.Change.{Change}
 use Rattle.record_journal.specs.Format.{HasEntry, piece}
+use Rattle.scm_model.specs.declared.steps.Form.{Form}
+use Rattle.scm_model.specs.declared.steps.Form.TheVariants.{Second}
 use Rattle.record_journal.specs.declared.journal.Journal.{Journal}
 
 -- ## What one call does to the bytes
 
--- after so many bytes more, with nothing else after them
+-- after so many bytes more, with nothing else after them; what is appended ends in form 2
 abbrev pub journal_grown : Journal → List ℕ → Journal
-journal_grown j bytes = record { good = j.good + length bytes; dirty = false }
+journal_grown j bytes = record { good = j.good + length bytes; dirty = false; form = Second }
 
 -- a part of a piece may stand after the bytes
 abbrev pub broken : Journal → Journal
@@ -37,36 +39,52 @@ Puts piece j (Some bytes) (Some now) (Err fault) = (now ≡ bytes) ⊎ ((front :
 
 -- ## What is kept, call by call
 
+-- bytes of a journal, and the form in which they end
+pub record Stood : Type 0 where
+  pub bytes : List ℕ
+  pub form : Form
+
+abbrev pub stood : Form → List ℕ → Stood
+stood form bytes = record { bytes = bytes; form = form }
+
+-- bytes that end in this form, where they are told
+abbrev pub stood_in : Form → Option (List ℕ) → Option Stood
+stood_in form told = option_map (stood form) told
+
+-- the piece of a change that is appended to what stands
+abbrev pub piece_after : Stood → Change → List ℕ
+piece_after s change = piece (length s.bytes) s.form change
+
 -- after what is kept stands nothing; or, if an append failed and nothing was cut since, a front of one piece more
-abbrev pub Tail : List ℕ → Bool → List ℕ → Type 0
-Tail good false tail = tail ≡ []
-Tail good true tail =
-    (change : Change) × HasEntry change × Begins tail (piece (length good) change)
+abbrev pub Tail : Stood → Bool → List ℕ → Type 0
+Tail s false tail = tail ≡ []
+Tail s true tail = (change : Change) × HasEntry change × Begins tail (piece_after s change)
 
 -- what is kept, and after it no more than a front of one piece
-pub record Borne (good : List ℕ) (j : Journal) (now : List ℕ) : Type 0 where
+pub record Borne (s : Stood) (j : Journal) (now : List ℕ) : Type 0 where
   pub tail : List ℕ
-  pub holds : now ≡ good ++ tail
-  pub part : Tail good j.dirty tail
-  pub long : j.good ≡ length good
+  pub holds : now ≡ s.bytes ++ tail
+  pub part : Tail s j.dirty tail
+  pub long : j.good ≡ length s.bytes
+  pub form : j.form ≡ s.form
 
 -- a keeper holds this of a journal, where it tells its bytes
-abbrev pub Bears : Option (List ℕ) → Journal → Option (List ℕ) → Type 0
+abbrev pub Bears : Option Stood → Journal → Option (List ℕ) → Type 0
 Bears None j told = Unit {0}
-Bears (Some good) j None = ⊥
-Bears (Some good) j (Some now) = Borne good j now
+Bears (Some s) j None = ⊥
+Bears (Some s) j (Some now) = Borne s j now
 
-abbrev pub and_change : Option (List ℕ) → Change → Option (List ℕ)
+abbrev pub and_change : Option Stood → Change → Option Stood
 and_change None change = None
-and_change (Some good) change = Some (good ++ piece (length good) change)
+and_change (Some s) change = Some (record { bytes = s.bytes ++ piece_after s change; form = Second })
 
-abbrev pub and_changes : Option (List ℕ) → List Change → Option (List ℕ)
+abbrev pub and_changes : Option Stood → List Change → Option Stood
 and_changes told changes = fold and_change told changes
 
 -- one change more is kept, whatever was kept before
 unfoldable pub BearsMore : Change → Journal → Option (List ℕ) → Journal → Option (List ℕ) → Type 0
-BearsMore change j told j' told' = (good : Option (List ℕ)) → Bears good j told → Bears (and_change good change) j' told'
+BearsMore change j told j' told' = (s : Option Stood) → Bears s j told → Bears (and_change s change) j' told'
 
 -- what was kept is kept
 unfoldable pub BearsSame : Journal → Option (List ℕ) → Journal → Option (List ℕ) → Type 0
-BearsSame j told j' told' = (good : Option (List ℕ)) → Bears good j told → Bears good j' told'
+BearsSame j told j' told' = (s : Option Stood) → Bears s j told → Bears s j' told'

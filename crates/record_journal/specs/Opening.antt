@@ -32,11 +32,16 @@ ReadAs (Err faults.Failed) read = ⊥
 
 -- ## Opening
 
--- the replay of the bytes, whose journal ends after what is kept of them; or the place of their
--- first damage
+-- the replay of the bytes, whose journal ends after what is kept of them, in its form; or the place
+-- of their first damage
 abbrev pub Restores : List ℕ → Result Restored JournalFault → Type 0
 Restores bytes (Ok opened) =
-    read_journal bytes ≡ Ok (record { configs = opened.configs; kept = opened.journal.good })
+    read_journal bytes
+    ≡ Ok (record {
+      configs = opened.configs;
+      kept = opened.journal.good;
+      form = opened.journal.form;
+    })
 Restores bytes (Err (faults.Damaged place)) = read_journal bytes ≡ Err place
 Restores bytes (Err faults.OutOfMemory) = Unit {0}
 Restores bytes (Err faults.Failed) = Unit {0}

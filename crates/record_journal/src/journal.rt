@@ -5,31 +5,35 @@ ghost use Rattle.outside.specs.Written.{Writes};
 ghost use Rattle.record_journal.specs.Bearing.{Bears, BearsMore, BearsSame, Mends, Puts, broken};
 ghost use Rattle.record_journal.specs.Bearing.{journal_grown};
 ghost use Rattle.record_journal.specs.Format.{HasEntry, piece};
+ghost use Rattle.scm_model.specs.declared.steps.Form.TheVariants.{Second};
 
 use crate::entry::piece;
 use crate::keeper::{KeepFault, Keeper};
 use outside::Failed;
-use scm_model::Change;
+use scm_model::{Change, Form};
 use std::alloc::Global;
 
-/// Where a journal ends.
+/// Where a journal ends, and in which form.
 #[derive(Drop, PartialEq, Eq)]
 pub struct Journal {
     /// How many bytes are kept.
     pub good: u64,
     /// Whether a part of a piece may stand after them.
     pub dirty: bool,
+    /// The form of what is kept last. The first change that is appended makes it form 2.
+    pub form: Form,
 }
 
 impl Journal {
     /// The journal of a keeper that holds nothing.
     pub fn empty() -> Self
-        ensures value { result ≡ record { good = 0; dirty = false } }
-        ensures bears { Bears (Some []) result (Some []) }
+        ensures value { result ≡ record { good = 0; dirty = false; form = Second } }
+        ensures bears { Bears (Some (record { bytes = []; form = Second })) result (Some []) }
     {
         Journal {
             good: 0,
             dirty: false,
+            form: Form::Second,
         }
     }
 
@@ -48,7 +52,7 @@ impl Journal {
         Ok(())
     }
 
-    /// Appends a piece when nothing else stands after what is kept.
+    /// Appends a piece, which ends in form 2, when nothing else stands after what is kept.
     fn add<K: Keeper>(&mut self, keeper: &mut K, piece: &[u8]) -> Result<(), Failed>
         requires { self.old.good + length piece.now < 2 ^ 64 }
         ensures ok { OnOk result (self.new ≡ journal_grown self.old piece.now) }
@@ -60,6 +64,7 @@ impl Journal {
         keeper.append(piece)?;
         self.good += piece.len() as u64;
         self.dirty = false;
+        self.form = Form::Second;
         Ok(())
     }
 
@@ -75,8 +80,9 @@ impl Journal {
         self.add(keeper, piece)
     }
 
-    /// Appends the entry of a change, in an empty journal after the header, in one piece. What a
-    /// failed append may have left is cut first. The keeper is the one of the calls before.
+    /// Appends the entry of a change in one piece: in an empty journal after the header, and in a
+    /// journal of form 1 after the entry that ends this form. What a failed append may have left is
+    /// cut first. The keeper is the one of the calls before.
     pub fn append<K: Keeper>(
         &mut self,
         alloc: Global,
@@ -87,10 +93,10 @@ impl Journal {
             (BearsMore change.now self.old (K.held keeper.old) self.new (K.held keeper.new)) }
         ensures err { OnErr result
             (BearsSame self.old (K.held keeper.old) self.new (K.held keeper.new)) }
-        ensures bytes { Puts (piece self.old.good change.now) self.old
+        ensures bytes { Puts (piece self.old.good self.old.form change.now) self.old
             (K.held keeper.old) (K.held keeper.new) result }
         ensures journal_grown { OnOk result (self.new ≡ journal_grown self.old
-            (piece self.old.good change.now)) }
+            (piece self.old.good self.old.form change.now)) }
         ensures fits { OnOk result (HasEntry change.now) }
         ensures broken { IsErrOf result KeepFault.Failed → self.new ≡ broken self.old }
         ensures memory { IsErrOf result KeepFault.OutOfMemory → self.new ≡ self.old }
@@ -100,7 +106,7 @@ impl Journal {
             Rose (K.faults keeper.old) (K.faults keeper.new) }
         ensures kept { OnOk result (K.faults keeper.new ≡ K.faults keeper.old) }
     {
-        let Ok(piece) = piece(alloc, self.good, change) else {
+        let Ok(piece) = piece(alloc, self.good, self.form, change) else {
             return Err(KeepFault::OutOfMemory);
         };
         if u64::MAX - self.good < piece.len() as u64 {

@@ -18,7 +18,7 @@ pub use journal::Journal;
 pub use keeper::{KeepFault, Keeper};
 pub use law::{
     a_changed_byte_cuts_nothing, a_journal_is_read_back, an_entry_has_parts,
-    appended_changes_are_a_journal,
+    appended_changes_are_a_journal, appended_changes_end_form_1,
 };
 pub use memory::{Fate, MemoryKeeper};
 pub use opening::{JournalFault, Restored, open_journal};

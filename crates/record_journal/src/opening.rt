@@ -1,7 +1,7 @@
 //! The opening of a journal.
 ghost use Rattle.std.specs.Prelude.{◌≡◌, ◌≤◌, length, IfOk, IfSome, IsErrOf, OnOk, is_some};
 ghost use Rattle.outside.specs.Causes.{HasCause, Rose};
-ghost use Rattle.record_journal.specs.Bearing.{Bears};
+ghost use Rattle.record_journal.specs.Bearing.{Bears, stood_in};
 ghost use Rattle.record_journal.specs.Keepers.{Cuts, IsUntold};
 ghost use Rattle.record_journal.specs.Opening.{Restores, CanBegin, LeavesAt, LeavesAll};
 ghost use Rattle.record_journal.specs.Opening.{content_under};
@@ -54,19 +54,25 @@ fn restore<K: Keeper>(alloc: Global, keeper: &mut K, bytes: &[u8]) -> Result<Res
     ensures leaves { LeavesAll (K.held keeper.old) (K.held keeper.new) result }
     ensures untold { IsUntold (K.held keeper.old) (K.held keeper.new) }
     ensures bears { IfOk result (λ opened.
-        Bears (K.held keeper.new) opened.journal (K.held keeper.new)) }
+        Bears (stood_in opened.journal.form (K.held keeper.new)) opened.journal
+        (K.held keeper.new)) }
     ensures begins { IfOk result (λ opened. CanBegin opened.configs) }
     ensures grows { K.faults keeper.old ≤ K.faults keeper.new }
     ensures cause { IsErrOf result JournalFault.Failed →
         Rose (K.faults keeper.old) (K.faults keeper.new) }
     ensures kept { OnOk result (K.faults keeper.new ≡ K.faults keeper.old) }
 {
-    let Replay { configs, kept } = read_journal(alloc, bytes)?;
+    let Replay {
+        configs,
+        kept,
+        form,
+    } = read_journal(alloc, bytes)?;
     match cut_behind(keeper, bytes.len(), kept) {
         Ok(()) => Ok(Restored {
             journal: Journal {
                 good: kept,
                 dirty: false,
+                form,
             },
             configs,
         }),
@@ -77,7 +83,8 @@ fn restore<K: Keeper>(alloc: Global, keeper: &mut K, bytes: &[u8]) -> Result<Res
 /// Opens a keeper, and reads the journal that stands under the path; without a path it is empty. A
 /// part of an entry at the end, as an append that was cut off leaves, is cut, and so is a part of a
 /// header. It is no part if its kind is none, or if its body has a whole configuration or name. A
-/// journal that is damaged is never written to.
+/// journal that is damaged is never written to. A journal of form 1 is opened as it is, without a
+/// delayed start and without triggers.
 pub fn open_journal<K: Keeper>(
     alloc: Global,
     keeper: &mut K,
@@ -87,7 +94,8 @@ pub fn open_journal<K: Keeper>(
         (λ bytes. Restores bytes result) }
     ensures leaves { LeavesAt (is_some path.entry) (K.held keeper.old) (K.held keeper.new) result }
     ensures bears { IfOk result (λ opened.
-        Bears (K.held keeper.new) opened.journal (K.held keeper.new)) }
+        Bears (stood_in opened.journal.form (K.held keeper.new)) opened.journal
+        (K.held keeper.new)) }
     // What a manager can begin with.
     ensures begins { IfOk result (λ opened. CanBegin opened.configs) }
     ensures grows { K.faults keeper.old ≤ K.faults keeper.new }

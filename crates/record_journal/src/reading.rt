@@ -1,15 +1,18 @@
 //! Entries, read.
 ghost use Rattle.std.specs.Prelude.{◌≡◌, IfOk, is_ok, option_map};
 ghost use Rattle.scm_model.specs.declared.steps.Change.TheVariants as changes;
-ghost use Rattle.service_record.specs.Reading.{take_config, take_number, take_text, whole_of};
-ghost use Rattle.record_journal.specs.Entries.{can_grow, change_in, if_read, is_unfinished};
-ghost use Rattle.record_journal.specs.Entries.{name_of, seen_front, whole_entry, with_body};
+ghost use Rattle.service_record.specs.Reading.{Tells, take_number, take_text};
+ghost use Rattle.record_journal.specs.Entries.{begins_switch, can_grow, change_in, if_read};
+ghost use Rattle.record_journal.specs.Entries.{is_switch, is_unfinished, name_of, record_in};
+ghost use Rattle.record_journal.specs.Entries.{said_in, seen_front, take_in, whole_entry, whole_in};
+ghost use Rattle.record_journal.specs.Entries.{with_body};
+ghost use Rattle.record_journal.specs.declared.reading.Said.TheVariants as saids;
 
-use crate::entry::{CHANGED, CREATED, REMOVED};
+use crate::entry::{CHANGED, CREATED, REMOVED, SWITCH, SWITCHED};
 use ndr_body::{has_zero, units_of};
-use scm_model::{Change, Config};
+use scm_model::{Change, Config, Form};
 use scm_text::{OutOfMemory, WText};
-use service_record::{RecordFault, read_record};
+use service_record::{RecordFault, read_record, read_record_1};
 use std::alloc::Global;
 
 /// A whole entry at the front of some bytes, and what stands after it.
@@ -54,11 +57,29 @@ pub fn whole_entry(bytes: &[u8]) -> Option<Front<'_>>
     }
 }
 
-/// The configuration that a body is.
-fn config_in(alloc: Global, body: &[u8]) -> Result<Option<Config>, OutOfMemory>
-    ensures { IfOk result (λ config. config ≡ if_read (whole_of body.now)) }
+/// What an entry says.
+#[derive(Drop)]
+pub enum Said {
+    Says(Change),
+    /// Form 1 ends: what stands after it is of form 2.
+    Turns,
+}
+
+/// Reads a configuration of a form, which is all of some bytes.
+fn record_in(alloc: Global, form: Form, bytes: &[u8]) -> Result<Config, RecordFault>
+    ensures { Tells result (record_in form bytes.now) }
 {
-    match read_record(alloc, body) {
+    match form {
+        Form::First => read_record_1(alloc, bytes),
+        Form::Second => read_record(alloc, bytes),
+    }
+}
+
+/// The configuration that a body is.
+fn config_in(alloc: Global, form: Form, body: &[u8]) -> Result<Option<Config>, OutOfMemory>
+    ensures { IfOk result (λ config. config ≡ if_read (whole_in form body.now)) }
+{
+    match record_in(alloc, form, body) {
         Ok(config) => Ok(Some(config)),
         Err(RecordFault::Bad(_)) => Ok(None),
         Err(RecordFault::OutOfMemory) => Err(OutOfMemory),
@@ -103,15 +124,20 @@ fn removed(name: Option<WText>) -> Option<Change>
     name.map(Change::Removed)
 }
 
-/// The change that a kind and a body are.
-pub fn change_in(alloc: Global, kind: u8, body: &[u8]) -> Result<Option<Change>, OutOfMemory>
-    ensures { IfOk result (λ change. change ≡ change_in kind body.now) }
+/// The change that a kind and a body of a form are.
+fn change_in(
+    alloc: Global,
+    form: Form,
+    kind: u8,
+    body: &[u8],
+) -> Result<Option<Change>, OutOfMemory>
+    ensures { IfOk result (λ change. change ≡ change_in form kind body.now) }
 {
     if kind == CREATED {
-        return Ok(created(config_in(alloc, body)?));
+        return Ok(created(config_in(alloc, form, body)?));
     }
     if kind == CHANGED {
-        return Ok(changed(config_in(alloc, body)?));
+        return Ok(changed(config_in(alloc, form, body)?));
     }
     if kind == REMOVED {
         return Ok(removed(name_in(alloc, body)?));
@@ -119,12 +145,43 @@ pub fn change_in(alloc: Global, kind: u8, body: &[u8]) -> Result<Option<Change>,
     Ok(None)
 }
 
+/// Whether a kind and a body end form 1.
+fn is_switch(form: Form, kind: u8, body: &[u8]) -> bool
+    ensures { result ≡ is_switch form kind body.now }
+{
+    match form {
+        Form::First => kind == SWITCHED && body.is_empty(),
+        Form::Second => false,
+    }
+}
+
+fn says(change: Option<Change>) -> Option<Said>
+    ensures { result ≡ option_map saids.Says change }
+{
+    change.map(Said::Says)
+}
+
+/// What a kind and a body of a form say.
+pub fn said_in(
+    alloc: Global,
+    form: Form,
+    kind: u8,
+    body: &[u8],
+) -> Result<Option<Said>, OutOfMemory>
+    ensures { IfOk result (λ said. said ≡ said_in form kind body.now) }
+{
+    if is_switch(form, kind, body) {
+        return Ok(Some(Said::Turns));
+    }
+    Ok(says(change_in(alloc, form, kind, body)?))
+}
+
 /// Whether a body is a configuration.
 #[tactic(auto, using(crate::proofs::Parts::is_placed))]
-fn is_config(alloc: Global, body: &[u8]) -> Result<bool, OutOfMemory>
-    ensures { IfOk result (λ is. is ≡ is_ok (whole_of body.now)) }
+fn is_config(alloc: Global, form: Form, body: &[u8]) -> Result<bool, OutOfMemory>
+    ensures { IfOk result (λ is. is ≡ is_ok (whole_in form body.now)) }
 {
-    match read_record(alloc, body) {
+    match record_in(alloc, form, body) {
         Ok(config) => {
             drop(config);
             Ok(true)
@@ -135,15 +192,15 @@ fn is_config(alloc: Global, body: &[u8]) -> Result<bool, OutOfMemory>
 }
 
 /// Whether a body begins with a configuration. What follows one is where reading it fails.
-fn has_config(alloc: Global, body: &[u8]) -> Result<bool, OutOfMemory>
-    ensures { IfOk result (λ has. has ≡ is_ok (take_config body.now)) }
+fn has_config(alloc: Global, form: Form, body: &[u8]) -> Result<bool, OutOfMemory>
+    ensures { IfOk result (λ has. has ≡ is_ok (take_in form body.now)) }
 {
-    match read_record(alloc, body) {
+    match record_in(alloc, form, body) {
         Ok(config) => {
             drop(config);
             Ok(true)
         }
-        Err(RecordFault::Bad(place)) => is_config(alloc, &body[..place]),
+        Err(RecordFault::Bad(place)) => is_config(alloc, form, &body[..place]),
         Err(RecordFault::OutOfMemory) => Err(OutOfMemory),
     }
 }
@@ -168,23 +225,36 @@ fn has_name(alloc: Global, body: &[u8]) -> Result<bool, OutOfMemory>
 }
 
 /// Whether more bytes can make a body of this kind.
-fn can_grow(alloc: Global, kind: u8, body: &[u8]) -> Result<bool, OutOfMemory>
-    ensures { IfOk result (λ can. can ≡ can_grow kind body.now) }
+fn can_grow(alloc: Global, form: Form, kind: u8, body: &[u8]) -> Result<bool, OutOfMemory>
+    ensures { IfOk result (λ can. can ≡ can_grow form kind body.now) }
 {
     match kind {
-        CREATED | CHANGED => Ok(!has_config(alloc, body)?),
+        CREATED | CHANGED => Ok(!has_config(alloc, form, body)?),
         REMOVED => Ok(!has_name(alloc, body)?),
         _ => Ok(false),
     }
 }
 
-/// Whether less than a whole entry can become one.
-pub fn is_unfinished(alloc: Global, bytes: &[u8]) -> Result<bool, OutOfMemory>
-    ensures { IfOk result (λ is. is ≡ is_unfinished bytes.now) }
+/// Whether these are a front of the entry that ends form 1.
+fn begins_switch(form: Form, bytes: &[u8]) -> bool
+    ensures { result ≡ begins_switch form bytes.now }
 {
+    match form {
+        Form::First => SWITCH.starts_with(bytes),
+        Form::Second => false,
+    }
+}
+
+/// Whether less than a whole entry can become one.
+pub fn is_unfinished(alloc: Global, form: Form, bytes: &[u8]) -> Result<bool, OutOfMemory>
+    ensures { IfOk result (λ is. is ≡ is_unfinished form bytes.now) }
+{
+    if begins_switch(form, bytes) {
+        return Ok(true);
+    }
     match bytes {
-        [kind, _, _, _, _, body @ ..] => can_grow(alloc, *kind, body),
-        [kind, ..] => can_grow(alloc, *kind, &[]),
+        [kind, _, _, _, _, body @ ..] => can_grow(alloc, form, *kind, body),
+        [kind, ..] => can_grow(alloc, form, *kind, &[]),
         [] => Ok(true),
     }
 }

@@ -8,6 +8,6 @@ abbrev pub invariant-loop : goal.invariant-loop
 invariant-loop l =
     record {
       begins : CanBegin l.configs;
-      left : replay_of l.size l.configs (entries_from (length l.entries - l.counter) l.configs l.rest)
-          ≡ replay_of l.size l.fn.configs (all_from l.fn.configs l.entries);
+      left : replay_of l.size l.configs (entries_from (length l.entries - l.counter) l.now l.configs l.rest)
+          ≡ replay_of l.size l.fn.configs (all_from l.fn.form l.fn.configs l.entries);
     }
