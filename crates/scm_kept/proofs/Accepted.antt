@@ -13,10 +13,11 @@ use Rattle.scm_model.specs.declared.flat.Action.{Action}
 use Rattle.scm_model.specs.declared.flat.Config.{Config}
 use Rattle.scm_model.specs.declared.flat.Need.{Need}
 use Rattle.scm_model.specs.declared.flat.Need.TheVariants as needs
+use Rattle.scm_model.specs.declared.flat.Trigger.{Trigger}
 use Rattle.service_record.specs.Checks.{check_new, has_bad_lists, has_bad_names, has_bad_numbers, has_bad_texts, is_bad_account}
 use Rattle.service_record.specs.Checks.{is_bad_line, is_longer, name_of_need}
-use Rattle.service_record.specs.Spelling.{FitsNumber, FitsText, IsConfig, IsNeed, action, back, counted_items, flag, front, middle}
-use Rattle.service_record.specs.Spelling.{need_bytes, number, encoding, text}
+use Rattle.service_record.specs.Spelling.{FitsNumber, FitsText, IsConfig, IsNeed, IsTrigger, action, back, counted_items, encoding}
+use Rattle.service_record.specs.Spelling.{encoding_1, end, flag, front, middle, need_bytes, number, text, trigger_bytes}
 use Rattle.scm_runs.proofs.Calls.{all_pass}
 use Rattle.scm_runs.proofs.Lists.{none_any}
 use Rattle.scm_runs.proofs.Sizes.{are_short}
@@ -45,6 +46,7 @@ pub record IsSmall (config : Config) : Type 0 where
   pub needed : All IsShortNeed config.needs
   pub actions : length config.actions ≤ 64
   pub known : All IsKnown config.actions
+  pub triggers : length config.triggers ≤ 64
 
 kind_small : (kind : ℕ) → not (kind == 16 || kind == 32) ≡ false → kind ≤ 32
 kind_small kind fine =
@@ -93,9 +95,10 @@ is_small config e =
       actions = ltb-false 64 (length config.actions) lists.1;
       known = All-weaker (λ (a : Action). nat_lt 3 a.what ≡ false) IsKnown (λ a h. ltb-false 3 a.what h) config.actions
           (none_any (λ (a : Action). nat_lt 3 a.what) config.actions known.1);
+      triggers = ltb-false 64 (length config.triggers) triggers.1;
     }
 
--- ## It has a encoding
+-- ## It has an encoding
 
 text_fits : (units : List ℕ) → length units ≤ 2048 → AreUnits units → FitsText units
 text_fits units short is = (omega (arith, short), is)
@@ -129,13 +132,14 @@ config_fits config small is = (
     );
     command = text_fits config.command small.command is.command;
   },
+  record { triggers = ((let n = small.triggers in omega (arith, n)), is.triggers) },
 )
 
 need_text : (need : Need) → IsNeed need → HasText need
 need_text (needs.Service name) fits = fits.1
 need_text (needs.Group name) fits = fits.1
 
--- what has a encoding has its numbers and units
+-- what has an encoding has its numbers and units
 pub units_of : (config : Config) → IsConfig config → HasUnits config
 units_of config fits = record {
   name = fits.0.name.1;
@@ -148,6 +152,7 @@ units_of config fits = record {
   reset = fits.2.reset;
   actions = λ k d lt. (fits.2.actions.1 k d lt).1;
   command = fits.2.command.1;
+  triggers = fits.3.triggers.1;
 }
 
 -- ## Its encoding is short
@@ -216,8 +221,26 @@ back_long config small =
     both_long (number config.reset ++ counted_items action config.actions ++ text config.command) (flag config.on_exit) 4620 1 b
     (flag_long config.on_exit)
 
-pub spelling_long : (config : Config) → IsSmall config → FitsNumber (length (encoding config))
-spelling_long config small =
+trigger_long : (trigger : Trigger) → IsTrigger trigger → length (trigger_bytes trigger) ≤ 20
+trigger_long trigger is =
+    let long = length-append (number trigger.action) trigger.subtype in
+    let size = is.1 in
+    omega (arith, long, size)
+
+triggers_long : (rows : List Trigger) → length rows ≤ 64 → All IsTrigger rows → length (counted_items trigger_bytes rows) ≤ 4 + 1280
+triggers_long rows few is =
+    let each = All-weaker IsTrigger (λ trigger. length (trigger_bytes trigger) ≤ 20) trigger_long rows is in
+    let long = length-flat_map trigger_bytes rows in
+    let least = sum_by-le (λ trigger. length (trigger_bytes trigger)) 20 rows each in
+    both_long (number (length rows)) (flat_map trigger_bytes rows) 4 1280 (omega arith) (omega (arith, long, least, few))
+
+end_long : (config : Config) → IsSmall config → HasUnits config → length (end config) ≤ 1285
+end_long config small is = both_long (flag config.delayed) (counted_items trigger_bytes config.triggers) 1 1284 (flag_long config.delayed)
+    (triggers_long config.triggers small.triggers is.triggers)
+
+pub spelling_long : (config : Config) → IsSmall config → HasUnits config → FitsNumber (length (encoding config))
+spelling_long config small is =
     let a = both_long (front config) (middle config) 5144 269328 (front_long config small) (middle_long config small) in
-    let long = both_long (front config ++ middle config) (back config) 274472 4621 a (back_long config small) in
+    let b = both_long (front config ++ middle config) (back config) 274472 4621 a (back_long config small) in
+    let long = both_long (encoding_1 config) (end config) 279093 1285 b (end_long config small is) in
     omega (arith, long)

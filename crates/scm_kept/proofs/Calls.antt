@@ -2,7 +2,6 @@
 use Rattle.std.proofs.Common.{ℕ, ◌≡◌, ◌∙◌, ◌==◌, true, false, cond, not, IsTrue, List, Option, None, Some, filter, map, ap, sym, refl}
 use Rattle.std.proofs.Common.{subst, eq-eqb}
 use Rattle.std.specs.Prelude.{All, IfSome, is_some, option_and_then, option_map}
-use Rattle.std.specs.Cmp.Lexicographic.{same_text as same_list}
 use Rattle.std.proofs.lemmas.List.{map-append}
 use Rattle.std.proofs.lemmas.List.Elements.{All-weaker, filter-append}
 use Rattle.scm_model.specs.declared.flat.Config.{Config}
@@ -23,8 +22,7 @@ use Rattle.scm_model.specs.Changes.{configured_if, with_moment}
 use Rattle.scm_model.specs.Outcomes.{CallResult}
 use Rattle.scm_model.specs.Refused.{answered}
 use Rattle.scm_model.specs.Rows.{held_service, service_of}
-use Rattle.service_record.specs.Spelling.{encoding}
-use Rattle.scm_rules.specs.Change.{change_change, change_done, change_refusals, change_verdict, changed_from, configured_in, is_kept_alike}
+use Rattle.scm_rules.specs.Change.{change_change, change_done, change_refusals, change_verdict, changed_from, config_alike, configured_in}
 use Rattle.scm_rules.specs.Change.{new_config}
 use Rattle.scm_rules.specs.Change2.{change2_change, change2_done, change2_refusals, change2_verdict, level_config}
 use Rattle.scm_rules.specs.Create.{create_change, create_done, create_refusals, create_verdict}
@@ -37,17 +35,14 @@ use Rattle.scm_rules.proofs.Held.{held_is}
 use Rattle.scm_runs.proofs.Levels.{name_left}
 use Rattle.scm_runs.proofs.Lists.{found_only}
 use Rattle.scm_runs.proofs.Sound.{Sound}
-use Rattle.scm_kept.specs.Replayed.{AreKeptAs, IsKeptAs, replayed, unmarked}
-use Rattle.scm_kept.proofs.Alike.{all_same}
-use Rattle.scm_kept.proofs.Found.{IsAlike, IsNamed, all_named, alike_unmarked, configured_unmarked, marked_unmarked}
+use Rattle.scm_kept.specs.Replayed.{replayed, unmarked}
+use Rattle.scm_kept.proofs.Found.{IsNamed, KeepsConfig, all_named, configured_unmarked, marked_unmarked, unchanged_unmarked}
 use Rattle.scm_kept.proofs.Rows.{config_of, stays}
+use Rattle.scm_kept.proofs.Same.{alike_same}
 
--- the unmarked configurations of some services are those of others behind a change, if there is one
+-- the unmarked configurations of some services are those of others after a change, if there is one
 abbrev pub KeptBy : List Service → Option Change → List Service → Type 0
-KeptBy olds change news = AreKeptAs (unmarked news) (replayed (unmarked olds) (one_or_none change))
-
-pub same_kept : (xs ys : List Config) → xs ≡ ys → AreKeptAs xs ys
-same_kept xs ys e = subst (AreKeptAs xs) e (all_same xs)
+KeptBy olds change news = unmarked news ≡ replayed (unmarked olds) (one_or_none change)
 
 -- ## What is kept of a call
 
@@ -63,7 +58,7 @@ of_kept : (code : ℕ) (told : Reply) (g : Flat) (done : CallResult) (change : O
 of_kept code told g done change by =
     by_verdict (λ r. KeptBy g.services (unless_refused code change) r.flat.services) code told g done
     (λ e. subst (λ c. KeptBy g.services c done.flat.services) (sym (kept_at code change e)) by)
-    (λ e. subst (λ c. KeptBy g.services c g.services) (sym (none_at code change e)) (all_same (unmarked g.services)))
+    (λ e. subst (λ c. KeptBy g.services c g.services) (sym (none_at code change e)) refl)
 
 no_change : (olds news : List Service) (change : Option Change) → KeptBy olds change news → not (is_some change) ≡ true
     → KeptBy olds None news
@@ -76,13 +71,13 @@ of_unasked : (code : ℕ) (told : Reply) (g : Flat) (done : CallResult) (change 
 of_unasked code told g done change by none =
     by_verdict (λ r. KeptBy g.services None r.flat.services) code told g done
     (λ e. no_change g.services done.flat.services change by (ap (λ c. not (is_some c)) (sym (kept_at code change e)) ∙ none))
-    (λ e. all_same (unmarked g.services))
+    (λ e. refl)
 
 -- its change could not be kept
 of_failed : (code : ℕ) (told : Reply) (g : Flat) (done : CallResult) → (code ≡ 0 → ⊥)
     → KeptBy g.services None (answered code told g done).flat.services
 of_failed code told g done refused = by_verdict (λ r. KeptBy g.services None r.flat.services) code told g done (λ e. absurd (refused e))
-    (λ e. all_same (unmarked g.services))
+    (λ e. refl)
 
 -- the service that a handle is of is the one with its number
 held_row : (f : Flat) (caller handle : ℕ) → IfSome (held_service f caller handle) (λ row. service_of f row.number ≡ Some row)
@@ -92,8 +87,7 @@ held_row f caller handle = if_some (λ row. service_of f row.number ≡ Some row
 
 one_added : (f : Flat) (moment caller : ℕ) (new : NewService) → KeptBy f.services (create_change f new)
     (create_done (with_moment f moment) caller new).flat.services
-one_added f moment caller new = same_kept _ _ (ap (map config_of) (filter-append stays f.services _)
-    ∙ map-append config_of (filter stays f.services) _)
+one_added f moment caller new = ap (map config_of) (filter-append stays f.services _) ∙ map-append config_of (filter stays f.services) _
 
 create_failed : (l : Limits) (f : Flat) (caller : ℕ) (new : NewService) → create_verdict l f caller new appended.Failed ≡ 0 → ⊥
 create_failed l f caller new e =
@@ -126,9 +120,9 @@ created l f moment caller new appended.Failed right =
 
 one_marked : (f : Flat) (found : Option Service) → Sound f → IfSome found (λ row. service_of f row.number ≡ Some row)
     → KeptBy f.services (option_map removal_of found) (marked_in found f.services)
-one_marked f None s is = all_same (unmarked f.services)
-one_marked f (Some row) s is = same_kept _ _ (marked_unmarked row.number row.config.name f.services
-    (all_named row.number row f.services s.services.names s.services.numbered.rising is))
+one_marked f None s is = refl
+one_marked f (Some row) s is = marked_unmarked row.number row.config.name f.services
+    (all_named row.number row f.services s.services.names s.services.numbered.rising is)
 
 delete_failed : (f : Flat) (caller handle : ℕ) → delete_verdict f caller handle appended.Failed ≡ 0 → ⊥
 delete_failed f caller handle e =
@@ -159,19 +153,18 @@ deleted l f moment caller handle appended.Failed s right =
 one_configured : (f : Flat) (new : Service → Config) (found : Option Service) → ((row : Service) → (new row).name ≡ row.config.name)
     → Sound f → IfSome found (λ row. service_of f row.number ≡ Some row)
     → KeptBy f.services (option_and_then (λ row. changed_from row.config (new row)) found) (configured_in new found f.services)
-one_configured f new None named s is = all_same (unmarked f.services)
+one_configured f new None named s is = refl
 one_configured f new (Some row) named s is =
     let config = new row in
-    elim (is_kept_alike row.config config) as (λ b. is_kept_alike row.config config ≡ b
+    elim (config_alike row.config config) as (λ b. config_alike row.config config ≡ b
     → KeptBy f.services (cond b None (Some (Changed config))) (map (configured_if row.number config) f.services)) [
-      | true ↦ λ alike. alike_unmarked row.number config f.services
-          (All-weaker (λ (r : Service). (r.number == row.number) ≡ true → r ≡ row) (IsAlike row.number config)
-          (λ r only same. subst (λ (old : Service). IsKeptAs config old.config) (sym (only same))
-          (record { name = named row; bytes = sym (same_list (encoding row.config) (encoding config) (sym alike)) })) f.services
+      | true ↦ λ alike. unchanged_unmarked row.number config f.services
+          (All-weaker (λ (r : Service). (r.number == row.number) ≡ true → r ≡ row) (KeepsConfig row.number config)
+          (λ r only same. sym (ap config_of (only same) ∙ alike_same row.config config alike)) f.services
           (found_only (λ (r : Service). r.number) row.number row f.services s.services.numbered.rising is))
-      | false ↦ λ other. same_kept _ _ (configured_unmarked row.number config f.services
+      | false ↦ λ other. configured_unmarked row.number config f.services
           (subst (λ name. All (IsNamed row.number name) f.services) (sym (named row))
-          (all_named row.number row f.services s.services.names s.services.numbered.rising is)))
+          (all_named row.number row f.services s.services.names s.services.numbered.rising is))
     ] refl
 
 -- ## Change

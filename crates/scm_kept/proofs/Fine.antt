@@ -1,9 +1,9 @@
 -- A change that leaves configurations which a manager can begin with can be replayed.
-use Rattle.std.proofs.Common.{ℕ, zero, suc, ◌≡◌, ◌∙◌, ◌<◌, ◌+◌, ◌&&◌, ◌||◌, cond, not, Bool, true, false, List, [], ◌∷◌, ◌++◌, None, Some}
+use Rattle.std.proofs.Common.{ℕ, zero, suc, ◌≡◌, ◌∙◌, ◌<◌, ◌+◌, ◌&&◌, ◌||◌, cond, not, true, false, List, [], ◌∷◌, ◌++◌, None, Some}
 use Rattle.std.proofs.Common.{filter, get_or, length, map, ap, sym, refl, subst, arith}
 use Rattle.std.specs.Prelude.{All, AllPairs}
 use Rattle.std.specs.List.{AllZip, list_any}
-use Rattle.std.proofs.lemmas.Bool.{and_from, and_left, and_right, eq-eqb, lt-ltb, not_from_false, or_from, or_parts}
+use Rattle.std.proofs.lemmas.Bool.{and_from, and_left, and_right, eq-eqb, lt-ltb, not_from_false}
 use Rattle.std.proofs.lemmas.List.{get_or-map, length-map}
 use Rattle.std.proofs.lemmas.List.Elements.{All-cons, All-filter, All-head, All-map, All-nil, All-pop, All-tail, All-weaker}
 use Rattle.std.proofs.lemmas.List.Folds.{list_any_none}
@@ -11,23 +11,18 @@ use Rattle.std.proofs.lemmas.List.Kept.{AllPairs-filter}
 use Rattle.scm_text.specs.Fold.{same_text}
 use Rattle.scm_model.specs.declared.flat.Config.{Config}
 use Rattle.scm_model.specs.declared.flat.Flat.{Flat}
-use Rattle.scm_model.specs.declared.flat.NeedRow.{NeedRow}
 use Rattle.scm_model.specs.declared.flat.Service.{Service}
 use Rattle.scm_model.specs.declared.steps.Change.{Change}
 use Rattle.scm_model.specs.declared.steps.Change.TheVariants.{Created, Changed, Removed}
 use Rattle.scm_model.specs.Needs.{needs_of}
-use Rattle.scm_model.specs.Refused.{first_refusal}
 use Rattle.scm_model.specs.Walks.{IsAcyclic}
 use Rattle.dependency_index.proofs.Cycles.{acyclic_ends}
-use Rattle.service_record.specs.Checks.{check_new, has_bad_lists, has_bad_names, has_bad_numbers, has_bad_texts, is_bad_account}
-use Rattle.service_record.specs.Spelling.{held}
-use Rattle.scm_rules.specs.Needs.{need_row_of, need_rows}
+use Rattle.service_record.specs.Checks.{check_new}
 use Rattle.scm_rules.specs.Opening.{services_from}
 use Rattle.scm_rules.proofs.Needed.{HasNoCycle, fewer}
 use Rattle.record_journal.specs.Entries.{can_replay, has_name, needs_in, shows_as}
 use Rattle.record_journal.specs.Replay.{after_change, replaced_by}
 use Rattle.record_journal.proofs.Renumbered.{renumbered}
-use Rattle.scm_runs.proofs.Calls.{all_pass}
 use Rattle.scm_runs.proofs.Opened.{pairs_opened}
 use Rattle.scm_runs.proofs.Sound.{Sound}
 use Rattle.scm_kept.specs.Replayed.{unmarked}
@@ -160,30 +155,6 @@ can configs (Removed name) fine place = place
 
 -- ## The unmarked configurations of a state
 
-no_refusal : (a b c : Bool) → a ≡ false → b ≡ false → c ≡ false → first_refusal ((a, 123) ∷ (b, 87) ∷ (c, 1057) ∷ []) ≡ 0
-no_refusal true b c x y z = absurd cc
-no_refusal false true c x y z = absurd cc
-no_refusal false false true x y z = absurd cc
-no_refusal false false false x y z = refl
-
-held_accepted : (config : Config) → IsChecked config → IsChecked (held config)
-unfolding check_new
-held_accepted config e =
-    let p = all_pass ((has_bad_names config, 123) ∷ (has_bad_numbers config || has_bad_texts config || has_bad_lists config, 87) ∷
-    (is_bad_account None, 1057) ∷ []) (refl, (refl, (refl, tt))) e in
-    let parts = or_parts (has_bad_numbers config || has_bad_texts config) (has_bad_lists config) p.1.0 in
-    let both = or_parts (has_bad_numbers config) (has_bad_texts config) parts.0 in
-    let numbers = or_parts _ _ both.0 in
-    let lists = or_parts _ _ parts.1 in
-    no_refusal (has_bad_names (held config)) (has_bad_numbers (held config) || has_bad_texts (held config) || has_bad_lists (held config))
-    (is_bad_account None) p.0
-    (or_from _ _ (or_from _ _ (or_from _ _ numbers.0 refl) both.1) (or_from _ _ lists.0 refl)) refl
-
-needs_held : (first : ℕ) (configs : List Config)
-    → need_rows (services_from first (map held configs)) ≡ need_rows (services_from first configs)
-needs_held first [] = refl
-needs_held first (config ∷ configs) = ap (λ (rows : List NeedRow). need_row_of first config ∷ rows) (needs_held (first + 1) configs)
-
 same_configs : (first : ℕ) (rows : List Service)
     → AllZip (λ (y x : Service). y.config ≡ x.config) (services_from first (map config_of rows)) rows
 same_configs first [] = tt
@@ -200,15 +171,12 @@ pub checked_unmarked : (f : Flat) → Sound f → All IsChecked (unmarked f.serv
 checked_unmarked f s = All-map IsChecked config_of (filter stays f.services)
     (All-filter stays (λ (row : Service). IsChecked row.config) f.services s.services.configs)
 
-pub fine_state : (f : Flat) → Sound f → AreFine (map held (unmarked f.services))
+pub fine_state : (f : Flat) → Sound f → AreFine (unmarked f.services)
 fine_state f s = record {
-  names = pairs_of HasOtherName held (unmarked f.services)
-      (pairs_of HasOtherName config_of (filter stays f.services)
-      (AllPairs-filter (λ (a b : Service). HasOtherName a.config b.config) stays f.services s.services.names));
-  displays = pairs_of HasOtherDisplay held (unmarked f.services)
-      (pairs_of HasOtherDisplay config_of (filter stays f.services)
-      (AllPairs-filter (λ (a b : Service). HasOtherDisplay a.config b.config) stays f.services s.services.displays));
-  checked = All-map IsChecked held (unmarked f.services)
-      (All-weaker IsChecked (λ config. IsChecked (held config)) held_accepted (unmarked f.services) (checked_unmarked f s));
-  acyclic = subst (λ (rows : List NeedRow). IsAcyclic (needs_of rows)) (sym (needs_held 1 (unmarked f.services))) (still_free f s);
+  names = pairs_of HasOtherName config_of (filter stays f.services)
+      (AllPairs-filter (λ (a b : Service). HasOtherName a.config b.config) stays f.services s.services.names);
+  displays = pairs_of HasOtherDisplay config_of (filter stays f.services)
+      (AllPairs-filter (λ (a b : Service). HasOtherDisplay a.config b.config) stays f.services s.services.displays);
+  checked = checked_unmarked f s;
+  acyclic = still_free f s;
 }

@@ -2,6 +2,7 @@
 use Rattle.std.proofs.Common.{ℕ, zero, suc, ◌≡◌, ◌∙◌, ◌<◌, ◌==◌, ◌||◌, true, false, cond, not, List, [], ◌∷◌, Some, filter, find, get_or}
 use Rattle.std.proofs.Common.{map, ap, sym, refl, subst, arith}
 use Rattle.std.specs.Prelude.{All, AllPairs}
+use Rattle.std.specs.List.{AllZip}
 use Rattle.std.proofs.lemmas.Cmp.{lists_equiv, nat_eq_equiv, on_equiv}
 use Rattle.std.proofs.lemmas.List.Elements.{All-cons, All-head, All-nil, All-tail}
 use Rattle.scm_text.specs.Fold.{fold_unit, same_text}
@@ -10,8 +11,8 @@ use Rattle.scm_model.specs.declared.flat.Service.{Service}
 use Rattle.scm_model.specs.Changes.{configured_if, marked_if}
 use Rattle.scm_runs.proofs.Lists.{found_has, found_only, same_some}
 use Rattle.scm_rules.proofs.Needed.{replaced}
-use Rattle.scm_kept.specs.Replayed.{AreKeptAs, IsKeptAs, replaced_by, unmarked}
-use Rattle.scm_kept.proofs.Rows.{config_of, stays}
+use Rattle.scm_kept.specs.Replayed.{replaced_by, unmarked}
+use Rattle.scm_kept.proofs.Rows.{IsBare, bare_unmarked, config_of, stays}
 
 -- ## Names
 
@@ -111,25 +112,27 @@ configured_unmarked number config (row ∷ rows) each =
     (map config_of (cond (not mark) (row ∷ filter stays rows) (filter stays rows))))
     [ true ↦ rest | false ↦ ap (λ c. c ∷ map config_of left) same ∙ ap (λ configs. replaced_by config row.config ∷ configs) rest ]
 
--- one that is kept alike
-abbrev pub IsAlike : ℕ → Config → Service → Type 0
-IsAlike number config row = (row.number == number) ≡ true → IsKeptAs config row.config
+-- if it has the number, this is the configuration that it has
+abbrev pub KeepsConfig : ℕ → Config → Service → Type 0
+KeepsConfig number config row = (row.number == number) ≡ true → config ≡ row.config
 
-alike_row : (number : ℕ) (config : Config) (row : Service) → IsAlike number config row
-    → IsKeptAs (configured_if number config row).config row.config
-alike_row number config row alike =
-    elim (row.number == number) as (λ b. (row.number == number) ≡ b → IsKeptAs (cond b (replaced config row) row).config row.config)
-    [ true ↦ λ e. alike e | false ↦ λ e. record { name = refl; bytes = refl } ] refl
+config_kept : (number : ℕ) (config : Config) (row : Service) → KeepsConfig number config row
+    → (configured_if number config row).config ≡ row.config
+config_kept number config row same =
+    elim (row.number == number) as (λ b. (row.number == number) ≡ b → (cond b (replaced config row) row).config ≡ row.config)
+    [ true ↦ λ e. same e | false ↦ λ e. refl ] refl
 
-pub alike_unmarked : (number : ℕ) (config : Config) (rows : List Service) → All (IsAlike number config) rows
-    → AreKeptAs (unmarked (map (configured_if number config) rows)) (unmarked rows)
-alike_unmarked number config [] each = tt
-alike_unmarked number config (row ∷ rows) each =
-    let new = configured_if number config row in
-    let left = filter stays (map (configured_if number config) rows) in
-    let rest = alike_unmarked number config rows (All-tail (IsAlike number config) row rows each) in
-    subst (λ mark. AreKeptAs (map config_of (cond (not mark) (new ∷ left) left)) (unmarked (row ∷ rows)))
-    (sym (mark_kept number config row))
-    (elim row.marked as (λ mark. AreKeptAs (map config_of (cond (not mark) (new ∷ left) left))
-    (map config_of (cond (not mark) (row ∷ filter stays rows) (filter stays rows))))
-    [ true ↦ rest | false ↦ (alike_row number config row (All-head (IsAlike number config) row rows each), rest) ])
+all_bare : (number : ℕ) (config : Config) (rows : List Service) → All (KeepsConfig number config) rows
+    → AllZip IsBare rows (map (configured_if number config) rows)
+all_bare number config [] each = tt
+all_bare number config (row ∷ rows) each = (
+  record {
+    mark = mark_kept number config row;
+    config = config_kept number config row (All-head (KeepsConfig number config) row rows each);
+  },
+  all_bare number config rows (All-tail (KeepsConfig number config) row rows each),
+)
+
+pub unchanged_unmarked : (number : ℕ) (config : Config) (rows : List Service) → All (KeepsConfig number config) rows
+    → unmarked (map (configured_if number config) rows) ≡ unmarked rows
+unchanged_unmarked number config rows each = bare_unmarked rows (map (configured_if number config) rows) (all_bare number config rows each)

@@ -1,9 +1,9 @@
 -- What a request gives for a configuration makes one whose numbers and units are those of their types.
 use Rattle.std.proofs.Common.{ℕ, zero, suc, ◌<◌, ◌+◌, ◌*◌, ◌^◌, ◌==◌, Bool, true, false, cond, List, [], ◌∷◌, Option, None, Some, Ok, Err}
-use Rattle.std.proofs.Common.{length, map, arith}
+use Rattle.std.proofs.Common.{length, map, arith, refl}
 use Rattle.std.specs.Prelude.{All, IfOk, IfSome, option_and_then, option_map, unwrap_or}
 use Rattle.std.specs.List.{AllByRecursion}
-use Rattle.std.proofs.lemmas.List.Elements.{All-cons, All-from_recursion, All-head, All-nil, All-tail}
+use Rattle.std.proofs.lemmas.List.Elements.{All-cons, All-from_recursion, All-head, All-map, All-nil, All-tail, All-weaker}
 use Rattle.scm_text.specs.declared.multi.MultiFault.TheVariants.{EmptyName}
 use Rattle.scm_text.specs.Multi.{Reading, is_mark, names_from, names_of, pieces, read_behind, with_front}
 use Rattle.scm_model.specs.declared.flat.Action.{Action}
@@ -16,13 +16,15 @@ use Rattle.scm_model.specs.declared.calls.ChangeService.{ChangeService}
 use Rattle.scm_model.specs.declared.calls.Info.{Info}
 use Rattle.scm_model.specs.declared.calls.Info.TheVariants as info
 use Rattle.scm_model.specs.declared.calls.NewService.{NewService}
+use Rattle.scm_model.specs.declared.calls.TriggerIn.{TriggerIn}
 use Rattle.service_record.specs.Checks.{name_of_need}
-use Rattle.service_record.specs.Spelling.{FitsNumber, IsUnit}
+use Rattle.service_record.specs.Spelling.{FitsNumber, IsSubtype, IsTrigger, IsUnit}
 use Rattle.scm_rules.specs.Change.{changed_config, display_or, tag_or}
-use Rattle.scm_rules.specs.Change2.{config_at, trigger_of}
+use Rattle.scm_rules.specs.Change2.{config_at, trigger_of, zero_subtype}
 use Rattle.scm_rules.specs.Create.{created_config, display_of, next_tag, tag_of}
 use Rattle.scm_rules.specs.Needs.{need_named, needs_in_bytes, needs_or, needs_read, units_in_bytes}
 use Rattle.scm_kept.specs.Fitting.{AreBytes, AreBytesIn, FitsDelay, IsByte, AreUnits, IsTextIn, FitsChange, FitsCreation, FitsLevel}
+use Rattle.scm_kept.specs.Fitting.{FitsTrigger}
 
 -- ## Needs in bytes
 
@@ -117,6 +119,7 @@ pub record HasUnits (config : Config) : Type 0 where
   pub reset : FitsNumber config.reset
   pub actions : All FitsDelay config.actions
   pub command : AreUnits config.command
+  pub triggers : All IsTrigger config.triggers
 
 given_or : (given : Option (List ℕ)) (old : List ℕ) → IsTextIn given → AreUnits old → AreUnits (unwrap_or given old)
 given_or None old each is = is
@@ -143,6 +146,7 @@ created_units f new fits = record {
   reset = omega arith;
   actions = All-nil FitsDelay;
   command = All-nil IsUnit;
+  triggers = All-nil IsTrigger;
 }
 
 display_left : (old : Config) (given : Option (List ℕ)) → HasUnits old → IsTextIn given → AreUnits (display_or old given)
@@ -166,11 +170,12 @@ changed_units f change old fits is = record {
   reset = is.reset;
   actions = is.actions;
   command = is.command;
+  triggers = is.triggers;
 }
 
-with_flags : (old : Config) (on_exit delayed : Bool) (triggers : List Trigger) → HasUnits old
+with_flags : (old : Config) (on_exit delayed : Bool) (triggers : List Trigger) → All IsTrigger triggers → HasUnits old
     → HasUnits (record old { on_exit = on_exit; delayed = delayed; triggers = triggers })
-with_flags old on_exit delayed triggers is = record {
+with_flags old on_exit delayed triggers each is = record {
   name = is.name;
   display = is.display;
   path = is.path;
@@ -181,6 +186,7 @@ with_flags old on_exit delayed triggers is = record {
   reset = is.reset;
   actions = is.actions;
   command = is.command;
+  triggers = each;
 }
 
 with_actions : (old : Config) (reset : ℕ) (actions : List Action) (command : Option (List ℕ)) → FitsNumber reset → All FitsDelay actions
@@ -197,6 +203,7 @@ with_actions old reset actions command fits each given is = record {
   reset = fits;
   actions = each;
   command = given_or command old.command given is.command;
+  triggers = is.triggers;
 }
 
 with_description : (old : Config) (text : Option (List ℕ)) → IsTextIn text → HasUnits old
@@ -212,7 +219,20 @@ with_description old text given is = record {
   reset = is.reset;
   actions = is.actions;
   command = is.command;
+  triggers = is.triggers;
 }
+
+-- a subtype that is absent is of 16 bytes too
+subtype_is : (given : Option (List ℕ)) → IfSome given IsSubtype → IsSubtype (unwrap_or given zero_subtype)
+subtype_is None is = refl
+subtype_is (Some subtype) is = is
+
+trigger_is : (asked : TriggerIn) → FitsTrigger asked → IsTrigger (trigger_of asked)
+trigger_is asked fits = (fits.0, subtype_is asked.subtype fits.1)
+
+triggers_are : (list : List TriggerIn) → All FitsTrigger list → All IsTrigger (map trigger_of list)
+triggers_are list each =
+    All-map IsTrigger trigger_of list (All-weaker FitsTrigger (λ (asked : TriggerIn). IsTrigger (trigger_of asked)) trigger_is list each)
 
 pub level_units : (asked : Info) (old : Config) → FitsLevel asked → HasUnits old → HasUnits (config_at asked old)
 level_units (info.Description text) old fits is = with_description old text fits is
@@ -220,8 +240,8 @@ level_units (info.Failure reset command None) old fits is = with_actions old old
 level_units (info.Failure reset command (Some [])) old fits is = with_actions old 0 [] command (omega arith) (All-nil FitsDelay) fits.1 is
 level_units (info.Failure reset command (Some (action ∷ actions))) old fits is = with_actions old reset
     (action ∷ actions) command fits.0 fits.2 fits.1 is
-level_units (info.Delayed on) old fits is = with_flags old old.on_exit on old.triggers is
-level_units (info.OnExit on) old fits is = with_flags old on old.delayed old.triggers is
-level_units (info.Triggers list) old fits is = with_flags old old.on_exit old.delayed (map trigger_of list) is
+level_units (info.Delayed on) old fits is = with_flags old old.on_exit on old.triggers is.triggers is
+level_units (info.OnExit on) old fits is = with_flags old on old.delayed old.triggers is.triggers is
+level_units (info.Triggers list) old fits is = with_flags old old.on_exit old.delayed (map trigger_of list) (triggers_are list fits) is
 level_units (info.Other level) old fits is = is
 level_units (info.Nothing level) old fits is = is

@@ -20,11 +20,9 @@ use Rattle.scm_model.specs.declared.steps.Change.TheVariants.{Created, Changed, 
 use Rattle.scm_model.specs.declared.steps.Kept.TheVariants as appended
 use Rattle.scm_model.specs.Rows.{held_by, held_service}
 use Rattle.service_record.specs.Checks.{check_new, has_bad_lists, has_bad_names, has_bad_numbers, has_bad_texts, is_bad_account}
-use Rattle.service_record.specs.Spelling.{held}
 use Rattle.record_journal.specs.Entries.{has_name}
 use Rattle.record_journal.specs.Format.{HasEntry}
-use Rattle.record_journal.specs.ReadBack.{held_change}
-use Rattle.scm_rules.specs.Change.{change_change, change_refusals, change_verdict, changed_from, checked, is_kept_alike, new_config}
+use Rattle.scm_rules.specs.Change.{change_change, change_refusals, change_verdict, changed_from, checked, config_alike, new_config}
 use Rattle.scm_rules.specs.Change.{tags_no_group}
 use Rattle.scm_rules.specs.Change2.{change2_change, change2_refusals, change2_verdict, has_bad_trigger, is_refused, level_config}
 use Rattle.scm_rules.specs.Create.{create_refusals, create_verdict, created_config, tags_nothing}
@@ -46,23 +44,19 @@ use Rattle.scm_kept.proofs.Given.{HasUnits, changed_units, created_units, level_
 use Rattle.scm_kept.proofs.Rows.{config_of, stays}
 use Rattle.scm_kept.proofs.UnitsKept.{HaveUnits}
 
--- what is held of the unmarked configurations
-abbrev pub held_of : Flat → List Config
-held_of f = map held (unmarked f.services)
-
 pub record IsPlaced (f : Flat) (change : Change) : Type 0 where
   pub entry : HasEntry change
-  pub place : HasPlace (held_of f) (held_change change)
+  pub place : HasPlace (unmarked f.services) change
 
 -- ## Configurations
 
 created_entry : (config : Config) → check_new config None ≡ 0 → HasUnits config → HasEntry (Created config)
 created_entry config checked units = let small = is_small config checked in
-    record { body = config_fits config small units; length = spelling_long config small }
+    record { body = config_fits config small units; length = spelling_long config small units }
 
 changed_entry : (config : Config) → check_new config None ≡ 0 → HasUnits config → HasEntry (Changed config)
 changed_entry config checked units = let small = is_small config checked in
-    record { body = config_fits config small units; length = spelling_long config small }
+    record { body = config_fits config small units; length = spelling_long config small units }
 
 removed_entry : (config : Config) → check_new config None ≡ 0 → HasUnits config → HasEntry (Removed config.name)
 removed_entry config checked units =
@@ -107,22 +101,22 @@ found_config P number row (first ∷ rows) is stands each =
 
 found_named : (number : ℕ) (row : Service) (rows : List Service) → find (λ (r : Service). r.number == number) rows ≡ Some row
     → row.marked ≡ false
-    → list_any (has_name row.config.name) (map held (unmarked rows)) ≡ true
+    → list_any (has_name row.config.name) (unmarked rows) ≡ true
 found_named number row [] is stands = absurd cc
 found_named number row (first ∷ rows) is stands =
     elim (first.number == number) as (λ b. cond b (Some first) (find (λ (r : Service). r.number == number) rows) ≡ Some row
-    → list_any (has_name row.config.name) (map held (unmarked (first ∷ rows))) ≡ true) [
+    → list_any (has_name row.config.name) (unmarked (first ∷ rows)) ≡ true) [
       | true ↦ λ g.
           let same = same_some first row g in
           let here : first.marked ≡ false = ap (λ (r : Service). r.marked) same ∙ stands in
           subst (λ mark. list_any (has_name row.config.name)
-          (map held (map config_of (cond (not mark) (first ∷ filter stays rows) (filter stays rows)))) ≡ true) (sym here)
+          (map config_of (cond (not mark) (first ∷ filter stays rows) (filter stays rows))) ≡ true) (sym here)
           (or_left (same_text first.config.name row.config.name) _
           (subst (λ (r : Service). same_text first.config.name r.config.name ≡ true) same (same_itself first.config.name)))
       | false ↦ λ g.
           let rest = found_named number row rows g stands in
           elim first.marked as (λ mark. list_any (has_name row.config.name)
-          (map held (map config_of (cond (not mark) (first ∷ filter stays rows) (filter stays rows)))) ≡ true)
+          (map config_of (cond (not mark) (first ∷ filter stays rows) (filter stays rows))) ≡ true)
           [ true ↦ rest | false ↦ or_right (same_text first.config.name row.config.name) _ rest ]
     ] is
 
@@ -141,12 +135,11 @@ not_refused f code change passes =
       | false ↦ λ e. tt
     ] refl
 
-few_held : (rows : List Service) (n : ℕ) → length rows < n → n ≤ 1024 → length (map held (unmarked rows)) < 1024
-few_held rows n few small =
-    let first = length-map (unmarked rows) held in
-    let second = length-map (filter stays rows) config_of in
-    let third = filter_short stays rows in
-    omega (arith, first, second, third, few, small)
+few_unmarked : (rows : List Service) (n : ℕ) → length rows < n → n ≤ 1024 → length (unmarked rows) < 1024
+few_unmarked rows n few small =
+    let first = length-map (filter stays rows) config_of in
+    let second = filter_short stays rows in
+    omega (arith, first, second, few, small)
 
 creation : (l : Limits) (f : Flat) (caller : ℕ) (new : NewService) → l.services ≤ 1024 → FitsCreation new
     → IfSome (change_of_call l f caller (request.Create new)) (IsPlaced f)
@@ -160,7 +153,7 @@ creation l f caller new few fits =
     let room = or_parts (nat_le l.services (length f.services)) (nat_le l.handles (held_by f caller)) p.1.1.1.1.1.1.1.1.1.0 in
     record {
       entry = created_entry (created_config f new) checked (created_units f new fits);
-      place = few_held f.services l.services (leb-false l.services (length f.services) room.0) few;
+      place = few_unmarked f.services l.services (leb-false l.services (length f.services) room.0) few;
     })
 
 deletion : (l : Limits) (f : Flat) (caller handle : ℕ) → Sound f → HaveUnits f.services
@@ -178,9 +171,9 @@ deletion l f caller handle s each =
       place = found_named row.number row f.services found stands;
     }))
 
--- a configuration that is kept as other bytes
+-- a configuration that isn't equal to the old one is kept
 kept_other : (f : Flat) (old new : Config) → IsPlaced f (Changed new) → IfSome (changed_from old new) (IsPlaced f)
-kept_other f old new placed = elim (is_kept_alike old new) as
+kept_other f old new placed = elim (config_alike old new) as
     (λ b. IfSome (cond b None (Some (Changed new))) (IsPlaced f)) [ true ↦ tt | false ↦ placed ]
 
 placed_by : (f : Flat) (row : Service) (new : Config) → new.name ≡ row.config.name → row.marked ≡ false
@@ -188,7 +181,8 @@ placed_by : (f : Flat) (row : Service) (new : Config) → new.name ≡ row.confi
     → check_new new None ≡ 0 → HasUnits new → IsPlaced f (Changed new)
 placed_by f row new named stands found checked units = record {
   entry = changed_entry new checked units;
-  place = subst (λ name. list_any (has_name name) (held_of f) ≡ true) (sym named) (found_named row.number row f.services found stands);
+  place = subst (λ name. list_any (has_name name) (unmarked f.services) ≡ true) (sym named)
+      (found_named row.number row f.services found stands);
 }
 
 reconfiguration : (l : Limits) (f : Flat) (caller : ℕ) (asked : ChangeService) → FitsChange asked → HaveUnits f.services

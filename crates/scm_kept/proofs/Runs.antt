@@ -3,6 +3,7 @@ use Rattle.std.proofs.Common.{ℕ, ◌≡◌, ◌∙◌, ◌≤◌, ◌||◌, Bo
 use Rattle.std.proofs.Common.{arith}
 use Rattle.std.specs.List.{AllZip}
 use Rattle.std.proofs.lemmas.List.{append-nil, length-map, take_all}
+use Rattle.scm_model.specs.declared.flat.Config.{Config}
 use Rattle.scm_model.specs.declared.flat.Flat.{Flat}
 use Rattle.scm_model.specs.declared.flat.Limits.{Limits}
 use Rattle.scm_model.specs.declared.flat.Service.{Service}
@@ -26,13 +27,13 @@ use Rattle.scm_runs.proofs.Effects.{step_settled}
 use Rattle.scm_runs.proofs.Frames.{finished_keeps}
 use Rattle.scm_runs.proofs.Leaving.{gives as gives_leaving}
 use Rattle.scm_runs.proofs.Sound.{Sound}
-use Rattle.scm_kept.specs.Replayed.{AreKeptAs, UnmarkedAreKept, replayed, unmarked}
-use Rattle.scm_kept.proofs.Alike.{all_same, all_then, replay_alike, replay_append}
-use Rattle.scm_kept.proofs.Calls.{KeptBy, changed, created as kept_created, deleted, level_changed, same_kept}
+use Rattle.scm_kept.specs.Replayed.{UnmarkedAreKept, replayed, unmarked}
+use Rattle.scm_kept.proofs.Alike.{replay_append}
+use Rattle.scm_kept.proofs.Calls.{KeptBy, changed, created as kept_created, deleted, level_changed}
 use Rattle.scm_kept.proofs.Rows.{IsBare, bare_unmarked, purged_unmarked, settled_unmarked}
 use Rattle.std.proofs.lemmas.Bool.{and_parts}
 
--- ## Behind an effect
+-- ## After an effect
 
 -- settling, the answer of a start and the purge leave the unmarked configurations
 pub of_effect : (l : Limits) (f : Flat) (moment : ℕ) (step : Step) → Sound f → IsTrue (may l f moment step)
@@ -49,8 +50,7 @@ of_effect l f moment step s ok =
 by_effect : (l : Limits) (f : Flat) (moment : ℕ) (step : Step) → Sound f → IsTrue (may l f moment step)
     → KeptBy f.services (kept_change l f step) (effect_of l (at_moment f moment step) step).flat.services
     → KeptBy f.services (kept_change l f step) (step_of l f moment step).flat.services
-by_effect l f moment step s ok by = subst (λ configs. AreKeptAs configs
-    (replayed (unmarked f.services) (one_or_none (kept_change l f step)))) (sym (of_effect l f moment step s ok)) by
+by_effect l f moment step s ok by = of_effect l f moment step s ok ∙ by
 
 -- ## Steps that change no configuration
 
@@ -104,8 +104,7 @@ none_kept l f caller asked appended.Failed none = refl
 quiet : (l : Limits) (f : Flat) (moment : ℕ) (step : Step) → kept_change l f step ≡ None
     → unmarked (step_of l f moment step).flat.services ≡ unmarked f.services
     → KeptBy f.services (kept_change l f step) (step_of l f moment step).flat.services
-quiet l f moment step none same = subst (λ change. KeptBy f.services change (step_of l f moment step).flat.services) (sym none)
-    (same_kept _ _ same)
+quiet l f moment step none same = subst (λ change. KeptBy f.services change (step_of l f moment step).flat.services) (sym none) same
 
 -- ## Steps
 
@@ -133,16 +132,16 @@ of_step l f moment step s ok = quiet l f moment step refl (unchanged_by l f (mom
 -- ## Runs
 
 of_run : (l : Limits) (f : Flat) (es : List Entry) → Sound f → IsLegal l f es
-    → AreKeptAs (unmarked (run_state l f es).services) (replayed (unmarked f.services) (kept_changes l f es))
+    → unmarked (run_state l f es).services ≡ replayed (unmarked f.services) (kept_changes l f es)
 unfolding kept_changes
-of_run l f [] s legal = all_same (unmarked f.services)
+of_run l f [] s legal = refl
 of_run l f (e ∷ es) s legal =
     let g = (step_of l f e.0 e.1).flat in
     let one = one_or_none (kept_change l f e.1) in
     let rest = of_run l g es (keeps l f e s legal.0) legal.1 in
     let here = of_step l f e.0 e.1 s legal.0 in
-    subst (AreKeptAs (unmarked (run_state l g es).services)) (sym (replay_append (unmarked f.services) one (kept_changes l g es)))
-    (all_then _ _ _ rest (replay_alike (kept_changes l g es) (unmarked g.services) (replayed (unmarked f.services) one) here))
+    rest ∙ ap (λ (configs : List Config). replayed configs (kept_changes l g es)) here
+    ∙ sym (replay_append (unmarked f.services) one (kept_changes l g es))
 
 pub unmarked_kept : (l : Limits) (f : Flat) (es : List Entry) → Sound f → IsLegal l f es → UnmarkedAreKept l f es
 unfolding state

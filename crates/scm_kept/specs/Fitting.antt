@@ -6,12 +6,13 @@ use Rattle.scm_model.specs.declared.calls.ChangeService.{ChangeService}
 use Rattle.scm_model.specs.declared.calls.Info.{Info}
 use Rattle.scm_model.specs.declared.calls.Info.TheVariants as info
 use Rattle.scm_model.specs.declared.calls.NewService.{NewService}
+use Rattle.scm_model.specs.declared.calls.TriggerIn.{TriggerIn}
 use Rattle.scm_model.specs.declared.calls.Request.{Request}
 use Rattle.scm_model.specs.declared.calls.Request.TheVariants as request
 use Rattle.scm_model.specs.declared.steps.Step.{Step}
 use Rattle.scm_model.specs.declared.steps.Step.TheVariants.{Call}
 use Rattle.scm_model.specs.Entries.{Entry}
-use Rattle.service_record.specs.Spelling.{FitsNumber, IsUnit}
+use Rattle.service_record.specs.Spelling.{FitsNumber, IsSubtype, IsUnit}
 
 abbrev pub IsByte : ℕ → Type 0
 IsByte byte = byte < 2 ^ 8
@@ -46,9 +47,13 @@ pub record FitsChange (change : ChangeService) : Type 0 where
 abbrev pub FitsDelay : Action → Type 0
 FitsDelay action = FitsNumber action.delay
 
+abbrev pub FitsTrigger : TriggerIn → Type 0
+FitsTrigger asked = FitsNumber asked.action × IfSome asked.subtype IsSubtype
+
 abbrev pub FitsLevel : Info → Type 0
 FitsLevel (info.Description text) = IsTextIn text
 FitsLevel (info.Failure reset command actions) = FitsNumber reset × IsTextIn command × IfSome actions (All FitsDelay)
+FitsLevel (info.Triggers list) = All FitsTrigger list
 FitsLevel asked = Unit {0}
 
 abbrev pub FitsRequest : Request → Type 0

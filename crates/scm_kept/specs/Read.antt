@@ -1,29 +1,30 @@
 -- What is read of a journal that changes were appended to.
-use Rattle.std.specs.Prelude.{ℕ, ◌≡◌, ◌≤◌, ◌⊎◌, true, List, ◌++◌, Some, Ok, IfSome, length, map, take}
+use Rattle.std.specs.Prelude.{ℕ, ◌≡◌, ◌≤◌, ◌⊎◌, true, List, ◌++◌, Some, Ok, IfSome, length, take}
 use Rattle.scm_model.specs.declared.flat.Config.{Config}
 use Rattle.scm_model.specs.declared.steps.Change.{Change}
-use Rattle.record_journal.specs.Bearing.{and_changes}
+use Rattle.record_journal.specs.Bearing.{Stood, and_changes, piece_after}
 use Rattle.record_journal.specs.Entries.{can_replay, read_journal}
-use Rattle.record_journal.specs.Format.{HasEntry, piece}
-use Rattle.record_journal.specs.ReadBack.{AreReplayable, held_change}
+use Rattle.record_journal.specs.Format.{HasEntry}
+use Rattle.record_journal.specs.ReadBack.{AreReplayable}
 use Rattle.record_journal.specs.Replay.{after_change, replayed}
 use Rattle.record_journal.specs.declared.replaying.Replay.{Replay}
 
--- the bytes are a journal of these configurations, each of them
-abbrev pub IsJournalOf : List ℕ → List Config → Type 0
-IsJournalOf bytes configs = read_journal bytes ≡ Ok (record { configs = configs; kept = length bytes })
+-- the bytes are a journal of these configurations, each of them, and end in their form
+abbrev pub IsJournalOf : Stood → List Config → Type 0
+IsJournalOf s configs =
+    read_journal s.bytes ≡ Ok (record { configs = configs; kept = length s.bytes; form = s.form })
 
 -- what is kept of a journal that is read is a journal of the same configurations
 abbrev pub IsReadAgain : List ℕ → Replay → Type 0
 IsReadAgain bytes replay =
-    read_journal bytes ≡ Ok replay → IsJournalOf (take replay.kept bytes) replay.configs
+    read_journal bytes ≡ Ok replay
+    → IsJournalOf (record { bytes = take replay.kept bytes; form = replay.form }) replay.configs
 
 -- changes that are appended to a journal and can be replayed are read after what stood
-abbrev pub IsReadOn : List ℕ → List Config → List Change → Type 0
-IsReadOn bytes configs changes =
-    IsJournalOf bytes configs → AreReplayable configs changes
-    → IfSome (and_changes (Some bytes) changes)
-    (λ now. IsJournalOf now (replayed configs (map held_change changes)))
+abbrev pub IsReadOn : Stood → List Config → List Change → Type 0
+IsReadOn s configs changes =
+    IsJournalOf s configs → AreReplayable configs changes
+    → IfSome (and_changes (Some s) changes) (λ now. IsJournalOf now (replayed configs changes))
 
 -- all that was kept is kept, and read as it was
 pub record Rests (bytes : List ℕ) (configs : List Config) (now : List ℕ) : Type 0 where
@@ -33,24 +34,24 @@ pub record Rests (bytes : List ℕ) (configs : List Config) (now : List ℕ) : T
   pub same : replay.configs ≡ configs
 
 -- the whole entry of a change stands after what was kept
-pub record HasMore (bytes now : List ℕ) : Type 0 where
+pub record HasMore (s : Stood) (now : List ℕ) : Type 0 where
   pub change : Change
   pub entry : HasEntry change
-  pub whole : now ≡ bytes ++ piece (length bytes) change
+  pub whole : now ≡ s.bytes ++ piece_after s change
 
 -- what a keeper holds is read as it was kept, unless all of an entry stands after it whose append failed
-abbrev pub IsLeftReadable : List ℕ → List Config → List ℕ → Type 0
-IsLeftReadable bytes configs now = Rests bytes configs now ⊎ HasMore bytes now
+abbrev pub IsLeftReadable : Stood → List Config → List ℕ → Type 0
+IsLeftReadable s configs now = Rests s.bytes configs now ⊎ HasMore s now
 
 -- all that was kept is kept, and read as it was, or with one change more
 pub record Stays (bytes : List ℕ) (configs : List Config) (change : Change) (now : List ℕ) : Type 0 where
   pub replay : Replay
   pub read : read_journal now ≡ Ok replay
   pub kept : length bytes ≤ replay.kept
-  pub either : (replay.configs ≡ configs) ⊎ (replay.configs ≡ after_change configs (held_change change))
+  pub either : (replay.configs ≡ configs) ⊎ (replay.configs ≡ after_change configs change)
 
 -- an append of which only so many bytes were written leaves no damage
-abbrev pub IsReadCut : List ℕ → List Config → Change → ℕ → Type 0
-IsReadCut bytes configs change size =
-    IsJournalOf bytes configs → HasEntry change → can_replay configs (held_change change) ≡ true
-    → Stays bytes configs change (bytes ++ take size (piece (length bytes) change))
+abbrev pub IsReadCut : Stood → List Config → Change → ℕ → Type 0
+IsReadCut s configs change size =
+    IsJournalOf s configs → HasEntry change → can_replay configs change ≡ true
+    → Stays s.bytes configs change (s.bytes ++ take size (piece_after s change))

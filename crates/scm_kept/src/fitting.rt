@@ -3,10 +3,10 @@ ghost use Rattle.std.specs.Prelude.{All, IfSome};
 ghost use Rattle.scm_text.specs.Fold.{HasNoZero};
 ghost use Rattle.scm_kept.specs.Fitting.{AllFit, AreBytes, AreBytesIn, FitsDelay};
 ghost use Rattle.scm_kept.specs.Fitting.{FitsChange, FitsCreation, FitsLevel, FitsRequest};
-ghost use Rattle.scm_kept.specs.Fitting.{FitsStep, AreUnits, IsTextIn};
-ghost use Rattle.service_record.specs.Spelling.{FitsNumber};
+ghost use Rattle.scm_kept.specs.Fitting.{FitsStep, FitsTrigger, AreUnits, IsTextIn};
+ghost use Rattle.service_record.specs.Spelling.{FitsNumber, IsSubtype};
 
-use scm_model::{Action, ChangeService, Info, NewService, Request, Step};
+use scm_model::{Action, ChangeService, Info, NewService, Request, Step, TriggerIn};
 use scm_text::{Items, WText};
 
 fn units_fit(units: &[u16])
@@ -85,6 +85,27 @@ fn given_delays_fit(given: &Option<Items<Action>>)
     }
 }
 
+fn subtype_fits(subtype: &[u8; 16])
+    ensures { IsSubtype subtype.now }
+{}
+
+fn trigger_fits(asked: &TriggerIn)
+    ensures { FitsTrigger asked.now }
+{
+    number_fits(asked.action);
+    if let Some(subtype) = &asked.subtype {
+        subtype_fits(subtype);
+    }
+}
+
+fn triggers_fit(list: &[TriggerIn])
+    ensures { All FitsTrigger list.now }
+{
+    for asked in list {
+        trigger_fits(asked);
+    }
+}
+
 fn level_fits(asked: &Info)
     ensures { FitsLevel asked.now }
 {
@@ -99,6 +120,7 @@ fn level_fits(asked: &Info)
             given_text_fits(command);
             given_delays_fit(actions);
         }
+        Info::Triggers(list) => triggers_fit(list.as_slice()),
         _ => {}
     }
 }

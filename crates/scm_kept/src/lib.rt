@@ -9,6 +9,7 @@ ghost use Rattle.scm_kept.specs.Replayed.{UnmarkedAreKept, unmarked};
 ghost use Rattle.scm_model.specs.declared.flat.Config.{Config};
 ghost use Rattle.scm_model.specs.declared.flat.Limits.{Limits};
 ghost use Rattle.scm_model.specs.declared.steps.Change.{Change};
+ghost use Rattle.record_journal.specs.Bearing.{Stood};
 ghost use Rattle.record_journal.specs.declared.journal.Journal.{Journal};
 ghost use Rattle.record_journal.specs.declared.replaying.Replay.{Replay};
 ghost use Rattle.scm_rules.specs.Histories.{Legal};
@@ -17,12 +18,11 @@ ghost use Rattle.scm_rules.specs.Opening.{IsOpening, opening};
 mod fitting;
 
 use fitting::{bytes_fit, step_fits, steps_fit};
-use scm_model::{Flat, Limits, Step};
+use scm_model::{Flat, Form, Limits, Step};
 use scm_text::Items;
 
 /// Replayed over the configurations that a legal history opens with, its kept changes give those of
-/// the services that aren't marked, in order: under their names, and with the bytes that are kept
-/// of them, which hold no delayed start and no triggers.
+/// the services that aren't marked, in order.
 pub fn unmarked_configurations_are_kept(limits: &Limits, steps: &Items<(u64, Step)>, opening: &Flat)
     requires begins { IsOpening limits.now opening.now }
     requires legal { Legal limits.now opening.now steps.now }
@@ -35,10 +35,10 @@ pub fn unmarked_configurations_are_kept(limits: &Limits, steps: &Items<(u64, Ste
 /// before it is read, or all with its change.
 pub fn what_was_kept_is_read()
     ensures again { (bytes : List ℕ) (replay : Replay) → IsReadAgain bytes replay }
-    ensures on { (bytes : List ℕ) (configs : List Config) (changes : List Change) →
-        IsReadOn bytes configs changes }
-    ensures cut { (bytes : List ℕ) (configs : List Config) (change : Change) (size : ℕ) →
-        IsReadCut bytes configs change size }
+    ensures on { (s : Stood) (configs : List Config) (changes : List Change) →
+        IsReadOn s configs changes }
+    ensures cut { (s : Stood) (configs : List Config) (change : Change) (size : ℕ) →
+        IsReadCut s configs change size }
 {}
 
 /// The unmarked configurations of a state that a history opens in are those that it opens with, in
@@ -56,20 +56,23 @@ pub fn openings_have_their_configurations()
 pub fn what_a_run_keeps_is_read(
     limits: &Limits,
     journal: &[u8],
+    form: Form,
     opening: &Flat,
     steps: &Items<(u64, Step)>,
     next: &(u64, Step),
 )
     requires few { limits.now.services ≤ 1024 }
     requires begins { IsOpening limits.now opening.now }
-    requires read { IsJournalOf journal.now (unmarked opening.now.services) }
+    requires read { IsJournalOf (record { bytes = journal.now; form = form })
+        (unmarked opening.now.services) }
     requires legal { Legal limits.now opening.now steps.now }
     ensures kept { KeepsReplayable limits.now opening.now steps.now }
-    ensures reopened { IsReopened journal.now limits.now opening.now steps.now }
+    ensures reopened { IsReopened (record { bytes = journal.now; form = form })
+        limits.now opening.now steps.now }
     ensures left { (j : Journal) (now : List ℕ) →
-        IsLeftSo journal.now limits.now opening.now steps.now j now }
+        IsLeftSo (record { bytes = journal.now; form = form }) limits.now opening.now steps.now j now }
     ensures cut { MayFollow limits.now opening.now steps.now next.now → (size : ℕ) →
-        IsReopenedCut journal.now limits.now opening.now steps.now next.now.1 size }
+        IsReopenedCut (record { bytes = journal.now; form = form }) limits.now opening.now steps.now next.now.1 size }
 {
     bytes_fit(journal);
     steps_fit(steps.as_slice());

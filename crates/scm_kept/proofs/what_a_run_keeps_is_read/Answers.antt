@@ -9,7 +9,8 @@ returns-clause-kept c =
     let f = c.args.opening.now in
     let es = c.args.steps.now in
     let fits = subst AllFit c.as_slice.ensures c.steps_fit.ensures in
-    kept_replayable l f es c.requires.few c.requires.begins c.requires.legal fits c.args.journal.now
+    kept_replayable l f es c.requires.few c.requires.begins c.requires.legal fits
+    (record { bytes = c.args.journal.now; form = c.args.form })
     (record { bytes = c.bytes_fit.ensures; read = c.requires.read })
 
 pub returns-clause-reopened : goal.returns-clause-reopened
@@ -18,7 +19,8 @@ returns-clause-reopened c =
     let f = c.args.opening.now in
     let es = c.args.steps.now in
     let fits = subst AllFit c.as_slice.ensures c.steps_fit.ensures in
-    reopened l f es c.requires.few c.requires.begins c.requires.legal fits c.args.journal.now
+    reopened l f es c.requires.few c.requires.begins c.requires.legal fits
+    (record { bytes = c.args.journal.now; form = c.args.form })
     (record { bytes = c.bytes_fit.ensures; read = c.requires.read })
 
 pub returns-clause-left : goal.returns-clause-left
@@ -27,7 +29,8 @@ returns-clause-left c =
     let f = c.args.opening.now in
     let es = c.args.steps.now in
     let fits = subst AllFit c.as_slice.ensures c.steps_fit.ensures in
-    left_so l f es c.requires.few c.requires.begins c.requires.legal fits c.args.journal.now
+    left_so l f es c.requires.few c.requires.begins c.requires.legal fits
+    (record { bytes = c.args.journal.now; form = c.args.form })
     (record { bytes = c.bytes_fit.ensures; read = c.requires.read })
 
 pub returns-clause-cut : goal.returns-clause-cut
@@ -36,5 +39,6 @@ returns-clause-cut c = λ ok size.
     let f = c.args.opening.now in
     let es = c.args.steps.now in
     let fits = subst AllFit c.as_slice.ensures c.steps_fit.ensures in
-    reopened_cut l f es c.requires.few c.requires.begins c.requires.legal fits c.args.journal.now
+    reopened_cut l f es c.requires.few c.requires.begins c.requires.legal fits
+    (record { bytes = c.args.journal.now; form = c.args.form })
     (record { bytes = c.bytes_fit.ensures; read = c.requires.read }) c.args.next.now.0 c.args.next.now.1 ok c.step_fits.ensures size
