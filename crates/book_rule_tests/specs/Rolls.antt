@@ -2,6 +2,7 @@
 use Rattle.std.specs.Prelude.{◌≡◌, ℕ, ◌+◌, ◌^◌, ◌<◌, ◌≤◌, ◌==◌, ◌||◌, Bool, false, cond, List, [], ◌∷◌, ◌++◌, length, map, None}
 use Rattle.scm_model.specs.Entries.{Entry}
 use Rattle.scm_model.specs.declared.flat.Principal.TheVariants.{Admin}
+use Rattle.scm_model.specs.declared.steps.Form.TheVariants.{Second}
 use Rattle.scm_model.specs.declared.steps.Name.{Name}
 use Rattle.scm_model.specs.declared.steps.Name.TheVariants.{Caller}
 use Rattle.scm_model.specs.declared.steps.Step.{Step}
@@ -109,6 +110,7 @@ roll_opening = record {
     reboots = 0;
   };
   bytes = None;
+  form = Second;
   faults = 0;
 }
 

@@ -19,7 +19,7 @@ use Rattle.book_rule.specs.Seats.{Identity}
 use Rattle.book_rule.specs.Seats.{Closes as Ends}
 use Rattle.scm_book.specs.declared.book.Closed.{Closed}
 use Rattle.scm_book.specs.declared.held.Held.{Held}
-use Rattle.scm_book.specs.Holds.{Opens, RoseBy, failures_in, way_of}
+use Rattle.scm_book.specs.Holds.{Opens, RoseBy, failures_in, way_of, stood_at}
 use Rattle.scm_book.specs.Calls.{Closes, Goes}
 use Rattle.scm_book.specs.Passes.{Known, Made}
 use Rattle.scm_book.specs.Turns.{known}
@@ -38,10 +38,10 @@ module _ {K : Type 0} (tells : K → Option (List ℕ)) (faulted : K → ℕ) (b
         services = services ∙ (ap (λ (f : Flat). length f.services) ends.fits.manager
             ∙ ap (λ (l : List Entry). length (state b.opening.limits b.opening.first l).services) (sym is));
         journal = h.journal;
-        bears = subst (λ (l : List Entry). Bears (and_changes b.opening.bytes (kept_changes b.opening.limits b.opening.first l)) h.journal
-            (tells c.keeper)) (sym is)
-            (subst (λ (k : K). Bears (and_changes b.opening.bytes (kept_changes b.opening.limits b.opening.first log)) h.journal (tells k))
-            (sym keeper) ends.fits.journal);
+        bears = subst (λ (l : List Entry). Bears (and_changes (stood_at b.opening) (kept_changes b.opening.limits b.opening.first l))
+            h.journal (tells c.keeper)) (sym is)
+            (subst (λ (k : K). Bears (and_changes (stood_at b.opening) (kept_changes b.opening.limits b.opening.first log))
+            h.journal (tells k)) (sym keeper) ends.fits.journal);
         faults = subst (λ (l : List Entry). RoseBy (failures_in l) b.opening.faults (faulted c.keeper)) (sym is)
             (subst (λ (k : K). RoseBy (failures_in log) b.opening.faults (faulted k)) (sym keeper) ends.fits.faults);
       }

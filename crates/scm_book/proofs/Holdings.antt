@@ -19,9 +19,9 @@ use Rattle.scm_history.specs.Kept.{kept_change, kept_changes, one_or_none}
 use Rattle.scm_history.proofs.Kept.{law_of_kept}
 use Rattle.scm_owed.proofs.Effects.{debt_owed}
 use Rattle.book_rule.specs.declared.view.Opening.{Opening}
-use Rattle.record_journal.specs.Bearing.{Bears, and_change, and_changes}
+use Rattle.record_journal.specs.Bearing.{Bears, Stood, and_change, and_changes}
 use Rattle.scm_book.specs.declared.held.Held.{Held}
-use Rattle.scm_book.specs.Holds.{Holds, RoseBy, Runs, failures_in, one_failed}
+use Rattle.scm_book.specs.Holds.{Holds, RoseBy, Runs, failures_in, one_failed, stood_at}
 use Rattle.scm_book.specs.Steps.{Adds, Grows, IsAsItWas, Makes}
 use Rattle.scm_book.proofs.Last.{leaves_owed}
 use Rattle.scm_book.proofs.Room.{room_text, text_kept}
@@ -42,7 +42,7 @@ debt_kept f (Call caller asked append) now = refl
 debt_kept f step now = refl
 
 -- the changes of one entry more
-changes_more : (l : Limits) (f : Flat) (told : Option (List ℕ)) (log : List Entry) (e : Entry)
+changes_more : (l : Limits) (f : Flat) (told : Option Stood) (log : List Entry) (e : Entry)
     → and_changes (and_changes told (kept_changes l f log)) (one_or_none (kept_change l (state l f log) e.1)) ≡ and_changes told
     (kept_changes l f (log ++ e ∷ []))
 changes_more l f told log e =
@@ -81,12 +81,12 @@ module _ {K : Type 0} (tells : K → Option (List ℕ)) (faulted : K → ℕ) (o
         steps = steps_then moment now told grows;
         text = text_then moment now told grows;
         manager = flat_then moment now told grows;
-        journal = subst (λ (t : Option (List ℕ)). Bears t h'.journal (tells h'.keeper))
-            (changes_more o.limits o.first o.bytes log (moment, now))
-            (subst (λ (c : Option Change). Bears (and_changes (and_changes o.bytes (kept_changes o.limits o.first log)) (one_or_none c))
-            h'.journal (tells h'.keeper))
+        journal = subst (λ (t : Option Stood). Bears t h'.journal (tells h'.keeper))
+            (changes_more o.limits o.first (stood_at o) log (moment, now))
+            (subst (λ (c : Option Change). Bears (and_changes (and_changes (stood_at o) (kept_changes o.limits o.first log))
+            (one_or_none c)) h'.journal (tells h'.keeper))
             (λ i. kept_change (holds.limits i) (holds.manager i) now)
-            (made.keeps.bears (and_changes o.bytes (kept_changes o.limits o.first log)) holds.journal));
+            (made.keeps.bears (and_changes (stood_at o) (kept_changes o.limits o.first log)) holds.journal));
         faults = subst (λ (n : ℕ). RoseBy n o.faults (faulted h'.keeper)) (sym (failed_more log (moment, now)))
             (rose_more (failures_in log) (one_failed now) o.faults (faulted h.keeper) (faulted h'.keeper) holds.faults made.keeps.faults);
         room = let owes = owed_then moment now told grows runs in let d = debt_kept h.manager.flat step made.append in let r = made.room in
@@ -111,13 +111,13 @@ module _ {K : Type 0} (tells : K → Option (List ℕ)) (faulted : K → ℕ) (o
         steps = steps_then moment step told grows;
         text = text_then moment step told grows;
         manager = flat_then moment step told grows;
-        journal = subst (λ (t : Option (List ℕ)). Bears t h'.journal (tells h'.keeper))
-            (changes_more o.limits o.first o.bytes log (moment, step))
-            (subst (λ (c : Option Change). Bears (and_changes (and_changes o.bytes (kept_changes o.limits o.first log)) (one_or_none c))
-            h'.journal (tells h'.keeper))
+        journal = subst (λ (t : Option Stood). Bears t h'.journal (tells h'.keeper))
+            (changes_more o.limits o.first (stood_at o) log (moment, step))
+            (subst (λ (c : Option Change). Bears (and_changes (and_changes (stood_at o) (kept_changes o.limits o.first log))
+            (one_or_none c)) h'.journal (tells h'.keeper))
             (sym changeless ∙ (λ i. kept_change (holds.limits i) (holds.manager i) step))
-            (subst (λ (j : _). Bears (and_changes o.bytes (kept_changes o.limits o.first log)) j (tells h'.keeper)) (sym adds.journal)
-            (subst (λ (k : K). Bears (and_changes o.bytes (kept_changes o.limits o.first log)) h.journal (tells k))
+            (subst (λ (j : _). Bears (and_changes (stood_at o) (kept_changes o.limits o.first log)) j (tells h'.keeper)) (sym adds.journal)
+            (subst (λ (k : K). Bears (and_changes (stood_at o) (kept_changes o.limits o.first log)) h.journal (tells k))
             (sym adds.keeper) holds.journal)));
         faults = subst (λ (n : ℕ). RoseBy n o.faults (faulted h'.keeper)) (sym (failed_more log (moment, step)))
             (let f = ap faulted adds.keeper in let b = holds.faults in let z = faultless in omega arith);
@@ -133,8 +133,8 @@ module _ {K : Type 0} (tells : K → Option (List ℕ)) (faulted : K → ℕ) (o
     steps = same.none.steps ∙ holds.steps;
     text = same.none.text ∙ holds.text;
     manager = same.none.flat ∙ holds.manager;
-    journal = subst (λ (j : _). Bears (and_changes o.bytes (kept_changes o.limits o.first log)) j (tells h'.keeper)) (sym same.journal)
-        (subst (λ (k : K). Bears (and_changes o.bytes (kept_changes o.limits o.first log)) h.journal (tells k))
+    journal = subst (λ (j : _). Bears (and_changes (stood_at o) (kept_changes o.limits o.first log)) j (tells h'.keeper)) (sym same.journal)
+        (subst (λ (k : K). Bears (and_changes (stood_at o) (kept_changes o.limits o.first log)) h.journal (tells k))
         (sym same.keeper) holds.journal);
     faults = let f = ap faulted same.keeper in let b = holds.faults in omega arith;
     room = let f = ap owed same.none.flat in let b = holds.room in let r = same.room in omega arith;

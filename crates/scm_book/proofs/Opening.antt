@@ -8,7 +8,7 @@ use Rattle.scm_owed.proofs.Histories.{legal_none}
 use Rattle.scm_owed.proofs.Whole.{opened_owes}
 use Rattle.scm_history.proofs.Kept.{law_of_kept}
 use Rattle.scm_trail.specs.Trailed.{Trailed}
-use Rattle.record_journal.specs.Bearing.{Bears, and_changes}
+use Rattle.record_journal.specs.Bearing.{Bears, and_changes, stood_in}
 use Rattle.record_journal.specs.declared.journal.Journal.{Journal}
 use Rattle.scm_book.specs.declared.held.Held.{Held}
 use Rattle.scm_book.specs.Holds.{Holds, Runs, way_of}
@@ -19,7 +19,7 @@ pub record IsNew {K : Type 0} (tells : K → Option (List ℕ)) (h : Held K) : T
   pub small : AreSmall h.manager.limits
   pub steps : h.manager.steps ≡ 0
   pub text : h.manager.text ≡ 0
-  pub journal : Bears (tells h.keeper) h.journal (tells h.keeper)
+  pub journal : Bears (stood_in h.journal.form (tells h.keeper)) h.journal (tells h.keeper)
   pub trail : h.trail.entries ≡ []
 
 module _ {K : Type 0} (tells : K → Option (List ℕ)) (faulted : K → ℕ) (h : Held K) (new : IsNew tells h) where
@@ -36,8 +36,8 @@ module _ {K : Type 0} (tells : K → Option (List ℕ)) (faulted : K → ℕ) (h
     steps = new.steps;
     text = new.text;
     manager = sym (state_none h.manager.limits h.manager.flat);
-    journal = subst (λ (changes : List Change). Bears (and_changes (tells h.keeper) changes) h.journal (tells h.keeper))
-        (sym (law_of_kept h.manager.limits h.manager.flat).none) new.journal;
+    journal = subst (λ (changes : List Change). Bears (and_changes (stood_in h.journal.form (tells h.keeper)) changes) h.journal
+        (tells h.keeper)) (sym (law_of_kept h.manager.limits h.manager.flat).none) new.journal;
     faults = omega arith;
     room = let none = opened_owes h.manager.limits h.manager.flat new.begins in omega arith;
     fits = omega arith;
@@ -45,14 +45,14 @@ module _ {K : Type 0} (tells : K → Option (List ℕ)) (faulted : K → ℕ) (h
 
 pub is_new : {K : Type 0} (tells : K → Option (List ℕ)) (h : Held K) (m : Managed) (t : Trailed) (j : Journal) (k : K) → h.manager ≡ m
     → h.trail ≡ t → h.journal ≡ j → h.keeper ≡ k
-    → IsOpening m.limits m.flat → AreSmall m.limits → m.steps ≡ 0 → m.text ≡ 0 → Bears (tells k) j (tells k) → t.entries ≡ []
-    → IsNew tells h
+    → IsOpening m.limits m.flat → AreSmall m.limits → m.steps ≡ 0 → m.text ≡ 0
+    → Bears (stood_in j.form (tells k)) j (tells k) → t.entries ≡ [] → IsNew tells h
 is_new tells h m t j k manager trail journal keeper begins small steps text bears none = record {
   begins = subst (λ (x : Managed). IsOpening x.limits x.flat) (sym manager) begins;
   small = subst (λ (x : Managed). AreSmall x.limits) (sym manager) small;
   steps = ap (λ (x : Managed). x.steps) manager ∙ steps;
   text = ap (λ (x : Managed). x.text) manager ∙ text;
-  journal = subst (λ (x : Journal). Bears (tells h.keeper) x (tells h.keeper)) (sym journal)
-      (subst (λ x. Bears (tells x) j (tells x)) (sym keeper) bears);
+  journal = subst (λ (x : Journal). Bears (stood_in x.form (tells h.keeper)) x (tells h.keeper)) (sym journal)
+      (subst (λ x. Bears (stood_in j.form (tells x)) j (tells x)) (sym keeper) bears);
   trail = ap (λ (x : Trailed). x.entries) trail ∙ none;
 }

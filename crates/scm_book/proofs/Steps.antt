@@ -11,7 +11,7 @@ use Rattle.scm_model.specs.declared.steps.Step.{Step}
 use Rattle.scm_model.specs.declared.steps.Step.TheVariants.{Call}
 use Rattle.scm_model.specs.Entries.{Entry, with_kept}
 use Rattle.scm_model.specs.Texts.{text_of}
-use Rattle.record_journal.specs.Bearing.{Bears, BearsMore, BearsSame, and_changes}
+use Rattle.record_journal.specs.Bearing.{Bears, BearsMore, BearsSame, Stood, and_changes}
 use Rattle.scm_rules.specs.Histories.{answer, state}
 use Rattle.scm_rules.specs.Owed.{owed}
 use Rattle.scm_rules.specs.Room.{debt}
@@ -79,7 +79,7 @@ rose_once n a b once rose = omega arith
 
 module _ {K : Type 0} (tells : K → Option (List ℕ)) (faulted : K → ℕ) (h h' : Held K) (step : Step) where
   -- with no change
-  bears_none : (change : Option Change) → change ≡ None → (good : Option (List ℕ)) → Bears good h.journal (tells h.keeper)
+  bears_none : (change : Option Change) → change ≡ None → (good : Option Stood) → Bears good h.journal (tells h.keeper)
       → Bears (and_changes good (one_or_none change)) h.journal (tells h.keeper)
   bears_none change none good bears = subst (λ (c : Option Change). Bears (and_changes good (one_or_none c)) h.journal (tells h.keeper))
       (sym none) bears

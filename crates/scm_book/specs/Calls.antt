@@ -12,7 +12,7 @@ use Rattle.scm_history.specs.Kept.{kept_changes}
 use Rattle.scm_core.specs.Managed.{Managed}
 use Rattle.scm_book.specs.declared.book.Closed.{Closed}
 use Rattle.scm_book.specs.declared.book.Opened.{Opened}
-use Rattle.scm_book.specs.Holds.{RoseBy, failures_in}
+use Rattle.scm_book.specs.Holds.{RoseBy, failures_in, stood_at}
 use Rattle.scm_book.specs.Passes.{Known, Made}
 
 -- ## new, close
@@ -30,10 +30,11 @@ IsFirstPass b k o = (b.opening ≡ o) × (k ≡ record {
 })
 
 module _ {K : Type 0} (tells : K → Option (List ℕ)) (faulted : K → ℕ) where
-  -- its history begins with the manager's state and with what the keeper holds
-  abbrev pub BeginsWith : Managed → K → Opened K → Type 0
-  BeginsWith m keeper made =
-      IsFirstPass made.book made.pass (record { limits = m.limits; first = m.flat; bytes = tells keeper; faults = faulted keeper })
+  -- its history begins with the manager's state, with what the keeper holds, and with the journal's form
+  abbrev pub BeginsWith : Managed → Journal → K → Opened K → Type 0
+  BeginsWith m j keeper made =
+      IsFirstPass made.book made.pass
+      (record { limits = m.limits; first = m.flat; bytes = tells keeper; form = j.form; faults = faulted keeper })
 
   -- a legal history of which the pass had seen a prefix, and all of it where it was alone; and what the keeper holds of its changes
   pub record Closes (o : Opening) (k : Known) (c : Closed K) : Type 0 where
@@ -43,7 +44,7 @@ module _ {K : Type 0} (tells : K → Option (List ℕ)) (faulted : K → ℕ) wh
     pub services : c.services ≡ length (state o.limits o.first c.trail.entries).services
     -- it bears what stood before, and the kept changes in order
     pub journal : Journal
-    pub bears : Bears (and_changes o.bytes (kept_changes o.limits o.first c.trail.entries)) journal (tells c.keeper)
+    pub bears : Bears (and_changes (stood_at o) (kept_changes o.limits o.first c.trail.entries)) journal (tells c.keeper)
     -- each change that was not kept has a fault of the keeper
     pub faults : RoseBy (failures_in c.trail.entries) o.faults (faulted c.keeper)
 

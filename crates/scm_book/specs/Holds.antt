@@ -7,7 +7,7 @@ use Rattle.scm_model.specs.Entries.{Entry, text_in}
 use Rattle.scm_model.specs.Rows.{is_caller}
 use Rattle.book_rule.specs.declared.view.Opening.{Opening}
 use Rattle.book_rule.specs.Ways.{Protocol}
-use Rattle.record_journal.specs.Bearing.{Bears, and_changes}
+use Rattle.record_journal.specs.Bearing.{Bears, Stood, and_changes, stood_in}
 use Rattle.scm_rules.specs.Histories.{Legal, state}
 use Rattle.scm_rules.specs.Opening.{IsOpening}
 use Rattle.scm_rules.specs.Owed.{owed}
@@ -43,6 +43,10 @@ pub record Runs (o : Opening) (log : List Entry) : Type 0 where
   pub opens : Opens o
   pub legal : Legal o.limits o.first log
 
+-- what stood of the journal, and its form, where the keeper tells
+abbrev pub stood_at : Opening → Option Stood
+stood_at o = stood_in o.form o.bytes
+
 -- the caller has joined, and hasn't gone
 abbrev pub Lives : Opening → List Entry → ℕ → Type 0
 Lives o log caller = IsTrue (is_caller (state o.limits o.first log) caller)
@@ -55,7 +59,7 @@ module _ {K : Type 0} (tells : K → Option (List ℕ)) (faulted : K → ℕ) wh
     pub text : h.manager.text ≡ text_in log
     pub manager : h.manager.flat ≡ state o.limits o.first log
     -- the keeper holds what stood before and the kept changes in order, and perhaps a part of one more
-    pub journal : Bears (and_changes o.bytes (kept_changes o.limits o.first log)) h.journal (tells h.keeper)
+    pub journal : Bears (and_changes (stood_at o) (kept_changes o.limits o.first log)) h.journal (tells h.keeper)
     -- each change that was not kept has a fault of the keeper
     pub faults : RoseBy (failures_in log) o.faults (faulted h.keeper)
     -- memory for the entries that are owed
@@ -65,7 +69,13 @@ module _ {K : Type 0} (tells : K → Option (List ℕ)) (faulted : K → ℕ) wh
 
   abbrev pub way_of : Protocol (Held K)
   way_of = record {
-    opening = λ h. record { limits = h.manager.limits; first = h.manager.flat; bytes = tells h.keeper; faults = faulted h.keeper };
+    opening = λ h. record {
+      limits = h.manager.limits;
+      first = h.manager.flat;
+      bytes = tells h.keeper;
+      form = h.journal.form;
+      faults = faulted h.keeper;
+    };
     trail = λ h. h.trail.entries;
     fits = Holds;
     run = Runs;

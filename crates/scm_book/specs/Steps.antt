@@ -6,7 +6,7 @@ use Rattle.scm_model.specs.declared.steps.Step.{Step}
 use Rattle.scm_model.specs.declared.steps.Step.TheVariants.{EndStart, LaunchTaken, Launched, LaunchFailed, Ended, Gone}
 use Rattle.scm_model.specs.Entries.{with_kept}
 use Rattle.scm_model.specs.Texts.{text_of}
-use Rattle.record_journal.specs.Bearing.{Bears, and_changes}
+use Rattle.record_journal.specs.Bearing.{Bears, Stood, and_changes}
 use Rattle.scm_rules.specs.Histories.{answer, state}
 use Rattle.scm_rules.specs.Owed.{owed}
 use Rattle.scm_rules.specs.Room.{debt, has_room}
@@ -89,7 +89,7 @@ module _ {K : Type 0} where
   module _ (tells : K → Option (List ℕ)) (faulted : K → ℕ) where
     -- what the keeper bore it bears with the step's change, if that was kept; if it wasn't, the keeper failed
     pub record Keeps (h h' : Held K) (step : Step) : Type 0 where
-      pub bears : (good : Option (List ℕ)) → Bears good h.journal (tells h.keeper)
+      pub bears : (good : Option Stood) → Bears good h.journal (tells h.keeper)
           → Bears (and_changes good (one_or_none (kept_change h.manager.limits h.manager.flat step))) h'.journal (tells h'.keeper)
       pub faults : RoseBy (one_failed step) (faulted h.keeper) (faulted h'.keeper)
 

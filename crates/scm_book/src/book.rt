@@ -3,7 +3,7 @@ ghost use Rattle.std.specs.Prelude.{◌≡◌, ◌≢◌, false, true, IfErr, If
 ghost use Rattle.scm_model.specs.Ranges.{in_range};
 ghost use Rattle.scm_rules.specs.Opening.{IsOpening};
 ghost use Rattle.scm_core.specs.Managed.{AreSmall};
-ghost use Rattle.record_journal.specs.Bearing.{Bears};
+ghost use Rattle.record_journal.specs.Bearing.{Bears, stood_in};
 ghost use Rattle.scm_book.specs.declared.turning.Recorded.TheVariants.{NoMemory};
 ghost use Rattle.scm_book.specs.Called.{Calls, LeavesWhose, Raises, StartsAs, is_start};
 ghost use Rattle.scm_book.specs.Calls.{BeginsWith, Closes, Goes};
@@ -70,8 +70,8 @@ impl<K: Keeper> Book<K> {
         requires small { AreSmall manager.limits }
         requires steps { manager.steps ≡ 0 }
         requires text { manager.text ≡ 0 }
-        requires journal { Bears (K.held keeper) journal (K.held keeper) }
-        ensures ok { IfOk result (BeginsWith K.held K.faults manager keeper) }
+        requires journal { Bears (stood_in journal.form (K.held keeper)) journal (K.held keeper) }
+        ensures ok { IfOk result (BeginsWith K.held K.faults manager journal keeper) }
         ensures err { IfErr result (λ back. back ≡ keeper) }
     {
         let held = Held::new(alloc, manager, journal, keeper);

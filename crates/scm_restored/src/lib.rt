@@ -3,7 +3,7 @@
 
 ghost use Rattle.std.specs.Prelude.{◌≡◌, ◌≤◌, IfOk, IsErrOf, OnOk, is_some};
 ghost use Rattle.outside.specs.Causes.{Rose};
-ghost use Rattle.record_journal.specs.Bearing.{Bears};
+ghost use Rattle.record_journal.specs.Bearing.{Bears, stood_in};
 ghost use Rattle.scm_core.specs.Managed.{AreSmall};
 ghost use Rattle.scm_rules.specs.Opening.{IsOpening};
 ghost use Rattle.scm_restored.specs.Restored.{Comes, IsUnmoved};
@@ -40,7 +40,8 @@ pub fn open_manager<K: Keeper>(
     ensures opens { IfOk result (λ opened. IsOpening limits opened.manager.flat) }
     ensures unmoved { IfOk result (λ opened. IsUnmoved limits opened.manager) }
     ensures bears { IfOk result (λ opened.
-        Bears (K.held keeper.new) opened.journal (K.held keeper.new)) }
+        Bears (stood_in opened.journal.form (K.held keeper.new)) opened.journal
+        (K.held keeper.new)) }
     ensures grows { K.faults keeper.old ≤ K.faults keeper.new }
     ensures cause { IsErrOf result JournalFault.Failed →
         Rose (K.faults keeper.old) (K.faults keeper.new) }
