@@ -19,11 +19,12 @@ use Rattle.scm_runs.proofs.Histories.{state_is}
 use Rattle.scm_history.specs.Kept.{kept_changes}
 use Rattle.scm_owed.proofs.Histories.{legal_front}
 use Rattle.record_journal.specs.Bearing.{Bears, and_changes}
+use Rattle.record_journal.specs.declared.journal.Journal.{Journal}
 use Rattle.rpc_session.specs.declared.state.Incoming.{Incoming}
 use Rattle.book_rule.specs.declared.view.Opening.{Opening}
 use Rattle.scm_book.specs.declared.book.Closed.{Closed}
 use Rattle.scm_book.specs.Calls.{Closes}
-use Rattle.scm_book.specs.Holds.{RoseBy, failures_in}
+use Rattle.scm_book.specs.Holds.{RoseBy, failures_in, stood_at}
 use Rattle.scm_book.specs.Passes.{Known, Learnt}
 use Rattle.conn_desk.specs.declared.asked.DecodedRequest.{DecodedRequest}
 use Rattle.conn_desk.specs.declared.served.Served.{Served}
@@ -181,7 +182,7 @@ module _ {K : Type 0} (told : K → Option (List ℕ)) (faulted : K → ℕ) whe
       → IsKept told faulted o last.seen c.keeper
   kept_by o last c alone closes = record {
     journal = closes.journal;
-    bears = subst (λ (es : List Entry). Bears (and_changes o.bytes (kept_changes o.limits o.first es)) closes.journal (told c.keeper))
+    bears = subst (λ (es : List Entry). Bears (and_changes (stood_at o) (kept_changes o.limits o.first es)) closes.journal (told c.keeper))
         (closes.alone alone) closes.bears;
     faults = subst (λ (es : List Entry). RoseBy (failures_in es) o.faults (faulted c.keeper)) (closes.alone alone) closes.faults;
   }
@@ -234,26 +235,26 @@ module _ (principal : Principal) (l : Limits) (f : Flat) (bytes : List ℕ) (lef
   room_unjoined : (how : Served) → IsUnjoined (Some bytes) left_now held held_now how → how ≢ served.Full
   room_unjoined how none = λ is. lacks_no_room (sym none.lacks ∙ is)
 
-  room_ends : {K : Type 0} (told : K → Option (List ℕ)) (faulted : K → ℕ) (tells : ℕ → Type 0) (keeper : K) (end : Piped K)
-      → IsEnd told faulted tells principal l f (Some bytes) left_now held held_now keeper end → end.how ≢ served.Full
-  room_ends told faulted tells keeper end (inl (inl joined)) = room_piped tells end.how joined.history joined.piped
-  room_ends told faulted tells keeper end (inl (inr none)) = room_unjoined end.how none.0
-  room_ends told faulted tells keeper end (inr none) = room_unjoined end.how none.0
+  room_ends : {K : Type 0} (told : K → Option (List ℕ)) (faulted : K → ℕ) (tells : ℕ → Type 0) (j : Journal) (keeper : K) (end : Piped K)
+      → IsEnd told faulted tells principal l f j (Some bytes) left_now held held_now keeper end → end.how ≢ served.Full
+  room_ends told faulted tells j keeper end (inl (inl joined)) = room_piped tells end.how joined.history joined.piped
+  room_ends told faulted tells j keeper end (inl (inr none)) = room_unjoined end.how none.0
+  room_ends told faulted tells j keeper end (inr none) = room_unjoined end.how none.0
 
 finds_room : {K : Type 0} (told : K → Option (List ℕ)) (faulted : K → ℕ) (tells : ℕ → Type 0) (principal : Principal) (l : Limits)
-    (f : Flat) (left left_now held held_now : Option (List ℕ)) (keeper : K) (end : Piped K)
-    → IsEnd told faulted tells principal l f left left_now held held_now keeper end → FindsRoom (HasRoomForAll principal l f) left end.how
-finds_room told faulted tells principal l f None left_now held held_now keeper end is = tt
-finds_room told faulted tells principal l f (Some bytes) left_now held held_now keeper end is =
-    λ room. room_ends principal l f bytes left_now held held_now room told faulted tells keeper end is
+    (f : Flat) (j : Journal) (left left_now held held_now : Option (List ℕ)) (keeper : K) (end : Piped K)
+    → IsEnd told faulted tells principal l f j left left_now held held_now keeper end → FindsRoom (HasRoomForAll principal l f) left end.how
+finds_room told faulted tells principal l f j None left_now held held_now keeper end is = tt
+finds_room told faulted tells principal l f j (Some bytes) left_now held held_now keeper end is =
+    λ room. room_ends principal l f bytes left_now held held_now room told faulted tells j keeper end is
 
 -- at a book that opened so
 pub finds_room_at : {K : Type 0} (told : K → Option (List ℕ)) (faulted : K → ℕ) (tells : ℕ → Type 0) (principal : Principal) (l : Limits)
-    (f : Flat) (left left_now held held_now : Option (List ℕ)) (keeper : K) (end : Piped K) (o : Opening)
-    → o ≡ begun_with told faulted l f keeper → IsEndAt told faulted tells principal o left left_now held held_now end
+    (f : Flat) (j : Journal) (left left_now held held_now : Option (List ℕ)) (keeper : K) (end : Piped K) (o : Opening)
+    → o ≡ begun_with told faulted l f j keeper → IsEndAt told faulted tells principal o left left_now held held_now end
     → FindsRoom (HasRoomForAll principal l f) left end.how
-finds_room_at told faulted tells principal l f left left_now held held_now keeper end o opens is =
-    finds_room told faulted tells principal l f left left_now held held_now keeper end
+finds_room_at told faulted tells principal l f j left left_now held held_now keeper end o opens is =
+    finds_room told faulted tells principal l f j left left_now held held_now keeper end
     (inl (subst (λ (x : Opening). IsEndAt told faulted tells principal x left left_now held held_now end) opens is))
 
 -- ## Completeness
@@ -270,30 +271,30 @@ module _ (principal : Principal) (l : Limits) (f : Flat) (bytes : List ℕ) (lef
   ends_unjoined : (how : Served) → IsUnjoined (Some bytes) left_now held held_now how → EndsAs bytes how
   ends_unjoined how none = subst (EndsAs bytes) (sym none.lacks) (lacks bytes)
 
-  ends : {K : Type 0} (told : K → Option (List ℕ)) (faulted : K → ℕ) (tells : ℕ → Type 0) (keeper : K) (end : Piped K)
-      → IsEnd told faulted tells principal l f (Some bytes) left_now held held_now keeper end
+  ends : {K : Type 0} (told : K → Option (List ℕ)) (faulted : K → ℕ) (tells : ℕ → Type 0) (j : Journal) (keeper : K) (end : Piped K)
+      → IsEnd told faulted tells principal l f j (Some bytes) left_now held held_now keeper end
       → IsServedFor end.how source source_now sink sink_now → end.how ≢ served.Full → EndsAs bytes end.how
-  ends told faulted tells keeper end (inl (inl joined)) cause unfilled =
+  ends told faulted tells j keeper end (inl (inl joined)) cause unfilled =
       ends_piped tells end.how joined.history joined.piped cause unfilled
-  ends told faulted tells keeper end (inl (inr none)) cause unfilled = ends_unjoined end.how none.0
-  ends told faulted tells keeper end (inr none) cause unfilled = ends_unjoined end.how none.0
+  ends told faulted tells j keeper end (inl (inr none)) cause unfilled = ends_unjoined end.how none.0
+  ends told faulted tells j keeper end (inr none) cause unfilled = ends_unjoined end.how none.0
 
 complete : {K : Type 0} (told : K → Option (List ℕ)) (faulted : K → ℕ) (tells : ℕ → Type 0) (principal : Principal) (l : Limits) (f : Flat)
-    (left left_now held held_now : Option (List ℕ)) (source source_now sink sink_now : ℕ) (keeper : K) (end : Piped K)
-    → IsEnd told faulted tells principal l f left left_now held held_now keeper end → IsServedFor end.how source source_now sink sink_now
+    (j : Journal) (left left_now held held_now : Option (List ℕ)) (source source_now sink sink_now : ℕ) (keeper : K) (end : Piped K)
+    → IsEnd told faulted tells principal l f j left left_now held held_now keeper end → IsServedFor end.how source source_now sink sink_now
     → IsComplete left source source_now sink sink_now end.how
-complete told faulted tells principal l f None left_now held held_now source source_now sink sink_now keeper end is cause = tt
-complete told faulted tells principal l f (Some bytes) left_now held held_now source source_now sink sink_now keeper end is cause =
+complete told faulted tells principal l f j None left_now held held_now source source_now sink sink_now keeper end is cause = tt
+complete told faulted tells principal l f j (Some bytes) left_now held held_now source source_now sink sink_now keeper end is cause =
     λ no_read no_write unfilled. ends principal l f bytes left_now held held_now source source_now sink sink_now no_read no_write told
-    faulted tells keeper end is cause unfilled
+    faulted tells j keeper end is cause unfilled
 
 -- at a book that opened so
 pub complete_at : {K : Type 0} (told : K → Option (List ℕ)) (faulted : K → ℕ) (tells : ℕ → Type 0) (principal : Principal) (l : Limits)
-    (f : Flat)
+    (f : Flat) (j : Journal)
     (left left_now held held_now : Option (List ℕ)) (source source_now sink sink_now : ℕ) (keeper : K) (end : Piped K) (o : Opening)
-    → o ≡ begun_with told faulted l f keeper → IsEndAt told faulted tells principal o left left_now held held_now end
+    → o ≡ begun_with told faulted l f j keeper → IsEndAt told faulted tells principal o left left_now held held_now end
     → IsServedFor end.how source source_now sink sink_now
     → IsComplete left source source_now sink sink_now end.how
-complete_at told faulted tells principal l f left left_now held held_now source source_now sink sink_now keeper end o opens is cause =
-    complete told faulted tells principal l f left left_now held held_now source source_now sink sink_now keeper end
+complete_at told faulted tells principal l f j left left_now held held_now source source_now sink sink_now keeper end o opens is cause =
+    complete told faulted tells principal l f j left left_now held held_now source source_now sink sink_now keeper end
     (inl (subst (λ (x : Opening). IsEndAt told faulted tells principal x left left_now held held_now end) opens is)) cause

@@ -15,7 +15,7 @@ use Rattle.record_journal.specs.declared.journal.Journal.{Journal}
 use Rattle.rpc_session.specs.declared.state.Incoming.{Incoming}
 use Rattle.rpc_session.specs.Items.{items}
 use Rattle.book_rule.specs.declared.view.Opening.{Opening}
-use Rattle.scm_book.specs.Holds.{RoseBy, failures_in}
+use Rattle.scm_book.specs.Holds.{RoseBy, failures_in, stood_at}
 use Rattle.scm_book.specs.Joins.{has_place}
 use Rattle.scm_book.specs.Passes.{Known, room_behind}
 use Rattle.conn_desk.specs.declared.asked.DecodedRequest.{DecodedRequest}
@@ -84,14 +84,14 @@ pub record CanJoin (o : Opening) (principal : Principal) : Type 0 where
 -- ## The keeper
 
 module _ {K : Type 0} (told : K → Option (List ℕ)) (faulted : K → ℕ) where
-  -- how a book begins, by its limits, its first state and its keeper
-  abbrev pub begun_with : Limits → Flat → K → Opening
-  begun_with l f keeper = record { limits = l; first = f; bytes = told keeper; faults = faulted keeper }
+  -- how a book begins, by its limits, its first state, its journal and its keeper
+  abbrev pub begun_with : Limits → Flat → Journal → K → Opening
+  begun_with l f j keeper = record { limits = l; first = f; bytes = told keeper; form = j.form; faults = faulted keeper }
 
   -- a keeper bears what stood before and a history's kept changes in order, and each change that was not kept has a fault of it
   pub record IsKept (o : Opening) (history : List Entry) (keeper : K) : Type 0 where
     pub journal : Journal
-    pub bears : Bears (and_changes o.bytes (kept_changes o.limits o.first history)) journal (told keeper)
+    pub bears : Bears (and_changes (stood_at o) (kept_changes o.limits o.first history)) journal (told keeper)
     pub faults : RoseBy (failures_in history) o.faults (faulted keeper)
 
   -- a connection was served, and the keeper has the kept changes of its history
@@ -107,8 +107,8 @@ module _ {K : Type 0} (told : K → Option (List ℕ)) (faulted : K → ℕ) whe
       IsJoined tells principal o left left_now held held_now end ⊎ (IsUnjoined left left_now held held_now end.how × IsKept o [] end.keeper)
 
   -- or there was no memory for a book either, and the keeper is as it was
-  abbrev pub IsEnd : (tells : ℕ → Type 0) → Principal → Limits → Flat → (left left_now held held_now : Option (List ℕ)) → K → Piped K
-      → Type 0
-  IsEnd tells principal l f left left_now held held_now keeper end =
-      IsEndAt tells principal (begun_with l f keeper) left left_now held held_now end
+  abbrev pub IsEnd : (tells : ℕ → Type 0) → Principal → Limits → Flat → Journal → (left left_now held held_now : Option (List ℕ)) → K
+      → Piped K → Type 0
+  IsEnd tells principal l f j left left_now held held_now keeper end =
+      IsEndAt tells principal (begun_with l f j keeper) left left_now held held_now end
       ⊎ (IsUnjoined left left_now held held_now end.how × (end.keeper ≡ keeper))

@@ -2,7 +2,7 @@
 ghost use Rattle.std.specs.Prelude.{◌≡◌, ◌≤◌, true};
 ghost use Rattle.scm_core.specs.Managed.{AreSmall};
 ghost use Rattle.scm_rules.specs.Opening.{IsOpening};
-ghost use Rattle.record_journal.specs.Bearing.{Bears};
+ghost use Rattle.record_journal.specs.Bearing.{Bears, stood_in};
 ghost use Rattle.conn_desk.specs.Connection.{IsServedFor};
 ghost use Rattle.conn_desk.specs.declared.served.Served.TheVariants as served;
 ghost use Rattle.conn_worker.specs.Complete.{FindsRoom, IsComplete};
@@ -109,9 +109,9 @@ pub fn serve_alone<R: Wait, K: Keeper, I: Source, O: Sink, C: Clock>(
     requires text { manager.text ≡ 0 }
     requires place { 1 ≤ manager.limits.callers }
     requires room { 2 ≤ manager.limits.steps }
-    requires journal { Bears (K.held keeper) journal (K.held keeper) }
+    requires journal { Bears (stood_in journal.form (K.held keeper)) journal (K.held keeper) }
     ensures ended { IsEnd K.held K.faults (C.tells clock.now) principal manager.limits manager.flat
-        (I.left input.old) (I.left input.new) (O.held output.old) (O.held output.new) keeper
+        journal (I.left input.old) (I.left input.new) (O.held output.old) (O.held output.new) keeper
         result }
     ensures input { I.faults input.old ≤ I.faults input.new }
     ensures output { O.faults output.old ≤ O.faults output.new }

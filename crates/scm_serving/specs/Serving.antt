@@ -5,6 +5,7 @@ use Rattle.scm_model.specs.Entries.{Entry}
 use Rattle.scm_model.specs.declared.flat.Flat.{Flat}
 use Rattle.scm_model.specs.declared.flat.Limits.{Limits}
 use Rattle.scm_rules.specs.Histories.{Legal, state}
+use Rattle.record_journal.specs.declared.journal.Journal.{Journal}
 use Rattle.book_rule.specs.declared.view.Opening.{Opening}
 use Rattle.scm_pipe.specs.Piping.{IsKept, begun_with}
 use Rattle.scm_server.specs.All.{EndsAll, ServedIn}
@@ -60,6 +61,6 @@ module _ {K : Type 0} (told : K → Option (List ℕ)) (faulted : K → ℕ) whe
     pub user : u' ≡ u
     pub same : now ≡ keeper
 
-  abbrev pub ServesBook : (tells : ℕ → Type 0) → Limits → Flat → (a a' u u' : Told) → (keeper now : K) → BookEnd → Type 0
-  ServesBook tells l f a a' u u' keeper now end = IsServed tells (begun_with told faulted l f keeper) a a' u u' now end
+  abbrev pub ServesBook : (tells : ℕ → Type 0) → Limits → Flat → Journal → (a a' u u' : Told) → (keeper now : K) → BookEnd → Type 0
+  ServesBook tells l f j a a' u u' keeper now end = IsServed tells (begun_with told faulted l f j keeper) a a' u u' now end
       ⊎ IsUnserved a a' u u' keeper now end

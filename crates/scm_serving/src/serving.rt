@@ -2,7 +2,7 @@
 ghost use Rattle.std.specs.Prelude.{◌≡◌};
 ghost use Rattle.scm_core.specs.Managed.{AreSmall};
 ghost use Rattle.scm_rules.specs.Opening.{IsOpening};
-ghost use Rattle.record_journal.specs.Bearing.{Bears};
+ghost use Rattle.record_journal.specs.Bearing.{Bears, stood_in};
 ghost use Rattle.scm_book.specs.Passes.{IsOf};
 ghost use Rattle.scm_serving.specs.Listening.{told_by};
 ghost use Rattle.scm_serving.specs.Serving.{HasClosed, IsTold, ServesBook};
@@ -123,8 +123,8 @@ where
     requires small { AreSmall manager.limits }
     requires steps { manager.steps ≡ 0 }
     requires text { manager.text ≡ 0 }
-    requires journal { Bears (K.held keeper) journal (K.held keeper) }
-    ensures { ServesBook K.held K.faults (C.tells clock.now) manager.limits manager.flat
+    requires journal { Bears (stood_in journal.form (K.held keeper)) journal (K.held keeper) }
+    ensures { ServesBook K.held K.faults (C.tells clock.now) manager.limits manager.flat journal
         (told_by N.left N.accepted N.noted N.listened N.faults admin)
         (told_by N.left N.accepted N.noted N.listened N.faults result.admin)
         (told_by N.left N.accepted N.noted N.listened N.faults user)

@@ -5,14 +5,14 @@ use Rattle.scm_pipe.proofs.alone.serve_alone.Goals as goal
 pub serve_root-requires-clause-can : goal.serve_root-requires-clause-can
 serve_root-requires-clause-can g c =
     can_join c.in-Ok-new.opened.book.opening c.args.manager.limits c.args.manager.flat (g.K.Keeper.held c.args.keeper)
-    (g.K.Keeper.faults c.args.keeper) c.args.principal
+    c.args.journal.form (g.K.Keeper.faults c.args.keeper) c.args.principal
     c.in-Ok-new.ensures.ok.0 c.requires.begins c.requires.place c.requires.room
 
 pub returns-in-Ok-new-clause-complete : goal.returns-in-Ok-new-clause-complete
 returns-in-Ok-new-clause-complete g c =
     let served = c.serve_root in
     complete_at g.K.Keeper.held g.K.Keeper.faults (g.C.Clock.tells c.args.clock.now) c.args.principal c.args.manager.limits
-    c.args.manager.flat
+    c.args.manager.flat c.args.journal
     (g.I.Source.left c.args.input.now) (g.I.Source.left served.new.input) (g.O.Sink.held c.args.output.now)
     (g.O.Sink.held served.new.output)
     (g.I.Source.faults c.args.input.now) (g.I.Source.faults served.new.input) (g.O.Sink.faults c.args.output.now)
@@ -23,7 +23,7 @@ pub returns-in-Ok-new-clause-room : goal.returns-in-Ok-new-clause-room
 returns-in-Ok-new-clause-room g c =
     let served = c.serve_root in
     finds_room_at g.K.Keeper.held g.K.Keeper.faults (g.C.Clock.tells c.args.clock.now) c.args.principal c.args.manager.limits
-    c.args.manager.flat
+    c.args.manager.flat c.args.journal
     (g.I.Source.left c.args.input.now) (g.I.Source.left served.new.input) (g.O.Sink.held c.args.output.now)
     (g.O.Sink.held served.new.output) c.args.keeper served.result
     c.in-Ok-new.opened.book.opening c.in-Ok-new.ensures.ok.0 served.ensures.ended
