@@ -7,13 +7,15 @@ use Rattle.scm_model.specs.declared.flat.Flat.{Flat}
 use Rattle.scm_model.specs.declared.flat.Limits.{Limits}
 use Rattle.scm_model.specs.declared.flat.Principal.{Principal}
 use Rattle.scm_model.specs.declared.steps.Change.{Change}
+use Rattle.scm_model.specs.declared.steps.Form.{Form}
 use Rattle.scm_model.specs.Entries.{Entry}
 use Rattle.scm_core.specs.Managed.{Managed}
 use Rattle.scm_history.specs.Kept.{kept_changes}
 use Rattle.scm_history.proofs.Kept.{law_of_kept}
-use Rattle.record_journal.specs.Bearing.{Bears, and_changes}
+use Rattle.record_journal.specs.Bearing.{Bears, Stood, and_changes, stood_in}
 use Rattle.record_journal.specs.declared.journal.Journal.{Journal}
 use Rattle.record_journal.specs.declared.opening.JournalFault.{JournalFault}
+use Rattle.record_journal.specs.declared.replaying.Replay.{Replay}
 use Rattle.scm_book.specs.Holds.{RoseBy, failures_in}
 use Rattle.rpc_session.specs.Items.{StreamEnd, AtRest, Unfinished, BadPdu, TooLong, items}
 use Rattle.conn_desk.specs.Connection.{IsServedFor}
@@ -33,46 +35,52 @@ use Rattle.scmd_top.proofs.Openings.{fails, not_9, openable}
 
 -- ## What is kept
 
--- what is borne behind what was cut is borne behind the kept front of what stood
-behind : (kept : ℕ) (old mid now : Option (List ℕ)) (changes : List Change) (j : Journal) → IsCut kept old mid
-    → Bears (and_changes mid changes) j now → Bears (and_changes (kept_front kept old) changes) j now
-behind kept None mid now changes j cut h = subst (λ (good : Option (List ℕ)). Bears good j now) (sym (no_more changes)) tt
-behind kept (Some bytes) mid now changes j cut h = subst (λ (good : Option (List ℕ)). Bears (and_changes good changes) j now) cut h
+-- what is borne after what was cut is borne after the kept front of what stood, which ends in the same form
+behind : (replay : Replay) (form : Form) (old mid now : Option (List ℕ)) (changes : List Change) (j : Journal) → form ≡ replay.form
+    → IsCut replay.kept old mid
+    → Bears (and_changes (stood_in form mid) changes) j now → Bears (and_changes (kept_front replay old) changes) j now
+behind replay form None mid now changes j ends cut h = subst (λ (good : Option Stood). Bears good j now) (sym (no_more changes)) tt
+behind replay form (Some bytes) mid now changes j ends cut h =
+    subst (λ (good : Option Stood). Bears (and_changes good changes) j now)
+    (ap (λ (f : Form). stood_in f mid) ends ∙ ap (stood_in replay.form) cut) h
 
 module _ {K : Type 0} (told : K → Option (List ℕ)) (faulted : K → ℕ) where
   -- a keeper that was opened has the kept changes of a history
-  pub keeps : (kept : ℕ) (l : Limits) (f : Flat) (history : List Entry) (keeper mid now : K) → IsCut kept (told keeper) (told mid)
+  pub keeps : (replay : Replay) (l : Limits) (f : Flat) (j : Journal) (history : List Entry) (keeper mid now : K) → j.form ≡ replay.form
+      → IsCut replay.kept (told keeper) (told mid)
       → faulted mid ≡ faulted keeper
-      → IsKept told faulted (begun_with told faulted l f mid) history now
-      → KeepsJournal kept (kept_changes l f history) (failures_in history) (side told faulted keeper now)
-  keeps kept l f history keeper mid now cut same k = record {
+      → IsKept told faulted (begun_with told faulted l f j mid) history now
+      → KeepsJournal replay (kept_changes l f history) (failures_in history) (side told faulted keeper now)
+  keeps replay l f j history keeper mid now ends cut same k = record {
     journal = k.journal;
-    bears = behind kept (told keeper) (told mid) (told now) (kept_changes l f history) k.journal cut k.bears;
+    bears = behind replay j.form (told keeper) (told mid) (told now) (kept_changes l f history) k.journal ends cut k.bears;
     faults = subst (λ (n : ℕ). RoseBy (failures_in history) n (faulted now)) same k.faults;
   }
 
-  rests_as : (kept : ℕ) (j : Journal) (keeper mid : K) → IsCut kept (told keeper) (told mid) → faulted mid ≡ faulted keeper
-      → Bears (told mid) j (told mid)
-      → KeepsJournal kept [] 0 (side told faulted keeper mid)
-  rests_as kept j keeper mid cut same b = record {
+  rests_as : (replay : Replay) (j : Journal) (keeper mid : K) → j.form ≡ replay.form → IsCut replay.kept (told keeper) (told mid)
+      → faulted mid ≡ faulted keeper
+      → Bears (stood_in j.form (told mid)) j (told mid)
+      → KeepsJournal replay [] 0 (side told faulted keeper mid)
+  rests_as replay j keeper mid ends cut same b = record {
     journal = j;
-    bears = behind kept (told keeper) (told mid) (told mid) [] j cut b;
+    bears = behind replay j.form (told keeper) (told mid) (told mid) [] j ends cut b;
     faults = subst (λ (n : ℕ). RoseBy 0 n (faulted mid)) same (omega arith);
   }
 
   -- nothing was asked of it since
-  pub rests : (kept : ℕ) (j : Journal) (keeper mid now : K) → IsCut kept (told keeper) (told mid) → faulted mid ≡ faulted keeper
-      → Bears (told mid) j (told mid)
-      → now ≡ mid → KeepsJournal kept [] 0 (side told faulted keeper now)
-  rests kept j keeper mid now cut same b e = subst (λ (k : K). KeepsJournal kept [] 0 (side told faulted keeper k)) (sym e)
-      (rests_as kept j keeper mid cut same b)
+  pub rests : (replay : Replay) (j : Journal) (keeper mid now : K) → j.form ≡ replay.form → IsCut replay.kept (told keeper) (told mid)
+      → faulted mid ≡ faulted keeper
+      → Bears (stood_in j.form (told mid)) j (told mid)
+      → now ≡ mid → KeepsJournal replay [] 0 (side told faulted keeper now)
+  rests replay j keeper mid now ends cut same b e = subst (λ (k : K). KeepsJournal replay [] 0 (side told faulted keeper k)) (sym e)
+      (rests_as replay j keeper mid ends cut same b)
 
   -- ## The connection
 
   -- nobody joined
   not_come : (path : Bool) (moment : ℕ) (o : Opened) (a b : Side) (keeper mid : K) (end : Piped K)
       (h : HasOpened path [] (side told faulted keeper mid) moment o) → end.how ≡ served.OutOfMemory → a.told_now ≡ a.told
-      → b.told_now ≡ b.told → KeepsJournal h.replay.kept [] 0 (side told faulted keeper end.keeper)
+      → b.told_now ≡ b.told → KeepsJournal h.replay [] 0 (side told faulted keeper end.keeper)
       → HasNotJoined path end.how (record { input = a; output = b; keeper = side told faulted keeper end.keeper })
   not_come path moment o a b keeper mid end h lacks unread unwritten kept = record {
     replay = h.replay;
@@ -85,8 +93,8 @@ module _ {K : Type 0} (told : K → Option (List ℕ)) (faulted : K → ℕ) whe
 
   came : (tells : ℕ → Type 0) (path : Bool) (principal : Principal) (moment : ℕ) (o : Opened) (a b : Side) (keeper mid : K) (end : Piped K)
       → tells moment → (h : HasOpened path [] (side told faulted keeper mid) moment o)
-      → IsEnd told faulted tells principal program_limits (program_opening [] h.replay.configs moment) a.told a.told_now b.told b.told_now
-      mid end
+      → IsEnd told faulted tells principal program_limits (program_opening [] h.replay.configs moment) o.journal a.told a.told_now b.told
+      b.told_now mid end
       → HasCome tells path principal end.how (record { input = a; output = b; keeper = side told faulted keeper end.keeper })
   came tells path principal moment o a b keeper mid end at h (inl (inl j)) = inl (record {
     replay = h.replay;
@@ -95,33 +103,34 @@ module _ {K : Type 0} (told : K → Option (List ℕ)) (faulted : K → ℕ) whe
     opened_at = at;
     history = j.history;
     piped = j.piped;
-    kept = keeps h.replay.kept program_limits (program_opening [] h.replay.configs moment) j.history keeper mid end.keeper h.cut h.faults
-        j.kept;
+    kept = keeps h.replay program_limits (program_opening [] h.replay.configs moment) o.journal j.history keeper mid end.keeper h.form h.cut
+        h.faults j.kept;
     again = opens_again path [] (side told faulted keeper mid) moment o h j.history (failures_in j.history)
         (side told faulted keeper end.keeper) refl j.piped.legal
-        (keeps h.replay.kept program_limits (program_opening [] h.replay.configs moment) j.history keeper mid end.keeper h.cut h.faults
-        j.kept);
+        (keeps h.replay program_limits (program_opening [] h.replay.configs moment) o.journal j.history keeper mid end.keeper h.form h.cut
+        h.faults j.kept);
   })
   came tells path principal moment o a b keeper mid end at h (inl (inr u)) =
       inr (not_come path moment o a b keeper mid end h u.0.lacks u.0.unread u.0.unwritten
-      (subst (λ (changes : List Change). KeepsJournal h.replay.kept changes 0 (side told faulted keeper end.keeper))
+      (subst (λ (changes : List Change). KeepsJournal h.replay changes 0 (side told faulted keeper end.keeper))
       (law_of_kept program_limits (program_opening [] h.replay.configs moment)).none
-      (keeps h.replay.kept program_limits (program_opening [] h.replay.configs moment) [] keeper mid end.keeper h.cut h.faults u.1)))
+      (keeps h.replay program_limits (program_opening [] h.replay.configs moment) o.journal [] keeper mid end.keeper h.form h.cut h.faults
+      u.1)))
   came tells path principal moment o a b keeper mid end at h (inr u) =
       inr (not_come path moment o a b keeper mid end h u.0.lacks u.0.unread u.0.unwritten
-      (rests h.replay.kept o.journal keeper mid end.keeper h.cut h.faults h.bears u.1))
+      (rests h.replay o.journal keeper mid end.keeper h.form h.cut h.faults h.bears u.1))
 
   pub come : (tells : ℕ → Type 0) (path : Bool) (principal : Principal) (moment : ℕ) (o : Opened) (a b : Side) (keeper mid : K)
       (end : Piped K)
       → tells moment → HasOpened path [] (side told faulted keeper mid) moment o
-      → IsEnd told faulted tells principal o.manager.limits o.manager.flat a.told a.told_now b.told b.told_now mid end
+      → IsEnd told faulted tells principal o.manager.limits o.manager.flat o.journal a.told a.told_now b.told b.told_now mid end
       → HasCome tells path principal end.how (record { input = a; output = b; keeper = side told faulted keeper end.keeper })
   come tells path principal moment o a b keeper mid end at h e =
       came tells path principal moment o a b keeper mid end at h
-      (subst (λ (l : Limits). IsEnd told faulted tells principal l (program_opening [] h.replay.configs moment) a.told a.told_now b.told
-      b.told_now mid end) h.new.limits
-      (subst (λ (f : Flat). IsEnd told faulted tells principal o.manager.limits f a.told a.told_now b.told b.told_now mid end) h.new.flat
-      e))
+      (subst (λ (l : Limits). IsEnd told faulted tells principal l (program_opening [] h.replay.configs moment) o.journal a.told a.told_now
+      b.told b.told_now mid end) h.new.limits
+      (subst (λ (f : Flat). IsEnd told faulted tells principal o.manager.limits f o.journal a.told a.told_now b.told b.told_now mid end)
+      h.new.flat e))
 
 -- ## Completeness
 

@@ -7,12 +7,13 @@ use Rattle.outside.specs.Causes.{Rose}
 use Rattle.scm_model.specs.declared.flat.Config.{Config}
 use Rattle.scm_model.specs.declared.flat.Flat.{Flat}
 use Rattle.scm_model.specs.declared.flat.Limits.{Limits}
+use Rattle.scm_model.specs.declared.steps.Form.TheVariants.{Second}
 use Rattle.scm_core.specs.Managed.{AreSmall, Managed}
 use Rattle.scm_core.proofs.Opened.{opens_with_nothing}
 use Rattle.scm_rules.specs.Opening.{CanOpen, IsOpening, opening}
 use Rattle.scm_kept.specs.Replayed.{unmarked}
 use Rattle.scm_kept.proofs.Opened.{of_opening}
-use Rattle.record_journal.specs.Bearing.{Bears}
+use Rattle.record_journal.specs.Bearing.{Bears, stood_in}
 use Rattle.record_journal.specs.Keepers.{IsEmptied}
 use Rattle.record_journal.specs.Opening.{Restores, LeavesAt, LeavesAll}
 use Rattle.record_journal.specs.declared.journal.Journal.{Journal}
@@ -43,11 +44,17 @@ has_room m e = subst (λ (l : Limits). 2 ≤ l.steps) (sym e) (omega arith)
 -- ## Without a path
 
 abbrev empty_journal : Journal
-empty_journal = record { good = 0; dirty = false }
+empty_journal = record { good = 0; dirty = false; form = Second }
 
-emptied_bears : (old now : Option (List ℕ)) → IsEmptied old now → Bears now empty_journal now
+emptied_bears : (old now : Option (List ℕ)) → IsEmptied old now → Bears (stood_in Second now) empty_journal now
 emptied_bears old None e = tt
-emptied_bears old (Some bytes) e = record { tail = []; holds = sym (append-nil bytes); part = refl; long = ap length (sym e) }
+emptied_bears old (Some bytes) e = record {
+  tail = [];
+  holds = sym (append-nil bytes);
+  part = refl;
+  long = ap length (sym e);
+  form = refl;
+}
 
 nothing_taken : (bytes : List ℕ) → [] ≡ take 0 bytes
 nothing_taken [] = refl
@@ -67,12 +74,14 @@ pub opens_empty_at : (keeper : Side) (groups : List (List ℕ)) (moment : ℕ) (
     → IsEmptied keeper.told keeper.told_now → keeper.faults_now ≡ keeper.faults → IsNew groups [] moment m
     → OpensJournal false groups keeper moment (Ok (record { manager = m; journal = j }))
 opens_empty_at keeper groups moment m j is e same new = record {
-  replay = record { configs = []; kept = 0 };
+  replay = record { configs = []; kept = 0; form = Second };
   read = refl;
   new = new;
   begins = begins_empty m groups moment new;
   cut = emptied_cut keeper.told keeper.told_now e;
-  bears = subst (λ (x : Journal). Bears keeper.told_now x keeper.told_now) (sym is) (emptied_bears keeper.told keeper.told_now e);
+  form = ap (λ (x : Journal). x.form) is;
+  bears = subst (λ (x : Journal). Bears (stood_in x.form keeper.told_now) x keeper.told_now) (sym is)
+      (emptied_bears keeper.told keeper.told_now e);
   faults = same;
 }
 
@@ -87,7 +96,7 @@ left_cut : (old now : Option (List ℕ)) (r : Restored) → IfSome old (λ bytes
     → LeavesAll old now (Err faults.Failed)
 left_cut None now r a h = tt
 left_cut (Some bytes) None r a h = absurd h
-left_cut (Some bytes) (Some now) r a h = inr (record { configs = r.configs; kept = r.journal.good }, a, h)
+left_cut (Some bytes) (Some now) r a h = inr (record { configs = r.configs; kept = r.journal.good; form = r.journal.form }, a, h)
 
 left_so : (old now : Option (List ℕ)) → LeavesAll old now (Err faults.OutOfMemory) → LeavesAll old now (Err faults.Failed)
 left_so None now h = tt
@@ -103,15 +112,17 @@ opened_so : (keeper : Side) (groups : List (List ℕ)) (moment : ℕ) (o : Opene
     → IfSome keeper.told (λ bytes. Restores bytes restored)
     → LeavesAt true keeper.told keeper.told_now restored → Manages program_limits groups moment restored (Ok o)
     → IsOpening program_limits o.manager.flat
-    → IsUnmoved program_limits o.manager → Bears keeper.told_now o.journal keeper.told_now → keeper.faults_now ≡ keeper.faults
+    → IsUnmoved program_limits o.manager → Bears (stood_in o.journal.form keeper.told_now) o.journal keeper.told_now
+    → keeper.faults_now ≡ keeper.faults
     → HasOpened true groups keeper moment o
 opened_so keeper groups moment o (Err fault) a l m begins u b same = absurd m
 opened_so keeper groups moment o (Ok r) a l m begins u b same = record {
-  replay = record { configs = r.configs; kept = r.journal.good };
+  replay = record { configs = r.configs; kept = r.journal.good; form = r.journal.form };
   read = a;
   new = record { flat = m.0; limits = u.limits_are; steps = u.steps; text = u.text };
   begins = subst (λ (l : Limits). IsOpening l o.manager.flat) (sym u.limits_are) begins;
   cut = cut_so keeper.told keeper.told_now r l;
+  form = ap (λ (x : Journal). x.form) m.1;
   bears = b;
   faults = same;
 }
@@ -136,7 +147,7 @@ unopened_so keeper groups moment (faults.Damaged place) (Ok r) a l m c = absurd 
 pub opens_so : (keeper : Side) (groups : List (List ℕ)) (moment : ℕ) (result : Result Opened JournalFault)
     → Comes program_limits groups moment true keeper.told keeper.told_now result
     → IfOk result (λ o. IsOpening program_limits o.manager.flat) → IfOk result (λ o. IsUnmoved program_limits o.manager)
-    → IfOk result (λ o. Bears keeper.told_now o.journal keeper.told_now)
+    → IfOk result (λ o. Bears (stood_in o.journal.form keeper.told_now) o.journal keeper.told_now)
     → (IsErrOf result faults.Failed → Rose keeper.faults keeper.faults_now)
     → OnOk result (keeper.faults_now ≡ keeper.faults) → OpensJournal true groups keeper moment result
 opens_so keeper groups moment (Ok o) h begins u b c same = opened_so keeper groups moment o h.restored h.answer h.leaves h.manages begins u

@@ -6,6 +6,7 @@ use Rattle.outside.specs.Causes.{Rose}
 use Rattle.scm_core.specs.Managed.{Managed}
 use Rattle.scm_core.proofs.Opened.{opens_with_nothing}
 use Rattle.scm_model.specs.declared.flat.Config.{Config}
+use Rattle.scm_model.specs.declared.steps.Form.TheVariants.{Second}
 use Rattle.record_journal.specs.declared.opening.JournalFault.{JournalFault}
 use Rattle.record_journal.specs.declared.replaying.Replay.{Replay}
 use Rattle.scm_restored.specs.declared.Opened.{Opened}
@@ -111,7 +112,7 @@ pub answered_alone : (how : Replayed) (s : Sides) → IsUntouched s.keeper
     → LeavesReplayed [] s.input.told s.input.told_now s.output.told s.output.told_now how
     → IsReplayCaused how s.input.faults s.input.faults_now s.output.faults s.output.faults_now → HasReplayed false s (status_of_replay how)
 answered_alone how s untouched h c = record {
-  replay = record { configs = []; kept = 0 };
+  replay = record { configs = []; kept = 0; form = Second };
   stood = record { read = refl; can = opens_with_nothing program_limits };
   how = how;
   status_is = refl;

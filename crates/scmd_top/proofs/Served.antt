@@ -28,23 +28,23 @@ module _ {K : Type 0} (told : K → Option (List ℕ)) (faulted : K → ℕ) whe
   served : (tells : ℕ → Type 0) (path : Bool) (groups : List (List ℕ)) (moment : ℕ) (o : Opened) (keeper mid now : K) (a a' u u' : Told)
       (end : BookEnd) → tells moment
       → (h : HasOpened path groups (side told faulted keeper mid) moment o)
-      → ServesBook told faulted tells program_limits (program_opening groups h.replay.configs moment) a a' u u' mid now end
+      → ServesBook told faulted tells program_limits (program_opening groups h.replay.configs moment) o.journal a a' u u' mid now end
       → HasServedOver tells path groups (side told faulted keeper now) a a' u u' end
   served tells path groups moment o keeper mid now a a' u u' end at h (inl s) = inl (record {
     replay = h.replay;
     stood = openable path groups (side told faulted keeper mid) moment o h;
     opened = moment;
     opened_at = at;
-    opening = begun_with told faulted program_limits (program_opening groups h.replay.configs moment) mid;
+    opening = begun_with told faulted program_limits (program_opening groups h.replay.configs moment) o.journal mid;
     opens = record { limits = refl; first = refl };
     history = s.history;
     legal = s.legal;
-    kept = keeps told faulted h.replay.kept program_limits (program_opening groups h.replay.configs moment) s.history keeper mid now h.cut
-        h.faults s.kept;
+    kept = keeps told faulted h.replay program_limits (program_opening groups h.replay.configs moment) o.journal s.history keeper mid now
+        h.form h.cut h.faults s.kept;
     again = opens_again path groups (side told faulted keeper mid) moment o h s.history (failures_in s.history)
         (side told faulted keeper now) refl s.legal
-        (keeps told faulted h.replay.kept program_limits (program_opening groups h.replay.configs moment) s.history keeper mid now h.cut
-        h.faults s.kept);
+        (keeps told faulted h.replay program_limits (program_opening groups h.replay.configs moment) o.journal s.history keeper mid now
+        h.form h.cut h.faults s.kept);
     served = s.served;
     ends = s.ends;
   })
@@ -54,36 +54,37 @@ module _ {K : Type 0} (told : K → Option (List ℕ)) (faulted : K → ℕ) whe
     lacks = s.lacks;
     admin = s.admin;
     user = s.user;
-    kept = rests told faulted h.replay.kept o.journal keeper mid now h.cut h.faults h.bears s.same;
+    kept = rests told faulted h.replay o.journal keeper mid now h.form h.cut h.faults h.bears s.same;
   })
 
   served_over : (tells : ℕ → Type 0) (path : Bool) (groups : List (List ℕ)) (moment : ℕ) (o : Opened) (keeper mid now : K)
       (a a' u u' : Told) (end : BookEnd) → tells moment
       → HasOpened path groups (side told faulted keeper mid) moment o →
-      ServesBook told faulted tells o.manager.limits o.manager.flat a a' u u' mid now end
+      ServesBook told faulted tells o.manager.limits o.manager.flat o.journal a a' u u' mid now end
       → HasServedOver tells path groups (side told faulted keeper now) a a' u u' end
   served_over tells path groups moment o keeper mid now a a' u u' end at h s =
       served tells path groups moment o keeper mid now a a' u u' end at h
-      (subst (λ (l : Limits). ServesBook told faulted tells l (program_opening groups h.replay.configs moment) a a' u u' mid now end)
-      h.new.limits
-      (subst (λ (f : Flat). ServesBook told faulted tells o.manager.limits f a a' u u' mid now end) h.new.flat s))
+      (subst (λ (l : Limits). ServesBook told faulted tells l (program_opening groups h.replay.configs moment) o.journal a a' u u' mid now
+      end) h.new.limits
+      (subst (λ (f : Flat). ServesBook told faulted tells o.manager.limits f o.journal a a' u u' mid now end) h.new.flat s))
 
   -- both listened, and were served
   pub has_listened : (tells : ℕ → Type 0) (path : Bool) (groups : List (List ℕ)) (admin user : Listening) (input output : Side) (p : Ports)
       (status moment : ℕ) (o : Opened) (keeper mid now : K) (a u : Told)
       (end : BookEnd) → tells moment → HasOpened path groups (side told faulted keeper mid) moment o → a ≡ listening_at p.admin admin
       → u ≡ listening_at p.user user
-      → ServesBook told faulted tells o.manager.limits o.manager.flat a p.admin_now u p.user_now mid now end → HasSummary end output status
+      → ServesBook told faulted tells o.manager.limits o.manager.flat o.journal a p.admin_now u p.user_now mid now end
+      → HasSummary end output status
       → HasServed tells path groups admin user (record { input = input; output = output; keeper = side told faulted keeper now }) p status
   has_listened tells path groups admin user input output p status moment o keeper mid now a u end at h at_admin at_user s wrote =
       inl (record {
         end = end;
         served = served_over tells path groups moment o keeper mid now (listening_at p.admin admin) p.admin_now
             (listening_at p.user user) p.user_now end at h
-            (subst (λ (l : Told). ServesBook told faulted tells o.manager.limits o.manager.flat l p.admin_now
+            (subst (λ (l : Told). ServesBook told faulted tells o.manager.limits o.manager.flat o.journal l p.admin_now
             (listening_at p.user user) p.user_now mid now end) at_admin
-            (subst (λ (l : Told). ServesBook told faulted tells o.manager.limits o.manager.flat a p.admin_now l p.user_now mid now end)
-            at_user s));
+            (subst (λ (l : Told). ServesBook told faulted tells o.manager.limits o.manager.flat o.journal a p.admin_now l p.user_now mid now
+            end) at_user s));
         written = wrote;
       })
 
@@ -101,7 +102,7 @@ module _ {K : Type 0} (told : K → Option (List ℕ)) (faulted : K → ℕ) whe
     replay = h.replay;
     stood = openable path groups (side told faulted keeper mid) moment o h;
     cause = cause;
-    kept = rests told faulted h.replay.kept o.journal keeper mid mid h.cut h.faults h.bears refl;
+    kept = rests told faulted h.replay o.journal keeper mid mid h.form h.cut h.faults h.bears refl;
     output = untouched;
   }))
 

@@ -4,9 +4,10 @@ use Rattle.std.specs.Io.KnownBytes.{Keeps}
 use Rattle.outside.specs.Causes.{Rose}
 use Rattle.scm_model.specs.declared.flat.Config.{Config}
 use Rattle.scm_model.specs.declared.flat.Flat.{Flat}
+use Rattle.scm_model.specs.declared.steps.Form.TheVariants.{Second}
 use Rattle.scm_core.specs.Managed.{Managed}
 use Rattle.scm_rules.specs.Opening.{CanOpen, IsOpening, opening}
-use Rattle.record_journal.specs.Bearing.{Bears}
+use Rattle.record_journal.specs.Bearing.{Bears, Stood, stood_in}
 use Rattle.record_journal.specs.Entries.{read_journal}
 use Rattle.record_journal.specs.Keepers.{IsEmptied}
 use Rattle.record_journal.specs.Opening.{LeavesAll}
@@ -19,9 +20,10 @@ use Rattle.scmd_top.specs.Statuses.{program_limits}
 
 -- ## What stood
 
--- What stood under the path amounts to these configurations, and so many of its bytes are kept. Without a path there are none.
+-- What stood under the path amounts to these configurations, and so many of its bytes are kept, which end in this form. Without a path
+-- there are none, and a new journal is of form 2.
 abbrev pub IsRead : (path : Bool) → (told : Option (List ℕ)) → Replay → Type 0
-IsRead false told replay = replay ≡ record { configs = []; kept = 0 }
+IsRead false told replay = replay ≡ record { configs = []; kept = 0; form = Second }
 IsRead true told replay = IfSome told (λ bytes. read_journal bytes ≡ Ok replay)
 
 -- it amounts to configurations that a manager can begin with
@@ -34,9 +36,9 @@ abbrev pub IsDamaged : (path : Bool) → (told : Option (List ℕ)) → Type 0
 IsDamaged false told = ⊥
 IsDamaged true told = IfSome told (λ bytes. (place : ℕ) × (read_journal bytes ≡ Err place))
 
--- what is kept of what stood, where the keeper told it
-abbrev pub kept_front : (kept : ℕ) → Option (List ℕ) → Option (List ℕ)
-kept_front kept told = option_map (λ (bytes : List ℕ). take kept bytes) told
+-- what is kept of what stood, and the form in which it ends, where the keeper told it
+abbrev pub kept_front : Replay → Option (List ℕ) → Option Stood
+kept_front replay told = stood_in replay.form (option_map (λ (bytes : List ℕ). take replay.kept bytes) told)
 
 -- that is left, and nothing else
 abbrev pub IsCut : (kept : ℕ) → (old now : Option (List ℕ)) → Type 0
@@ -57,14 +59,15 @@ pub record IsNew (groups : List (List ℕ)) (configs : List Config) (moment : �
   pub steps : m.steps ≡ 0
   pub text : m.text ≡ 0
 
--- a manager has what stood under the path, and the keeper bears it
+-- a manager has what stood under the path, and the keeper bears it in the form in which it ends
 pub record HasOpened (path : Bool) (groups : List (List ℕ)) (keeper : Side) (moment : ℕ) (o : Opened) : Type 0 where
   pub replay : Replay
   pub read : IsRead path keeper.told replay
   pub new : IsNew groups replay.configs moment o.manager
   pub begins : IsOpening o.manager.limits o.manager.flat
   pub cut : IsCut replay.kept keeper.told keeper.told_now
-  pub bears : Bears keeper.told_now o.journal keeper.told_now
+  pub form : o.journal.form ≡ replay.form
+  pub bears : Bears (stood_in o.journal.form keeper.told_now) o.journal keeper.told_now
   pub faults : keeper.faults_now ≡ keeper.faults
 
 -- what stood is left, or what is kept of it

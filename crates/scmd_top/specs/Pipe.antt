@@ -1,5 +1,5 @@
 -- `pipe`: one connection from the input to the output, over a book that only its caller calls.
-use Rattle.std.specs.Prelude.{ℕ, ◌≡◌, ◌≢◌, ◌<◌, ◌^◌, ◌⊎◌, Bool, List, [], length, map, Option, IfSome}
+use Rattle.std.specs.Prelude.{ℕ, ◌≡◌, ◌≢◌, ◌<◌, ◌^◌, ◌⊎◌, Bool, List, [], length, Option, IfSome}
 use Rattle.outside.specs.Causes.{Rose}
 use Rattle.outside.specs.Written.{Begins}
 use Rattle.scm_model.specs.declared.flat.Principal.{Principal}
@@ -7,7 +7,6 @@ use Rattle.scm_model.specs.declared.steps.Change.{Change}
 use Rattle.scm_model.specs.Entries.{Entry}
 use Rattle.scm_history.specs.Kept.{kept_changes}
 use Rattle.record_journal.specs.Bearing.{Bears, and_changes}
-use Rattle.record_journal.specs.ReadBack.{held_change}
 use Rattle.record_journal.specs.Replay.{replayed}
 use Rattle.record_journal.specs.declared.journal.Journal.{Journal}
 use Rattle.record_journal.specs.declared.replaying.Replay.{Replay}
@@ -36,19 +35,19 @@ status_of served.Worn = 12
 
 -- ## The journal
 
--- after so many bytes of what stood the keeper bears these changes, and so many failed appends raised its count
-pub record KeepsJournal (kept : ℕ) (changes : List Change) (failed : ℕ) (keeper : Side) : Type 0 where
+-- after what is kept of what stood the keeper bears these changes, and so many failed appends raised its count
+pub record KeepsJournal (replay : Replay) (changes : List Change) (failed : ℕ) (keeper : Side) : Type 0 where
   pub journal : Journal
-  pub bears : Bears (and_changes (kept_front kept keeper.told) changes) journal keeper.told_now
+  pub bears : Bears (and_changes (kept_front replay keeper.told) changes) journal keeper.told_now
   pub faults : RoseBy failed keeper.faults keeper.faults_now
 
 -- Where bytes are bytes, the next opening reads what was kept of what stood and then these changes, as what they come to. It reads so what
 -- the keeper holds, unless all of an entry stands at its end whose append failed.
 abbrev pub OpensAgain : Replay → List Change → (keeper : Side) → Type 0
 OpensAgain replay changes keeper =
-    let configs = replayed replay.configs (map held_change changes) in
+    let configs = replayed replay.configs changes in
     IfSome keeper.told AreBytes
-    → IfSome (and_changes (kept_front replay.kept keeper.told) changes)
+    → IfSome (and_changes (kept_front replay keeper.told) changes)
     (λ kept. IsJournalOf kept configs × IfSome keeper.told_now (IsLeftReadable kept configs))
 
 -- ## The connection
@@ -63,7 +62,7 @@ pub record HasServed (tells : ℕ → Type 0) (path : Bool) (principal : Princip
   pub history : List Entry
   pub piped : IsPiped tells principal program_limits (program_opening [] replay.configs opened) s.input.told s.input.told_now s.output.told
       s.output.told_now how history
-  pub kept : KeepsJournal replay.kept (kept_changes program_limits (program_opening [] replay.configs opened) history)
+  pub kept : KeepsJournal replay (kept_changes program_limits (program_opening [] replay.configs opened) history)
       (failures_in history) s.keeper
   pub again : AllFit history → OpensAgain replay (kept_changes program_limits (program_opening [] replay.configs opened) history) s.keeper
 
@@ -74,7 +73,7 @@ pub record HasNotJoined (path : Bool) (how : Served) (s : Sides) : Type 0 where
   pub how_is : how ≡ served.OutOfMemory
   pub unread : s.input.told_now ≡ s.input.told
   pub unwritten : s.output.told_now ≡ s.output.told
-  pub kept : KeepsJournal replay.kept [] 0 s.keeper
+  pub kept : KeepsJournal replay [] 0 s.keeper
 
 abbrev pub HasCome : (tells : ℕ → Type 0) → (path : Bool) → Principal → Served → Sides → Type 0
 HasCome tells path principal how s = HasServed tells path principal how s ⊎ HasNotJoined path how s

@@ -52,7 +52,7 @@ pub record HasHistory (tells : ℕ → Type 0) (path : Bool) (groups : List (Lis
   pub opens : IsProgramOpening groups replay.configs opened opening
   pub history : List Entry
   pub legal : Legal program_limits (program_opening groups replay.configs opened) history
-  pub kept : KeepsJournal replay.kept (kept_changes program_limits (program_opening groups replay.configs opened) history)
+  pub kept : KeepsJournal replay (kept_changes program_limits (program_opening groups replay.configs opened) history)
       (failures_in history) keeper
   pub again : AllFit history → OpensAgain replay (kept_changes program_limits (program_opening groups replay.configs opened) history) keeper
   pub served : ServedIn tells opening history a a' u u' (lacked_memory end)
@@ -65,7 +65,7 @@ pub record HasNoBook (path : Bool) (keeper : Side) (a a' u u' : Told) (end : Boo
   pub lacks : end ≡ OutOfMemory
   pub admin : a' ≡ a
   pub user : u' ≡ u
-  pub kept : KeepsJournal replay.kept [] 0 keeper
+  pub kept : KeepsJournal replay [] 0 keeper
 
 abbrev pub HasServedOver : (tells : ℕ → Type 0) → (path : Bool) → (groups : List (List ℕ)) → (keeper : Side) → (a a' u u' : Told) → BookEnd
     → Type 0
@@ -89,7 +89,7 @@ pub record HasNotListened (path : Bool) (s : Sides) (p : Ports) (status : ℕ) :
   pub replay : Replay
   pub stood : IsOpenable path s.keeper.told replay
   pub cause : Rose p.admin.faults p.admin_now.faults ⊎ Rose p.user.faults p.user_now.faults
-  pub kept : KeepsJournal replay.kept [] 0 s.keeper
+  pub kept : KeepsJournal replay [] 0 s.keeper
   pub output : IsUntouched s.output
 
 abbrev pub HasServed : (tells : ℕ → Type 0) → (path : Bool) → (groups : List (List ℕ)) → (admin user : Listening) → Sides → Ports
