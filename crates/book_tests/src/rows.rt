@@ -279,14 +279,16 @@ fn append_at(trail: &Trail, place: u64) -> Option<Kept> {
 }
 
 /// A journal that the services `A` and `C` were created in.
-const JOURNAL: [u8; 140] = [
-    0x53, 0x43, 0x4D, 0x4A, 1, 0, 0, 0, // header
-    1, 0x3D, 0, 0, 0, 1, 0, 0, 0, 0x41, 0, 1, 0, 0, 0, 0x41, 0, // names
+const JOURNAL: [u8; 150] = [
+    0x53, 0x43, 0x4D, 0x4A, 2, 0, 0, 0, // header
+    1, 0x42, 0, 0, 0, 1, 0, 0, 0, 0x41, 0, 1, 0, 0, 0, 0x41, 0, // names
     0x10, 0, 0, 0, 3, 0, 0, 0, 1, 0, 0, 0, 2, 0, 0, 0, 0x2F, 0, 0x61, 0, // up to the path
     0, 0, 0, 0, 0, 0, 0, 0, 0, 0, 0, 0, 0, 0, 0, 0, 0, 0, 0, 0, 0, 0, 0, 0, 0, 0, 0, 0, 0, //
-    1, 0x3D, 0, 0, 0, 1, 0, 0, 0, 0x43, 0, 1, 0, 0, 0, 0x43, 0, // names
+    0, 0, 0, 0, 0, // a delayed start, triggers
+    1, 0x42, 0, 0, 0, 1, 0, 0, 0, 0x43, 0, 1, 0, 0, 0, 0x43, 0, // names
     0x10, 0, 0, 0, 3, 0, 0, 0, 1, 0, 0, 0, 2, 0, 0, 0, 0x2F, 0, 0x61, 0, // up to the path
     0, 0, 0, 0, 0, 0, 0, 0, 0, 0, 0, 0, 0, 0, 0, 0, 0, 0, 0, 0, 0, 0, 0, 0, 0, 0, 0, 0, 0, //
+    0, 0, 0, 0, 0, // a delayed start, triggers
 ];
 
 /// What became of each change that the calls asked for.

@@ -1,6 +1,6 @@
 use crate::values::{append, keeper, name, plain};
 use record_journal::{Journal, MemoryKeeper};
-use scm_model::{Change, Config, Need};
+use scm_model::{Change, Config, Need, Trigger};
 use scm_text::{Items, OutOfMemory};
 use std::alloc::Global;
 use std::mem::replace;
@@ -8,18 +8,24 @@ use std::test::*;
 use test_values::{append_ascii, restart, text, unnamed};
 
 /// What a journal begins with.
-pub const HEADER: &[u8] = &[0x53, 0x43, 0x4D, 0x4A, 1, 0, 0, 0];
+pub const HEADER: &[u8] = &[0x53, 0x43, 0x4D, 0x4A, 2, 0, 0, 0];
+
+/// What a journal of form 1 begins with.
+pub const HEADER_1: &[u8] = &[0x53, 0x43, 0x4D, 0x4A, 1, 0, 0, 0];
+
+/// What ends form 1.
+pub const SWITCH: &[u8] = &[4, 0, 0, 0, 0];
 
 /// The header, and the removal of `Db`.
 const HEADER_AND_REMOVED: &[u8] = &[
-    0x53, 0x43, 0x4D, 0x4A, 1, 0, 0, 0, // header
+    0x53, 0x43, 0x4D, 0x4A, 2, 0, 0, 0, // header
     3, 8, 0, 0, 0, // a removal, and how many bytes follow
     2, 0, 0, 0, 0x44, 0, 0x62, 0, // name
 ];
 
 /// The creation of `A`.
 pub const CREATED: &[u8] = &[
-    1, 0x3D, 0, 0, 0, // a creation, and how many bytes follow
+    1, 0x42, 0, 0, 0, // a creation, and how many bytes follow
     1, 0, 0, 0, 0x41, 0, // name
     1, 0, 0, 0, 0x41, 0, // display name
     0x10, 0, 0, 0, // type
@@ -34,11 +40,13 @@ pub const CREATED: &[u8] = &[
     0, 0, 0, 0, // actions
     0, 0, 0, 0, // command
     0, // whether a stop with an error is a failure
+    0, // whether the start is delayed
+    0, 0, 0, 0, // triggers
 ];
 
 /// The change of `W`.
 const CHANGED: &[u8] = &[
-    2, 0x5D, 0, 0, 0, // a change, and how many bytes follow
+    2, 0x76, 0, 0, 0, // a change, and how many bytes follow
     1, 0, 0, 0, 0x57, 0, // name
     1, 0, 0, 0, 0x57, 0, // display name
     0x10, 0, 0, 0, // type
@@ -55,7 +63,16 @@ const CHANGED: &[u8] = &[
     1, 0, 0, 0, 1, 0, 0, 0, 0xE8, 3, 0, 0, // actions
     1, 0, 0, 0, 0x63, 0, // command
     1, // whether a stop with an error is a failure
+    1, // whether the start is delayed
+    1, 0, 0, 0, 1, 0, 0, 0, // triggers: how many, and what the first does
+    0xF, 0xE, 0xD, 0xC, 0xB, 0xA, 9, 8, 7, 6, 5, 4, 3, 2, 1, 0, // its subtype
 ];
+
+/// What starts `W`.
+const TRIGGER: Trigger = Trigger {
+    action: 1,
+    subtype: [0xF, 0xE, 0xD, 0xC, 0xB, 0xA, 9, 8, 7, 6, 5, 4, 3, 2, 1, 0],
+};
 
 fn removed(alloc: Global) -> Result<Change, OutOfMemory> {
     Ok(Change::Removed(text(alloc, "Db")?))
@@ -76,9 +93,13 @@ fn needs(alloc: Global) -> Result<Items<Need>, OutOfMemory> {
     }
 }
 
-/// A service that needs another and a group, and is restarted at failures, but for its texts.
+/// A service that needs another and a group, is restarted at failures and has a trigger, but for its
+/// texts.
 fn needing(alloc: Global) -> Result<Config, OutOfMemory> {
     let (Ok(needs), Ok(actions)) = (needs(alloc), restart(alloc)) else {
+        return Err(OutOfMemory);
+    };
+    let Ok(triggers) = Vec::from_array(alloc, [TRIGGER]) else {
         return Err(OutOfMemory);
     };
     let mut config = unnamed(alloc);
@@ -88,6 +109,7 @@ fn needing(alloc: Global) -> Result<Config, OutOfMemory> {
     config.delayed = true;
     drop(replace(&mut config.needs, needs));
     drop(replace(&mut config.actions, actions));
+    drop(replace(&mut config.triggers, Items::from_vec(triggers)));
     Ok(config)
 }
 

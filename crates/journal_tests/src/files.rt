@@ -41,9 +41,9 @@ fn creates<R: Files<File = File> + Drop>(alloc: Global, keeper: &mut FileKeeper<
 type Row = (&'static [u8], Option<(usize, u64)>, usize);
 
 const ROWS: [Row; 3] = [
-    (&[], Some((1, 74)), 74),
-    (&[3, 6, 0, 0], Some((1, 74)), 74),
-    (&[7, 0, 0, 0, 0], None, 79),
+    (&[], Some((1, 79)), 79),
+    (&[3, 6, 0, 0], Some((1, 79)), 79),
+    (&[7, 0, 0, 0, 0], None, 84),
 ];
 
 /// Appends to a file, which no other keeper can open meanwhile, and says whether another then finds

@@ -15,4 +15,6 @@ mod opening;
 #[cfg(test)]
 mod parts;
 #[cfg(test)]
+mod upgrading;
+#[cfg(test)]
 mod values;

@@ -6,16 +6,16 @@ use std::test::*;
 
 /// Ten changes, the names of the services after each, and how many bytes the journal has then.
 const CHANGES: [(&[u8], &str, usize); 10] = [
-    (A, "A", 74),
-    (A_NEEDS_B, "A", 147),
-    (NO_A, "", 158),
-    (A, "A", 224),
-    (B_SHOWN, "A", 290),
-    (NO_A, "", 301),
-    (B, "B", 374),
-    (A, "BA", 440),
-    (NO_A, "B", 451),
-    (A, "BA", 517),
+    (A, "A", 79),
+    (A_NEEDS_B, "A", 157),
+    (NO_A, "", 168),
+    (A, "A", 239),
+    (B_SHOWN, "A", 310),
+    (NO_A, "", 321),
+    (B, "B", 399),
+    (A, "BA", 470),
+    (NO_A, "B", 481),
+    (A, "BA", 552),
 ];
 
 /// Appends the header and the entries of the ten changes.
@@ -51,7 +51,7 @@ fn opens_at(alloc: Global, bytes: &[u8], size: usize) -> Result<bool, AllocError
 fn a_journal_that_is_cut_anywhere_is_read_up_to_the_cut(rt: HostRuntime) -> Result<(), Fail> {
     let mut bytes = Vec::new(rt.alloc());
     append_changes(&mut bytes)?;
-    for size in 0..518 {
+    for size in 0..553 {
         assert!(rt; opens_at(rt.alloc(), &bytes, size)?, "{size}");
     }
     Ok(())
@@ -60,7 +60,7 @@ fn a_journal_that_is_cut_anywhere_is_read_up_to_the_cut(rt: HostRuntime) -> Resu
 /// The names of ten services.
 const NAMES: &str = "ABCDEFGHIJ";
 
-/// Appends the header and the creation of each, of 66 bytes.
+/// Appends the header and the creation of each, of 71 bytes.
 fn append_services(bytes: &mut Vec<u8>) -> Result<(), AllocError> {
     bytes.extend_from_slice(HEADER)?;
     for letter in NAMES.as_bytes() {
@@ -74,7 +74,7 @@ fn append_services(bytes: &mut Vec<u8>) -> Result<(), AllocError> {
 }
 
 /// Where the fourth service's entry begins.
-const FOURTH: usize = 206;
+const FOURTH: usize = 221;
 
 /// Changes a bit of the length of the fourth entry.
 fn flip(bytes: &mut [u8], bit: usize) {
@@ -88,11 +88,11 @@ fn flip(bytes: &mut [u8], bit: usize) {
 fn a_changed_length_is_damage(rt: HostRuntime) -> Result<(), Fail> {
     let mut bytes = Vec::new(rt.alloc());
     append_services(&mut bytes)?;
-    assert!(rt; opens(rt.alloc(), &bytes, &[], Answer::Opens(NAMES, 668), 668)?);
+    assert!(rt; opens(rt.alloc(), &bytes, &[], Answer::Opens(NAMES, 718), 718)?);
     for bit in 0..32 {
         flip(&mut bytes, bit);
         let answer = Answer::DamagedAt(FOURTH as u64);
-        assert!(rt; opens(rt.alloc(), &bytes, &[], answer, 668)?, "bit {bit}");
+        assert!(rt; opens(rt.alloc(), &bytes, &[], answer, 718)?, "bit {bit}");
         flip(&mut bytes, bit);
     }
     Ok(())

@@ -1,15 +1,17 @@
 use crate::values::{Needed, append_units, needs};
-use scm_model::Config;
-use scm_text::OutOfMemory;
-use service_record::{RecordFault, check_change, check_new, read_record, record_bytes};
+use scm_model::{Config, Trigger};
+use scm_text::{Items, OutOfMemory};
+use service_record::{
+    RecordFault, check_change, check_new, read_record, read_record_1, record_bytes,
+};
 use std::alloc::{AllocError, Global};
 use std::mem::replace;
 use std::test::Fail;
 use test_values::{append_ascii, restart, text, unnamed};
 
-/// The configuration of a service `x` that runs `y z`, needs the group `g` and is restarted a
-/// second after a failure.
-const RECORD: [u8; 80] = [
+/// The configuration of a service `x` that runs `y z`, needs the group `g`, is restarted a second
+/// after a failure, and is stopped by a trigger.
+const RECORD: [u8; 105] = [
     1, 0, 0, 0, 0x78, 0, // name
     0, 0, 0, 0, // display name
     0x10, 0, 0, 0, // type
@@ -24,9 +26,21 @@ const RECORD: [u8; 80] = [
     1, 0, 0, 0, 1, 0, 0, 0, 0xE8, 3, 0, 0, // actions
     1, 0, 0, 0, 0x63, 1, // command
     1, // whether a stop with an error is a failure
+    1, // whether the start is delayed
+    1, 0, 0, 0, 2, 0, 0, 0, // triggers: how many, and what the first does
+    0, 1, 2, 3, 4, 5, 6, 7, 8, 9, 10, 11, 12, 13, 14, 15, // its subtype
 ];
 
-/// The configuration, but for its texts.
+/// How many of its bytes form 1 has.
+const OLD: usize = 80;
+
+/// What stops it.
+const TRIGGER: Trigger = Trigger {
+    action: 2,
+    subtype: [0, 1, 2, 3, 4, 5, 6, 7, 8, 9, 10, 11, 12, 13, 14, 15],
+};
+
+/// The configuration, but for its texts, its delayed start and its trigger.
 fn untold(alloc: Global) -> Result<Config, OutOfMemory> {
     let (Ok(needs), Ok(actions)) = (needs(alloc, &[Needed::Group("g")]), restart(alloc)) else {
         return Err(OutOfMemory);
@@ -66,6 +80,16 @@ fn sample(alloc: Global, name: &str) -> Result<Config, OutOfMemory> {
     configured(alloc, name, "y z", &[])
 }
 
+/// Delays its start, and has a trigger stop it.
+fn extend(alloc: Global, config: &mut Config) -> Result<(), OutOfMemory> {
+    let Ok(triggers) = Vec::from_array(alloc, [TRIGGER]) else {
+        return Err(OutOfMemory);
+    };
+    config.delayed = true;
+    drop(replace(&mut config.triggers, Items::from_vec(triggers)));
+    Ok(())
+}
+
 /// Whether a configuration has the stated bytes.
 fn is_stated(alloc: Global, config: &Config) -> bool {
     match record_bytes(alloc, config) {
@@ -76,8 +100,8 @@ fn is_stated(alloc: Global, config: &Config) -> bool {
 
 fn is_written(alloc: Global) -> bool {
     match sample(alloc, "x") {
-        Ok(config) => {
-            let is_stated = is_stated(alloc, &config);
+        Ok(mut config) => {
+            let is_stated = extend(alloc, &mut config).is_ok() && is_stated(alloc, &config);
             drop(config);
             is_stated
         }
@@ -96,10 +120,23 @@ fn is_read(alloc: Global) -> bool {
     }
 }
 
+/// Whether the bytes of form 1 are read, without a delayed start and without triggers.
+fn is_read_in_form_1(alloc: Global) -> bool {
+    match read_record_1(alloc, &RECORD[..OLD]) {
+        Ok(config) => {
+            let is_old = !config.delayed && config.triggers.len() == 0 && config.on_exit;
+            drop(config);
+            is_old
+        }
+        Err(_) => false,
+    }
+}
+
 #[test]
 fn a_configuration_has_the_stated_bytes_and_they_are_read(rt: HostRuntime) {
     assert!(rt; is_written(rt.alloc()));
     assert!(rt; is_read(rt.alloc()));
+    assert!(rt; is_read_in_form_1(rt.alloc()));
 }
 
 /// Where the first wrong item of these bytes begins.
@@ -134,13 +171,18 @@ fn wrong(alloc: Global, length: usize, place: usize, byte: u8) -> Result<Option<
 fn the_first_wrong_item_is_told(rt: HostRuntime) -> Result<(), Fail> {
     // How many bytes, a byte that is another, and where the wrong item begins.
     let rows = [
-        (80, 0, 1, None),
+        (105, 0, 1, None),
+        (104, 0, 1, Some(89)),
+        (88, 0, 1, Some(85)),
+        (84, 0, 1, Some(81)),
+        (80, 0, 1, Some(80)),
         (79, 0, 1, Some(79)),
         (78, 0, 1, Some(73)),
-        (81, 0, 1, Some(80)),
-        // A 0 in the name, and a third kind of need.
-        (80, 4, 0, Some(0)),
-        (80, 46, 2, Some(46)),
+        (106, 0, 1, Some(105)),
+        // A 0 in the name, a third kind of need, and a start that is neither delayed nor not.
+        (105, 4, 0, Some(0)),
+        (105, 46, 2, Some(46)),
+        (105, 80, 2, Some(80)),
     ];
     for (length, place, byte, want) in rows {
         assert_eq!(rt; wrong(rt.alloc(), length, place, byte)?, want, "{length}");

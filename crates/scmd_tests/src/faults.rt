@@ -109,6 +109,57 @@ const ROWS: &[Run] = &[
         kept: Some("53434d4b01000000"),
         ..KEEPS_NOTHING
     },
+    // A whole entry that can't be replayed is damage; a part of one is cut.
+    Run {
+        words: "pipe --db journal",
+        stands: "53434d4a010000000308000000020000004400620000",
+        status: 4,
+        told: "",
+        kept: Some("53434d4a010000000308000000020000004400620000"),
+        ..KEEPS_NOTHING
+    },
+    Run {
+        words: "pipe --db journal",
+        stands: "53434d4a01000000030800000002000000440062",
+        asked: FINDS_NONE,
+        told: FINDS_NONE,
+        kept: Some("53434d4a01000000"),
+        ..KEEPS_NOTHING
+    },
+    // A journal of form 1 is opened as it is. Its first change ends form 1, and is there in the
+    // next run; what was cut off before the change is read as before.
+    Run {
+        words: "pipe --db journal",
+        stands: OLD_A,
+        asked: FINDS_PROMPT,
+        told: FINDS_PROMPT,
+        kept: Some(OLD_A),
+        ..KEEPS_NOTHING
+    },
+    Run {
+        words: "pipe --db journal",
+        stands: OLD_A,
+        asked: DELAYS,
+        told: DELAYS,
+        kept: Some(DELAYED_A),
+        ..KEEPS_NOTHING
+    },
+    Run {
+        words: "pipe --db journal",
+        stands: DELAYED_A,
+        asked: FINDS_DELAYED,
+        told: FINDS_DELAYED,
+        kept: Some(DELAYED_A),
+        ..KEEPS_NOTHING
+    },
+    Run {
+        words: "pipe --db journal",
+        stands: ENDED_A,
+        asked: FINDS_PROMPT,
+        told: FINDS_PROMPT,
+        kept: Some(ENDED_A),
+        ..KEEPS_NOTHING
+    },
     Run {
         words: "pipe --db journal",
         stands: A_AND_B,
@@ -163,6 +214,26 @@ manager
 stopped, never began | status h2     | 16 1 0 1077 0 0 0 0
 ";
 
+const FINDS_PROMPT: &str = "bind
+manager
+                    | open h1 'A' 1  | h2 0
+isn't delayed       | leveled h2 3 4 | 4 0 0 0
+and has no triggers | leveled h2 8 4 | 4 0 0 0
+";
+
+const DELAYS: &str = "bind
+manager
+                    | open h1 'A' 2    | h2 0
+is delayed          | level h2 3 3 * 1 | 0
+";
+
+const FINDS_DELAYED: &str = "bind
+manager
+                    | open h1 'A' 1  | h2 0
+is delayed          | leveled h2 3 4 | 4 1 0 0
+and has no triggers | leveled h2 8 4 | 4 0 0 0
+";
+
 const SECOND_APPEND: &str = "bind
 manager
 is kept           | create h1 'A' - own '/a' plain | - h2 0
@@ -173,15 +244,15 @@ and is there      | open h1 'B' 4                  | h4 0
 ";
 
 /// A journal in which the services A and B were created.
-const A_AND_B: &str = "53434d4a01000000\
-    013d000000010000004100010000004100100000000300000001000000020000002f00610000000000\
-    00000000000000000000000000000000000000000000000000\
-    013d000000010000004200010000004200100000000300000001000000020000002f00610000000000\
-    00000000000000000000000000000000000000000000000000";
+const A_AND_B: &str = "53434d4a02000000\
+    0142000000010000004100010000004100100000000300000001000000020000002f00610000000000\
+    000000000000000000000000000000000000000000000000000000000000\
+    0142000000010000004200010000004200100000000300000001000000020000002f00610000000000\
+    000000000000000000000000000000000000000000000000000000000000";
 
-/// A journal in which services were created: some that start by themselves, X without a group, W
-/// without a tag in G3, Y with the second tag of G1, Z with its first and V with the first of G2,
-/// and O on demand.
+/// A journal of form 1 in which services were created: some that start by themselves, X without a
+/// group, W without a tag in G3, Y with the second tag of G1, Z with its first and V with the first
+/// of G2, and O on demand.
 const AUTOMATIC: &str = "53434d4a01000000\
     013d000000010000005800010000005800100000000200000001000000020000002f00780000000000\
     00000000000000000000000000000000000000000000000000\
@@ -195,6 +266,25 @@ const AUTOMATIC: &str = "53434d4a01000000\
     4700320001000000000000000000000000000000000000000000000000\
     013d000000010000004f00010000004f00100000000300000001000000020000002f006f0000000000\
     00000000000000000000000000000000000000000000000000";
+
+/// A journal of form 1 in which A was created, which starts by itself.
+const OLD_A: &str = "53434d4a01000000\
+    013d000000010000004100010000004100100000000200000001000000020000002f00610000000000\
+    00000000000000000000000000000000000000000000000000";
+
+/// The same, and what ends form 1.
+const ENDED_A: &str = "53434d4a01000000\
+    013d000000010000004100010000004100100000000200000001000000020000002f00610000000000\
+    00000000000000000000000000000000000000000000000000\
+    0400000000";
+
+/// The same, and the change by which its start is delayed.
+const DELAYED_A: &str = "53434d4a01000000\
+    013d000000010000004100010000004100100000000200000001000000020000002f00610000000000\
+    00000000000000000000000000000000000000000000000000\
+    0400000000\
+    0242000000010000004100010000004100100000000200000001000000020000002f00610000000000\
+    000000000000000000000000000000000000000000000000000100000000";
 
 #[test]
 fn each_fault_has_its_status_and_leaves_what_was_whole(rt: HostRuntime) {

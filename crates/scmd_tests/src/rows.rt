@@ -828,10 +828,15 @@ nor is what is done         | failcall 1 level h2 2 2 * 9 - - 1 * 1 1 0 | reply 
                             | call 1 leveled h2 2 20                    | reply 20 0 0 0 0 0 0 0
                             | failcall 1 level h2 4 4 * 1               | reply 1013
                             | call 1 leveled h2 4 4                     | reply 4 0 0 0
-triggers aren't appended    | failcall 1 level h2 8 8 * 1 * - 1 20 2 * 0 - xaa^16 | reply 0
+nor are triggers            | failcall 1 level h2 8 8 * 1 * - 1 20 2 * 0 - xaa^16 | reply 1013
+                            | call 1 leveled h2 8 4                     | reply 4 0 0 0
+these are kept              | call 1 level h2 8 8 * 1 * - 1 20 2 * 0 - xaa^16 | reply 0
+and the same are no change  | failcall 1 level h2 8 8 * 1 * - 1 20 2 * 0 - xaa^16 | reply 0
                             | call 1 leveled h2 8 28                    | reply 28 1 20 2 xaa^16 0 0
 an automatic start          | call 1 change h2 keep 2 keep - - - - 0 - - 0 - | reply - 0
-nor is its delay            | failcall 1 level h2 3 3 * 1               | reply 0
+whose delay can't be kept   | failcall 1 level h2 3 3 * 1               | reply 1013
+is not delayed              | call 1 leveled h2 3 4                     | reply 4 0 0 0
+this time it is             | call 1 level h2 3 3 * 1; failcall 1 level h2 3 3 * 1 | reply 0; reply 0
                             | call 1 leveled h2 3 4                     | reply 4 1 0 0
 nothing is due              | tick                                      | idle
 = 0 replay: a start is given up after two minutes
