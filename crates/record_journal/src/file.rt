@@ -23,7 +23,8 @@ enum Place<F: Drop> {
     File(F),
 }
 
-/// Bytes in a file, or in memory where none is opened. It tells nothing of them. What it appends or
+/// Bytes in a file, or in memory where none is opened. It tells nothing of them, and says nothing of
+/// crashes: a plain file may lose its end in one, or have other bytes there. What it appends or
 /// cuts has reached the disk before it answers. It holds the file alone, by an exclusive lock that
 /// ends with it: a file that another process or keeper holds can't be opened.
 #[derive(Drop)]
@@ -105,6 +106,8 @@ impl<R: Files<File = File> + Drop> Keeper for FileKeeper<R> {
     ghost held = { λ _. None };
 
     ghost faults = { λ k. k.faults };
+
+    ghost settled = { λ _. Unit {0} };
 
     fn open_at(&mut self, path: Option<&str>) -> Result<(), Failed> {
         let place = match path {

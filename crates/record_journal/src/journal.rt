@@ -59,6 +59,7 @@ impl Journal {
         ensures err { OnErr result (self.new ≡ broken self.old) }
         ensures bytes { Writes (K.held keeper.old) (K.held keeper.new) result piece.now }
         ensures cause { HasCause (K.faults keeper.old) (K.faults keeper.new) result }
+        ensures settled { OnOk result (K.settled keeper.new) }
     {
         self.dirty = true;
         keeper.append(piece)?;
@@ -75,6 +76,7 @@ impl Journal {
         ensures err { OnErr result (self.new ≡ broken self.old) }
         ensures bytes { Puts piece.now self.old (K.held keeper.old) (K.held keeper.new) result }
         ensures cause { HasCause (K.faults keeper.old) (K.faults keeper.new) result }
+        ensures settled { OnOk result (K.settled keeper.new) }
     {
         self.mend(keeper)?;
         self.add(keeper, piece)
@@ -105,6 +107,8 @@ impl Journal {
         ensures cause { IsErrOf result KeepFault.Failed →
             Rose (K.faults keeper.old) (K.faults keeper.new) }
         ensures kept { OnOk result (K.faults keeper.new ≡ K.faults keeper.old) }
+        // A crash after it leaves the change, as it leaves those before.
+        ensures settled { OnOk result (K.settled keeper.new) }
     {
         let Ok(piece) = piece(alloc, self.good, self.form, change) else {
             return Err(KeepFault::OutOfMemory);

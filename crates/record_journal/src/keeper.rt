@@ -25,11 +25,16 @@ pub trait Keeper: Drop {
     /// How often it failed.
     ghost faults: { Self → ℕ };
 
+    /// A crash now leaves the bytes that it holds, and nothing else. Of a keeper that says nothing
+    /// of crashes it always stands.
+    ghost settled: { Self → Type 0 };
+
     /// Goes on with what stands under the path. Without a path it is empty from then on, and keeps
     /// in memory.
     fn open_at(&mut self, path: Option<&str>) -> Result<(), Failed>
         ensures bytes { Opens (is_some path.entry) (held self.old) (held self.new) result }
-        ensures cause { HasCause (faults self.old) (faults self.new) result };
+        ensures cause { HasCause (faults self.old) (faults self.new) result }
+        ensures settled { OnOk result (settled self.new) };
 
     /// A copy of all bytes.
     fn read_all(&mut self) -> Result<Items<u8>, KeepFault>
@@ -41,17 +46,20 @@ pub trait Keeper: Drop {
             Rose (faults self.old) (faults self.new) }
         ensures kept { OnOk result (faults self.new ≡ faults self.old) }
         ensures memory { IsErrOf result KeepFault.OutOfMemory →
-            faults self.new ≡ faults self.old };
+            faults self.new ≡ faults self.old }
+        ensures settled { settled self.old → settled self.new };
 
     /// Appends bytes. After a fault a front of them may stand.
     fn append(&mut self, bytes: &[u8]) -> Result<(), Failed>
         ensures bytes { Writes (held self.old) (held self.new) result bytes.now }
         ensures untold { IsUntold (held self.old) (held self.new) }
-        ensures cause { HasCause (faults self.old) (faults self.new) result };
+        ensures cause { HasCause (faults self.old) (faults self.new) result }
+        ensures settled { OnOk result (settled self.new) };
 
     /// Keeps the front of this length alone. After a fault that is left, or all.
     fn cut(&mut self, length: u64) -> Result<(), Failed>
         ensures bytes { Cuts length (held self.old) (held self.new) result }
         ensures untold { IsUntold (held self.old) (held self.new) }
-        ensures cause { HasCause (faults self.old) (faults self.new) result };
+        ensures cause { HasCause (faults self.old) (faults self.new) result }
+        ensures settled { OnOk result (settled self.new) };
 }

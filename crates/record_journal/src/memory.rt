@@ -24,7 +24,8 @@ pub enum Fate {
 }
 
 /// Bytes in memory. Each call takes what becomes of it from the end of `fates`; where none is left,
-/// it succeeds. An append that finds no memory fails too.
+/// it succeeds. An append that finds no memory fails too. It says nothing of crashes: memory has no
+/// content after one.
 #[derive(Drop)]
 pub struct MemoryKeeper {
     bytes: Vec<u8>,
@@ -92,6 +93,8 @@ impl Keeper for MemoryKeeper {
     ghost held = { λ k. Some k.bytes };
 
     ghost faults = { λ k. k.faults };
+
+    ghost settled = { λ _. Unit {0} };
 
     /// All paths are one: the bytes stand under each.
     fn open_at(&mut self, path: Option<&str>) -> Result<(), Failed>

@@ -2,7 +2,7 @@
 ghost use Rattle.std.specs.Prelude.{◌≡◌, ◌≤◌, length, IfOk, IfSome, IsErrOf, OnOk, is_some};
 ghost use Rattle.outside.specs.Causes.{HasCause, Rose};
 ghost use Rattle.record_journal.specs.Bearing.{Bears, stood_in};
-ghost use Rattle.record_journal.specs.Keepers.{Cuts, IsUntold};
+ghost use Rattle.record_journal.specs.Keepers.{Cuts, IsUntold, Settles};
 ghost use Rattle.record_journal.specs.Opening.{Restores, CanBegin, LeavesAt, LeavesAll};
 ghost use Rattle.record_journal.specs.Opening.{content_under};
 
@@ -40,6 +40,7 @@ fn cut_behind<K: Keeper>(keeper: &mut K, size: usize, kept: u64) -> Result<(), F
     ensures bytes { Cuts kept (K.held keeper.old) (K.held keeper.new) result }
     ensures untold { IsUntold (K.held keeper.old) (K.held keeper.new) }
     ensures cause { HasCause (K.faults keeper.old) (K.faults keeper.new) result }
+    ensures settled { K.settled keeper.old → OnOk result (K.settled keeper.new) }
 {
     if size as u64 <= kept {
         return Ok(());
@@ -61,6 +62,8 @@ fn restore<K: Keeper>(alloc: Global, keeper: &mut K, bytes: &[u8]) -> Result<Res
     ensures cause { IsErrOf result JournalFault.Failed →
         Rose (K.faults keeper.old) (K.faults keeper.new) }
     ensures kept { OnOk result (K.faults keeper.new ≡ K.faults keeper.old) }
+    ensures settled { K.settled keeper.old →
+        Settles (K.faults keeper.old) (K.faults keeper.new) result (K.settled keeper.new) }
 {
     let Replay {
         configs,
@@ -102,6 +105,9 @@ pub fn open_journal<K: Keeper>(
     ensures cause { IsErrOf result JournalFault.Failed →
         Rose (K.faults keeper.old) (K.faults keeper.new) }
     ensures kept { OnOk result (K.faults keeper.new ≡ K.faults keeper.old) }
+    // What was opened is settled, damaged or not.
+    ensures settled { Settles (K.faults keeper.old) (K.faults keeper.new) result
+        (K.settled keeper.new) }
 {
     let Ok(()) = keeper.open_at(path) else {
         return Err(JournalFault::Failed);
