@@ -9,7 +9,7 @@ use Rattle.record_journal.specs.Keepers.{Cuts, IsUntold, Opens}
 use Rattle.journal_disk.specs.Files.{Files}
 use Rattle.journal_disk.specs.Images.{DiskState, IsToldAlike}
 use Rattle.journal_store.specs.Content.{content, content_of}
-use Rattle.journal_store.specs.Kept.{IsDiskSettled, CanLeave, if_path}
+use Rattle.journal_store.specs.Kept.{AtEachMoment, IsDiskSettled, CanLeave, if_path}
 use Rattle.journal_store.specs.Compacting.{IsOnly, Replaces}
 
 -- what a read gives before and after a call that makes of a content another
@@ -80,3 +80,16 @@ only_settled d settled = on d.seen refl
     on : (o : Option Files) → d.seen ≡ o → IsOnly (content_of o) (CanLeave d)
     on None e = tt
     on (Some f) e = λ y stood. sym stood.2 ∙ settled f e stood.0 stood.1
+
+-- a call that makes no other content leaves a disk settled
+pub still_settled : (old new : DiskState) → AtEachMoment old new (λ x. x) → IsToldAlike old.seen new.seen
+    → ((f g : Files) → old.seen ≡ Some f → new.seen ≡ Some g → content g ≡ content f) → IsDiskSettled old → IsDiskSettled new
+still_settled old new moments alike same settled = on old.seen new.seen refl refl alike
+  where
+    on : (o p : Option Files) → old.seen ≡ o → new.seen ≡ p → IsToldAlike o p → IsDiskSettled new
+    on None None was is alike = λ g now c leaves. absurd cc
+    on None (Some g) was is alike = absurd alike
+    on (Some f) p was is alike = λ g now c leaves.
+        ⊎_elim (λ (stood : CanLeave old (content c)). sym stood.2 ∙ settled f was stood.0 stood.1)
+        (λ (held : content c ≡ content f). held) ((moments f was).now c leaves)
+        ∙ sym (same f g was now)

@@ -34,11 +34,14 @@ impl<D: Disk> Keeper for JournalStore<D> {
 
     ghost faults = { λ s. D.faults s };
 
+    ghost settled = { λ s. IsDiskSettled (D.state s) };
+
     /// A crash that stops it leaves a content of before, or without a path none.
     fn open_at(&mut self, path: Option<&str>) -> Result<(), Failed>
         ensures bytes { Opens (is_some path.entry) (content_of (D.state self.old).seen)
             (content_of (D.state self.new).seen) result }
         ensures cause { HasCause (D.faults self.old) (D.faults self.new) result }
+        ensures settled { OnOk result (IsDiskSettled (D.state self.new)) }
         ensures changes { Changes (if_path (is_some path.entry))
             (D.state self.old) (D.state self.new) result }
     {
@@ -59,8 +62,9 @@ impl<D: Disk> Keeper for JournalStore<D> {
         ensures kept { OnOk result (D.faults self.new ≡ D.faults self.old) }
         ensures memory { IsErrOf result KeepFault.OutOfMemory →
             D.faults self.new ≡ D.faults self.old }
+        ensures settled { IsDiskSettled (D.state self.old) → IsDiskSettled (D.state self.new) }
         ensures any_moment { AtEachMoment (D.state self.old) (D.state self.new) (λ x. x) }
-        ensures settled { OnOk result (IsDiskSettled (D.state self.new)) }
+        ensures synced { OnOk result (IsDiskSettled (D.state self.new)) }
     {
         match self.read_bytes() {
             Ok(bytes) => Ok(Items::from_vec(bytes)),
@@ -75,6 +79,7 @@ impl<D: Disk> Keeper for JournalStore<D> {
         ensures untold { IsUntold (content_of (D.state self.old).seen)
             (content_of (D.state self.new).seen) }
         ensures cause { HasCause (D.faults self.old) (D.faults self.new) result }
+        ensures settled { OnOk result (IsDiskSettled (D.state self.new)) }
         ensures changes { Changes (λ x. x ++ bytes.now)
             (D.state self.old) (D.state self.new) result }
     {
@@ -88,6 +93,7 @@ impl<D: Disk> Keeper for JournalStore<D> {
         ensures untold { IsUntold (content_of (D.state self.old).seen)
             (content_of (D.state self.new).seen) }
         ensures cause { HasCause (D.faults self.old) (D.faults self.new) result }
+        ensures settled { OnOk result (IsDiskSettled (D.state self.new)) }
         ensures changes { Changes (take length) (D.state self.old) (D.state self.new) result }
     {
         self.keep_front(length)
