@@ -4,6 +4,7 @@
 ghost use Rattle.std.specs.Prelude.{◌≡◌, ◌≤◌, IfOk, IsErrOf, OnOk, is_some};
 ghost use Rattle.outside.specs.Causes.{Rose};
 ghost use Rattle.record_journal.specs.Bearing.{Bears, stood_in};
+ghost use Rattle.record_journal.specs.Keepers.{Settles};
 ghost use Rattle.scm_core.specs.Managed.{AreSmall};
 ghost use Rattle.scm_rules.specs.Opening.{IsOpening};
 ghost use Rattle.scm_restored.specs.Restored.{Comes, IsUnmoved};
@@ -46,6 +47,8 @@ pub fn open_manager<K: Keeper>(
     ensures cause { IsErrOf result JournalFault.Failed →
         Rose (K.faults keeper.old) (K.faults keeper.new) }
     ensures kept { OnOk result (K.faults keeper.new ≡ K.faults keeper.old) }
+    ensures settled { Settles (K.faults keeper.old) (K.faults keeper.new) result
+        (K.settled keeper.new) }
 {
     let Restored { journal, configs } = open_journal(alloc, keeper, path)?;
     match Manager::new(alloc, limits, groups, configs, moment) {
