@@ -8,6 +8,7 @@ use Rattle.scm_model.specs.declared.steps.Step.TheVariants.{Gone}
 use Rattle.scm_model.specs.Entries.{Entry}
 use Rattle.scm_trail.specs.Trailed.{Trailed}
 use Rattle.record_journal.specs.Bearing.{Bears, and_changes}
+use Rattle.record_journal.specs.Keepers.{SettledSince}
 use Rattle.scm_history.specs.Kept.{kept_changes}
 use Rattle.scm_rules.specs.Histories.{Legal, state}
 use Rattle.atomic_table.specs.declared.shared.Seat.{Seat}
@@ -25,10 +26,11 @@ use Rattle.scm_book.specs.Passes.{Known, Made}
 use Rattle.scm_book.specs.Turns.{known}
 use Rattle.scm_book.proofs.Coming.{shaped}
 
-module _ {K : Type 0} (tells : K → Option (List ℕ)) (faulted : K → ℕ) (b : Identity) (s : Seat (Option (Box (Held K) Global)) View)
-    (h : Held K) (ends : Ends (way_of tells faulted) b s h) where
+module _ {K : Type 0} (tells : K → Option (List ℕ)) (faulted : K → ℕ) (IsSettled : K → Type 0) (b : Identity)
+    (s : Seat (Option (Box (Held K) Global)) View)
+    (h : Held K) (ends : Ends (way_of tells faulted IsSettled) b s h) where
   pub closes : (c : Closed K) → c.trail ≡ h.trail → c.keeper ≡ h.keeper → c.services ≡ length h.manager.flat.services
-      → Closes tells faulted b.opening (known s) c
+      → Closes tells faulted IsSettled b.opening (known s) c
   closes c trail keeper services =
       let log = ends.log in
       let is : c.trail.entries ≡ log = ap (λ (t : Trailed). t.entries) trail ∙ ends.fits.trail in record {
@@ -44,6 +46,7 @@ module _ {K : Type 0} (tells : K → Option (List ℕ)) (faulted : K → ℕ) (b
             h.journal (tells k)) (sym keeper) ends.fits.journal);
         faults = subst (λ (l : List Entry). RoseBy (failures_in l) b.opening.faults (faulted c.keeper)) (sym is)
             (subst (λ (k : K). RoseBy (failures_in log) b.opening.faults (faulted k)) (sym keeper) ends.fits.faults);
+        settled = subst (λ (k : K). SettledSince b.opening.faults (faulted k) (IsSettled k)) (sym keeper) ends.fits.settled;
       }
 
 -- a going is told that it was done

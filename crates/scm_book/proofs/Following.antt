@@ -43,7 +43,8 @@ contradicts : (l : Limits) (f : Flat) (n : Name) (log front rest : List Entry) �
     → has_name l f n log ≡ false → ⊥
 contradicts l f n log front rest is there none = let same = ap (has_name l f n) is in absurd cc
 
-module _ {K : Type 0} (tells : K → Option (List ℕ)) (faulted : K → ℕ) (o : Opening) (log : List Entry) (e : Entry) (runs : Runs o log)
+module _ {K : Type 0} (tells : K → Option (List ℕ)) (faulted : K → ℕ) (IsSettled : K → Type 0) (o : Opening) (log : List Entry) (e : Entry)
+    (runs : Runs o log)
     (ok : IsTrue (may o.limits (state o.limits o.first log) e.0 e.1))
     (free : (is_owed e.1 ≡ true) ⊎ IsTrue (has_room o.limits (state o.limits o.first log) (length log) (text_in log) e.1)) where
   legal_then : Legal o.limits o.first (log ++ e ∷ [])
@@ -59,13 +60,15 @@ module _ {K : Type 0} (tells : K → Option (List ℕ)) (faulted : K → ℕ) (o
   pub short : length log + 1 ≤ 16777216
   short = let c = counted in let small = runs.opens.small.steps in omega arith
 
-  new_name : (n : Name) → Has n (names_made (state o.limits o.first log) e.1) → (k : ℕ) → MadeAt (way_of tells faulted) o log k n → ⊥
+  new_name : (n : Name) → Has n (names_made (state o.limits o.first log) e.1) → (k : ℕ) → MadeAt (way_of tells faulted IsSettled) o log k n
+      → ⊥
   new_name n has k at =
       let no = not_before o.limits o.first n log e (anew o.limits o.first runs.opens.begins log e legal_then) has in
       contradicts o.limits o.first n log at.front (at.entry ∷ at.rest) at.is
       (made_at o.limits o.first n at.front at.entry at.rest at.made) no
 
-  unnamed : (n : Name) → Has n (names_made (state o.limits o.first log) e.1) → (k : ℕ) → NamedAt (way_of tells faulted) log k n → ⊥
+  unnamed : (n : Name) → Has n (names_made (state o.limits o.first log) e.1) → (k : ℕ) → NamedAt (way_of tells faulted IsSettled) log k n
+      → ⊥
   unnamed n has k at =
       let no = not_before o.limits o.first n log e (anew o.limits o.first runs.opens.begins log e legal_then) has in
       let stands = behind o.limits o.first runs.opens.begins log at.front at.entry at.rest at.is runs.legal in
@@ -73,7 +76,7 @@ module _ {K : Type 0} (tells : K → Option (List ℕ)) (faulted : K → ℕ) (o
       (made_more o.limits o.first n at.front (at.entry ∷ at.rest) (named_before o.limits o.first n at.front at.entry stands at.named))
       no
 
-  pub follows : Follows (way_of tells faulted) o log e
+  pub follows : Follows (way_of tells faulted IsSettled) o log e
   follows =
       let stay = callers_stay o.limits o.first runs.opens.begins log e legal_then in
       record {

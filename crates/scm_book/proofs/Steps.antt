@@ -1,5 +1,6 @@
 -- What one step more makes of what the holder of the turn has.
 use Rattle.std.proofs.Common.{ℕ, ◌≡◌, ◌∙◌, ◌+◌, ◌≤◌, true, IsTrue, List, [], ◌∷◌, ◌++◌, Option, None, Some, refl, ap, sym, subst, arith}
+use Rattle.std.proofs.Common.{inl, inr}
 use Rattle.outside.specs.Causes.{Rose}
 use Rattle.scm_model.specs.declared.flat.Flat.{Flat}
 use Rattle.scm_model.specs.declared.flat.Limits.{Limits}
@@ -12,6 +13,7 @@ use Rattle.scm_model.specs.declared.steps.Step.TheVariants.{Call}
 use Rattle.scm_model.specs.Entries.{Entry, with_kept}
 use Rattle.scm_model.specs.Texts.{text_of}
 use Rattle.record_journal.specs.Bearing.{Bears, BearsMore, BearsSame, Stood, and_changes}
+use Rattle.record_journal.specs.Keepers.{SettledSince}
 use Rattle.scm_rules.specs.Histories.{answer, state}
 use Rattle.scm_rules.specs.Owed.{owed}
 use Rattle.scm_rules.specs.Room.{debt}
@@ -77,38 +79,41 @@ rose_none n a b none le = omega arith
 rose_once : (n a b : ℕ) → n ≤ 1 → Rose a b → RoseBy n a b
 rose_once n a b once rose = omega arith
 
-module _ {K : Type 0} (tells : K → Option (List ℕ)) (faulted : K → ℕ) (h h' : Held K) (step : Step) where
+module _ {K : Type 0} (tells : K → Option (List ℕ)) (faulted : K → ℕ) (IsSettled : K → Type 0) (h h' : Held K) (step : Step) where
   -- with no change
   bears_none : (change : Option Change) → change ≡ None → (good : Option Stood) → Bears good h.journal (tells h.keeper)
       → Bears (and_changes good (one_or_none change)) h.journal (tells h.keeper)
   bears_none change none good bears = subst (λ (c : Option Change). Bears (and_changes good (one_or_none c)) h.journal (tells h.keeper))
       (sym none) bears
 
-  pub keeps_none : h' ≡ h → Keeps tells faulted h h' (with_kept step appended.NotAsked)
-  keeps_none same = subst (λ (g : Held K). Keeps tells faulted h g (with_kept step appended.NotAsked)) (sym same) (record {
+  pub keeps_none : h' ≡ h → Keeps tells faulted IsSettled h h' (with_kept step appended.NotAsked)
+  keeps_none same = subst (λ (g : Held K). Keeps tells faulted IsSettled h g (with_kept step appended.NotAsked)) (sym same) (record {
     bears = bears_none (kept_change h.manager.limits h.manager.flat (with_kept step appended.NotAsked))
         ((law_of_kept h.manager.limits h.manager.flat).unasked h.manager.flat step);
     faults = rose_none (one_failed (with_kept step appended.NotAsked)) (faulted h.keeper) (faulted h.keeper) (none_failed step)
         (omega arith);
+    settled = λ settled. inr settled;
   })
 
   pub keeps_kept : (change : Change) → change_of h.manager.limits h.manager.flat step ≡ Some change
       → BearsMore change h.journal (tells h.keeper) h'.journal (tells h'.keeper)
-      → faulted h.keeper ≤ faulted h'.keeper → Keeps tells faulted h h' (with_kept step appended.Kept)
+      → faulted h.keeper ≤ faulted h'.keeper → IsSettled h'.keeper → Keeps tells faulted IsSettled h h' (with_kept step appended.Kept)
   unfolding BearsMore
-  keeps_kept change is more grows = record {
+  keeps_kept change is more grows settled = record {
     bears = λ good bears. subst (λ (c : Option Change). Bears (and_changes good (one_or_none c)) h'.journal (tells h'.keeper))
         (sym ((law_of_kept h.manager.limits h.manager.flat).kept h.manager.flat step ∙ is)) (more good bears);
     faults = rose_none (one_failed (with_kept step appended.Kept)) (faulted h.keeper) (faulted h'.keeper) (kept_failed step) grows;
+    settled = λ before. inr settled;
   }
 
   pub keeps_failed : BearsSame h.journal (tells h.keeper) h'.journal (tells h'.keeper) → Rose (faulted h.keeper) (faulted h'.keeper)
-      → Keeps tells faulted h h' (with_kept step appended.Failed)
+      → Keeps tells faulted IsSettled h h' (with_kept step appended.Failed)
   unfolding BearsSame
   keeps_failed stays rose = record {
     bears = λ good bears. subst (λ (c : Option Change). Bears (and_changes good (one_or_none c)) h'.journal (tells h'.keeper))
         (sym ((law_of_kept h.manager.limits h.manager.flat).failed h.manager.flat step)) (stays good bears);
     faults = rose_once (one_failed (with_kept step appended.Failed)) (faulted h.keeper) (faulted h'.keeper) (failed_once step) rose;
+    settled = λ before. inl rose;
   }
 
 -- ## One after another
@@ -144,21 +149,25 @@ module _ {K : Type 0} (h mid h' : Held K) where
     text = grows.text ∙ ap (λ (n : ℕ). n + text_of step) none.text;
   }
 
-  module _ (tells : K → Option (List ℕ)) (faulted : K → ℕ) (step : Step) (append : Kept) where
-    keeps_from : IsAsItWas h mid → Keeps tells faulted mid h' (with_kept step append) → Keeps tells faulted h h' (with_kept step append)
+  module _ (tells : K → Option (List ℕ)) (faulted : K → ℕ) (IsSettled : K → Type 0) (step : Step) (append : Kept) where
+    keeps_from : IsAsItWas h mid → Keeps tells faulted IsSettled mid h' (with_kept step append)
+        → Keeps tells faulted IsSettled h h' (with_kept step append)
     keeps_from was keeps = record {
       bears = λ good bears. subst (λ (c : Option Change). Bears (and_changes good (one_or_none c)) h'.journal (tells h'.keeper))
           (λ i. kept_change (was.none.limits i) (was.none.flat i) (with_kept step append))
           (keeps.bears good (subst (λ (j : Journal). Bears good j (tells mid.keeper)) (sym was.journal)
           (subst (λ (k : K). Bears good h.journal (tells k)) (sym was.keeper) bears)));
       faults = let f = ap faulted was.keeper in let k = keeps.faults in omega arith;
+      settled = subst (λ (k : K). IsSettled k → SettledSince (faulted k) (faulted h'.keeper) (IsSettled h'.keeper)) was.keeper
+          keeps.settled;
     }
 
     pub prepared : has_room_in h step ≡ true → IsAsItWas h mid → WasMadeFor mid.manager.room step → owed h.manager.flat
         + debt h.manager.flat step ≤ mid.trail.room → 1 ≤ mid.trail.room
         → text_of step ≤ mid.trail.text_room → h'.manager ≡ mid.manager → h'.trail ≡ mid.trail
-        → Keeps tells faulted mid h' (with_kept step append)
-        → IsTrue (keeps_right mid.manager.limits mid.manager.flat (with_kept step append)) → IsPrepared tells faulted h h' step append
+        → Keeps tells faulted IsSettled mid h' (with_kept step append)
+        → IsTrue (keeps_right mid.manager.limits mid.manager.flat (with_kept step append))
+        → IsPrepared tells faulted IsSettled h h' step append
     prepared free was made room one text manager trail keeps right = record {
       free = free;
       none = none_as was.none manager trail;
@@ -170,9 +179,10 @@ module _ {K : Type 0} (h mid h' : Held K) where
       text_room = subst (λ (t : Trailed). text_of step ≤ t.text_room) (sym trail) text;
     }
 
-    pub made : (moment : ℕ) (told : Answer) → IsPrepared tells faulted h mid step append → Grows mid h' moment (with_kept step append) told
+    pub made : (moment : ℕ) (told : Answer) → IsPrepared tells faulted IsSettled h mid step append
+        → Grows mid h' moment (with_kept step append) told
         → h'.journal ≡ mid.journal → h'.keeper ≡ mid.keeper
-        → mid.trail.room ≤ h'.trail.room + 1 → Makes tells faulted h h' moment step told
+        → mid.trail.room ≤ h'.trail.room + 1 → Makes tells faulted IsSettled h h' moment step told
     made moment told p grows journal keeper room = record {
       append = append;
       free = p.free;
@@ -183,12 +193,14 @@ module _ {K : Type 0} (h mid h' : Held K) where
             (subst (λ (k : K). Bears (and_changes good (one_or_none (kept_change h.manager.limits h.manager.flat (with_kept step append))))
             mid.journal (tells k)) (sym keeper) (p.keeps.bears good bears));
         faults = let f = ap faulted keeper in let k = p.keeps.faults in omega arith;
+        settled = subst (λ (k : K). IsSettled h.keeper → SettledSince (faulted h.keeper) (faulted k) (IsSettled k)) (sym keeper)
+            p.keeps.settled;
       };
       room = let r = p.room in omega arith;
     }
 
     -- what the step asks then
-    pub may_finish : (moment : ℕ) → IsPrepared tells faulted h mid step append
+    pub may_finish : (moment : ℕ) → IsPrepared tells faulted IsSettled h mid step append
         → IsTrue (may_come h.manager.limits h.manager.flat moment step)
         → IsTrue (may mid.manager.limits mid.manager.flat moment (with_kept step append))
     may_finish moment p come = (λ i. may (p.none.limits i) (p.none.flat i) moment (with_kept step append))

@@ -7,6 +7,7 @@ use Rattle.scm_rules.specs.Histories.{Legal, state}
 use Rattle.book_rule.specs.declared.view.Opening.{Opening}
 use Rattle.book_rule.specs.Seats.{Identity}
 use Rattle.record_journal.specs.Bearing.{Bears, and_changes}
+use Rattle.record_journal.specs.Keepers.{SettledSince}
 use Rattle.record_journal.specs.declared.journal.Journal.{Journal}
 use Rattle.scm_history.specs.Kept.{kept_changes}
 use Rattle.scm_core.specs.Managed.{Managed}
@@ -36,6 +37,7 @@ module _ {K : Type 0} (tells : K → Option (List ℕ)) (faulted : K → ℕ) wh
       IsFirstPass made.book made.pass
       (record { limits = m.limits; first = m.flat; bytes = tells keeper; form = j.form; faults = faulted keeper })
 
+module _ {K : Type 0} (tells : K → Option (List ℕ)) (faulted : K → ℕ) (IsSettled : K → Type 0) where
   -- a legal history of which the pass had seen a prefix, and all of it where it was alone; and what the keeper holds of its changes
   pub record Closes (o : Opening) (k : Known) (c : Closed K) : Type 0 where
     pub longer : IsPrefix k.seen c.trail.entries
@@ -47,6 +49,8 @@ module _ {K : Type 0} (tells : K → Option (List ℕ)) (faulted : K → ℕ) wh
     pub bears : Bears (and_changes (stood_at o) (kept_changes o.limits o.first c.trail.entries)) journal (tells c.keeper)
     -- each change that was not kept has a fault of the keeper
     pub faults : RoseBy (failures_in c.trail.entries) o.faults (faulted c.keeper)
+    -- a crash leaves what it holds, unless it failed
+    pub settled : SettledSince o.faults (faulted c.keeper) (IsSettled c.keeper)
 
 -- ## gone
 

@@ -8,6 +8,7 @@ use Rattle.scm_model.specs.Rows.{is_caller}
 use Rattle.book_rule.specs.declared.view.Opening.{Opening}
 use Rattle.book_rule.specs.Ways.{Protocol}
 use Rattle.record_journal.specs.Bearing.{Bears, Stood, and_changes, stood_in}
+use Rattle.record_journal.specs.Keepers.{SettledSince}
 use Rattle.scm_rules.specs.Histories.{Legal, state}
 use Rattle.scm_rules.specs.Opening.{IsOpening}
 use Rattle.scm_rules.specs.Owed.{owed}
@@ -51,7 +52,7 @@ stood_at o = stood_in o.form o.bytes
 abbrev pub Lives : Opening → List Entry → ℕ → Type 0
 Lives o log caller = IsTrue (is_caller (state o.limits o.first log) caller)
 
-module _ {K : Type 0} (tells : K → Option (List ℕ)) (faulted : K → ℕ) where
+module _ {K : Type 0} (tells : K → Option (List ℕ)) (faulted : K → ℕ) (IsSettled : K → Type 0) where
   pub record Holds (o : Opening) (log : List Entry) (h : Held K) : Type 0 where
     pub trail : h.trail.entries ≡ log
     pub limits : h.manager.limits ≡ o.limits
@@ -62,6 +63,8 @@ module _ {K : Type 0} (tells : K → Option (List ℕ)) (faulted : K → ℕ) wh
     pub journal : Bears (and_changes (stood_at o) (kept_changes o.limits o.first log)) h.journal (tells h.keeper)
     -- each change that was not kept has a fault of the keeper
     pub faults : RoseBy (failures_in log) o.faults (faulted h.keeper)
+    -- a crash now leaves what the keeper holds, unless it failed
+    pub settled : SettledSince o.faults (faulted h.keeper) (IsSettled h.keeper)
     -- memory for the entries that are owed
     pub room : owed h.manager.flat ≤ h.trail.room
     -- the text is within its limit

@@ -76,7 +76,7 @@ pub record IsSame (k k' : Known) : Type 0 where
 
 -- what a pass claims of a history; what a keeper tells plays no part in it
 abbrev pub ClaimsIn : Opening → List Entry → Known → Type 0
-ClaimsIn o log k = Claims (way_of {K = Unit {0}} (λ keeper. None) (λ keeper. 0)) o log k.caller k.names k.own k.seen
+ClaimsIn o log k = Claims (way_of {K = Unit {0}} (λ keeper. None) (λ keeper. 0) (λ keeper. Unit {0})) o log k.caller k.names k.own k.seen
 
 -- the state of the history that a pass has seen
 abbrev pub seen_state : Opening → Known → Flat

@@ -46,9 +46,10 @@ Ends o k moment caller plan k' None = Learnt o k k' × IsUndecided o k'.seen pla
 abbrev pub IsEndBy : Opening → Badge View → ℕ → ℕ → ℕ → Badge View → Option Answer → Type 0
 IsEndBy o badge moment caller plan badge' r = Ends o (of_badge badge) moment caller plan (of_badge badge') r
 
-module _ {K : Type 0} (tells : K → Option (List ℕ)) (faulted : K → ℕ) (b : Identity) (s s' : Seat (Option (Box (Held K) Global)) View) where
+module _ {K : Type 0} (tells : K → Option (List ℕ)) (faulted : K → ℕ) (IsSettled : K → Type 0) (b : Identity)
+    (s s' : Seat (Option (Box (Held K) Global)) View) where
   abbrev pub DidEnd : ℕ → ℕ → ℕ → Option Answer → Type 0
-  DidEnd moment caller plan (Some told) = DidBy tells faulted b s s' moment (EndStart caller plan) told
+  DidEnd moment caller plan (Some told) = DidBy tells faulted IsSettled b s s' moment (EndStart caller plan) told
   DidEnd moment caller plan None = LeftIt s s' × IsUndecided b.opening s.me.0.seen plan
 
 -- ## end_start

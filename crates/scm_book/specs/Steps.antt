@@ -7,6 +7,7 @@ use Rattle.scm_model.specs.declared.steps.Step.TheVariants.{EndStart, LaunchTake
 use Rattle.scm_model.specs.Entries.{with_kept}
 use Rattle.scm_model.specs.Texts.{text_of}
 use Rattle.record_journal.specs.Bearing.{Bears, Stood, and_changes}
+use Rattle.record_journal.specs.Keepers.{SettledSince}
 use Rattle.scm_rules.specs.Histories.{answer, state}
 use Rattle.scm_rules.specs.Owed.{owed}
 use Rattle.scm_rules.specs.Room.{debt, has_room}
@@ -86,12 +87,14 @@ module _ {K : Type 0} where
   Why h step Full = has_room_in h step ≡ false
   Why h step OutOfMemory = has_room_in h step ≡ true
 
-  module _ (tells : K → Option (List ℕ)) (faulted : K → ℕ) where
+  module _ (tells : K → Option (List ℕ)) (faulted : K → ℕ) (IsSettled : K → Type 0) where
     -- what the keeper bore it bears with the step's change, if that was kept; if it wasn't, the keeper failed
     pub record Keeps (h h' : Held K) (step : Step) : Type 0 where
       pub bears : (good : Option Stood) → Bears good h.journal (tells h.keeper)
           → Bears (and_changes good (one_or_none (kept_change h.manager.limits h.manager.flat step))) h'.journal (tells h'.keeper)
       pub faults : RoseBy (one_failed step) (faulted h.keeper) (faulted h'.keeper)
+      -- it is settled if it was, unless it failed
+      pub settled : IsSettled h.keeper → SettledSince (faulted h.keeper) (faulted h'.keeper) (IsSettled h'.keeper)
 
     -- the same of a step with what became of its change
     abbrev pub KeepsAs : Held K → Held K → Step → Kept → Type 0

@@ -71,6 +71,7 @@ impl<K: Keeper> Book<K> {
         requires steps { manager.steps ≡ 0 }
         requires text { manager.text ≡ 0 }
         requires journal { Bears (stood_in journal.form (K.held keeper)) journal (K.held keeper) }
+        requires settled { K.settled keeper }
         ensures ok { IfOk result (BeginsWith K.held K.faults manager journal keeper) }
         ensures err { IfErr result (λ back. back ≡ keeper) }
     {
@@ -113,7 +114,7 @@ impl<K: Keeper> Book<K> {
     /// Ends the book, and hands out the whole history.
     pub fn close<R: Wait>(self, rt: &R, last: Spent) -> Closed<K>
         requires { IsOf self last }
-        ensures { Closes K.held K.faults self.opening last result }
+        ensures { Closes K.held K.faults K.settled self.opening last result }
     {
         let Spent { badge } = last;
         let Book { shared } = self;

@@ -105,8 +105,8 @@ impl<K: Keeper> Held<K> {
         requires may { IsTrue (may_come_in self.old moment (ControlTaken process)) }
         requires small { AreSmall self.old.manager.limits }
         requires name { 256 ≤ name.old.room }
-        ensures ok { IfOk result (HoldsControl K.held K.faults self.old self.new moment process
-            name.old name.new) }
+        ensures ok { IfOk result (HoldsControl K.held K.faults K.settled self.old self.new moment
+            process name.old name.new) }
         ensures err { OnErr result (IsAsItWas self.old self.new) }
         ensures why { IfErr result (Why self.old (ControlTaken process)) }
         ensures name { OnErr result (name.new ≡ name.old) }
@@ -136,12 +136,12 @@ impl<K: Keeper> Shared<K> {
         mut held: Box<Held<K>>,
         seat: &mut TurnSeat<Held<K>>,
     ) -> Result<HandedOrder, MakeFault>
-        requires turn { HasTurn K.held K.faults self.now.turn seat.old held.value }
+        requires turn { HasTurn K.held K.faults K.settled self.now.turn seat.old held.value }
         requires may { MayMakeBy self.now.turn.opening seat.old.me.0 moment (ControlTaken process) }
         requires step { control.old.step ≡ ControlTaken process }
         requires name { 256 ≤ name.old.room }
-        ensures ok { IfOk result (DidHand K.held K.faults self.now.turn seat.old seat.new moment
-            process name.old name.new) }
+        ensures ok { IfOk result (DidHand K.held K.faults K.settled self.now.turn seat.old seat.new
+            moment process name.old name.new) }
         ensures err { OnErr result (LeftIt seat.old seat.new) }
         ensures why { IfErr result (MakeCause self.now.turn.opening seat.old.me.0.seen
             (ControlTaken process)) }
@@ -173,11 +173,11 @@ impl<K: Keeper> Shared<K> {
         held: Box<Held<K>>,
         seat: &mut TurnSeat<Held<K>>,
     ) -> Result<HandedOrder, StepFault>
-        requires turn { HasTurn K.held K.faults self.now.turn seat.old held.value }
+        requires turn { HasTurn K.held K.faults K.settled self.now.turn seat.old held.value }
         requires step { control.old.step ≡ ControlTaken process }
         requires name { 256 ≤ name.old.room }
-        ensures did { DidControl K.held K.faults self.now.turn seat.old seat.new moment process
-            name.old name.new result }
+        ensures did { DidControl K.held K.faults K.settled self.now.turn seat.old seat.new moment
+            process name.old name.new result }
         ensures waits { Waits self.now.turn seat.new }
     {
         if !held.manager.may(moment, &control.step) {

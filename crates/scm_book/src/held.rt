@@ -155,7 +155,7 @@ fn put(place: &mut Answer, told: Answer)
 impl<K: Keeper> Guarded for Held<K> {
     ghost use Rattle.scm_book.specs.Holds.{way_of};
 
-    ghost way = { way_of K.held K.faults };
+    ghost way = { way_of K.held K.faults K.settled };
 }
 
 impl<K: Keeper> Held<K> {
@@ -230,7 +230,7 @@ impl<K: Keeper> Held<K> {
         requires { WasMadeFor self.old.manager.room step.now }
         ensures manager { self.new.manager ≡ self.old.manager }
         ensures trail { self.new.trail ≡ self.old.trail }
-        ensures keeps { IfOk result (KeepsAs K.held K.faults self.old self.new step.now) }
+        ensures keeps { IfOk result (KeepsAs K.held K.faults K.settled self.old self.new step.now) }
         ensures told { IfOk result (TellsRight self.old step.now) }
         ensures journal { OnErr result (self.new.journal ≡ self.old.journal) }
         ensures keeper { OnErr result (self.new.keeper ≡ self.old.keeper) }
@@ -271,7 +271,8 @@ impl<K: Keeper> Held<K> {
     #[inline(always)]
     pub(crate) fn prepare(&mut self, doubled: &PendingEntry) -> Result<Kept, MakeFault>
         requires small { AreSmall self.old.manager.limits }
-        ensures ok { IfOk result (IsPrepared K.held K.faults self.old self.new doubled.now.step) }
+        ensures ok { IfOk result (IsPrepared K.held K.faults K.settled self.old self.new
+            doubled.now.step) }
         ensures noted { OnOk result (IsSome doubled.now.note) }
         ensures err { OnErr result (IsAsItWas self.old self.new) }
         ensures why { IfErr result (λ fault. Why self.old doubled.now.step fault) }
@@ -303,7 +304,8 @@ impl<K: Keeper> Held<K> {
     ) -> Result<Answer, MakeFault>
         requires may { IsTrue (may_come_in self.old moment doubled.old.step) }
         requires small { AreSmall self.old.manager.limits }
-        ensures ok { IfOk result (Makes K.held K.faults self.old self.new moment doubled.old.step) }
+        ensures ok { IfOk result (Makes K.held K.faults K.settled self.old self.new moment
+            doubled.old.step) }
         ensures err { OnErr result (IsAsItWas self.old self.new) }
         ensures why { IfErr result (λ fault. Why self.old doubled.old.step fault) }
         ensures same { OnErr result (doubled.new ≡ doubled.old) }
@@ -329,8 +331,8 @@ impl<K: Keeper> Held<K> {
     ) -> Result<(), MakeFault>
         requires may { IsTrue (may_come_in self.old moment doubled.old.step) }
         requires small { AreSmall self.old.manager.limits }
-        ensures ok { OnOk result (Makes K.held K.faults self.old self.new moment doubled.old.step
-            answer.new) }
+        ensures ok { OnOk result (Makes K.held K.faults K.settled self.old self.new moment
+            doubled.old.step answer.new) }
         ensures err { OnErr result (IsAsItWas self.old self.new) }
         ensures why { IfErr result (λ fault. Why self.old doubled.old.step fault) }
         ensures same { OnErr result (doubled.new ≡ doubled.old) }
@@ -375,7 +377,7 @@ impl<K: Keeper> Held<K> {
     pub fn make(&mut self, moment: u64, step: Step) -> Result<Answer, MakeFault>
         requires may { IsTrue (may_come_in self.old moment step) }
         requires small { AreSmall self.old.manager.limits }
-        ensures ok { IfOk result (Makes K.held K.faults self.old self.new moment step) }
+        ensures ok { IfOk result (Makes K.held K.faults K.settled self.old self.new moment step) }
         ensures err { OnErr result (IsAsItWas self.old self.new) }
         ensures why { IfErr result (λ fault. Why self.old step fault) }
     {

@@ -147,10 +147,11 @@ impl<K: Keeper> Shared<K> {
         held: Box<Held<K>>,
         seat: &mut TurnSeat<Held<K>>,
     ) -> Option<Answer>
-        requires turn { HasTurn K.held K.faults self.now.turn seat.old held.value }
+        requires turn { HasTurn K.held K.faults K.settled self.now.turn seat.old held.value }
         requires there { IsThere self.now.turn.opening seat.old.me.0.seen seat.old.me.0.names by
             plan }
-        ensures did { DidEnd K.held K.faults self.now.turn seat.old seat.new moment by plan result }
+        ensures did { DidEnd K.held K.faults K.settled self.now.turn seat.old seat.new moment by
+            plan result }
         ensures waits { Waits self.now.turn seat.new }
     {
         if held.manager.decided(plan).is_none() {

@@ -7,12 +7,12 @@ use record_journal::Keeper;
 /// asks for: the longer history is legal, no earlier entry made or named those that this entry
 /// makes, and callers that it doesn't name live on.
 pub fn each_entry_follows<K: Keeper>()
-    ensures { EachFollows K.held K.faults }
+    ensures { EachFollows K.held K.faults K.settled }
 {}
 
 /// What the holder of the turn has stands at the end of the longer history, once it made a step:
 /// its manager in that history's state, its trail and its counts, its keeper with the changes that
 /// were kept, and memory for all that is owed then.
 pub fn standing_is_kept<K: Keeper>()
-    ensures { KeepsStanding K.held K.faults }
+    ensures { KeepsStanding K.held K.faults K.settled }
 {}

@@ -96,10 +96,10 @@ impl<K: Keeper> Shared<K> {
         mut held: Box<Held<K>>,
         seat: &mut TurnSeat<Held<K>>,
     ) -> Option<TakenLaunch>
-        requires turn { HasTurn K.held K.faults self.now.turn seat.old held.value }
+        requires turn { HasTurn K.held K.faults K.settled self.now.turn seat.old held.value }
         requires path { 2048 ≤ path.old.room }
-        ensures did { DidLaunch K.held K.faults self.now.turn seat.old seat.new moment path.old
-            path.new result }
+        ensures did { DidLaunch K.held K.faults K.settled self.now.turn seat.old seat.new moment
+            path.old path.new result }
         ensures waits { Waits self.now.turn seat.new }
     {
         let ring = Owed::LaunchTaken.ring(&held.manager);

@@ -63,9 +63,9 @@ impl<K: Keeper> Shared<K> {
         mut held: Box<Held<K>>,
         seat: &mut TurnSeat<Held<K>>,
     ) -> Answer
-        requires turn { HasTurn K.held K.faults self.now.turn seat.old held.value }
+        requires turn { HasTurn K.held K.faults K.settled self.now.turn seat.old held.value }
         requires may { MayMakeBy self.now.turn.opening seat.old.me.0 moment (owed_step owed) }
-        ensures did { DidBy K.held K.faults self.now.turn seat.old seat.new moment
+        ensures did { DidBy K.held K.faults K.settled self.now.turn seat.old seat.new moment
             (owed_step owed) result }
         ensures waits { Waits self.now.turn seat.new }
     {
@@ -107,10 +107,10 @@ impl<K: Keeper> Shared<K> {
         mut held: Box<Held<K>>,
         seat: &mut TurnSeat<Held<K>>,
     ) -> Result<Answer, MakeFault>
-        requires turn { HasTurn K.held K.faults self.now.turn seat.old held.value }
+        requires turn { HasTurn K.held K.faults K.settled self.now.turn seat.old held.value }
         requires may { MayMakeBy self.now.turn.opening seat.old.me.0 moment step.old.step }
-        ensures ok { IfOk result (DidSoBy K.held K.faults self.now.turn seat.old seat.new moment
-            step.old.step) }
+        ensures ok { IfOk result (DidSoBy K.held K.faults K.settled self.now.turn seat.old seat.new
+            moment step.old.step) }
         ensures err { OnErr result (LeftIt seat.old seat.new) }
         ensures why { IfErr result (MakeCause self.now.turn.opening seat.old.me.0.seen
             step.old.step) }
@@ -139,10 +139,10 @@ impl<K: Keeper> Shared<K> {
         held: Box<Held<K>>,
         seat: &mut TurnSeat<Held<K>>,
     ) -> Result<Answer, StepFault>
-        requires turn { HasTurn K.held K.faults self.now.turn seat.old held.value }
+        requires turn { HasTurn K.held K.faults K.settled self.now.turn seat.old held.value }
         requires own { NamesNoOther seat.old.me.0.names step.old.step }
-        ensures did { DidStep K.held K.faults self.now.turn seat.old seat.new moment step.old.step
-            result }
+        ensures did { DidStep K.held K.faults K.settled self.now.turn seat.old seat.new moment
+            step.old.step result }
         ensures waits { Waits self.now.turn seat.new }
     {
         if !held.manager.may(moment, &step.step) {
@@ -213,10 +213,11 @@ impl<K: Keeper> Shared<K> {
         held: Box<Held<K>>,
         seat: &mut TurnSeat<Held<K>>,
     ) -> Result<Recorded, MakeFault>
-        requires turn { HasTurn K.held K.faults self.now.turn seat.old held.value }
+        requires turn { HasTurn K.held K.faults K.settled self.now.turn seat.old held.value }
         requires may { MayMakeBy self.now.turn.opening seat.old.me.0 moment
             (steps.NoMemory caller) }
-        ensures did { DidNone K.held K.faults self.now.turn seat.old seat.new moment caller result }
+        ensures did { DidNone K.held K.faults K.settled self.now.turn seat.old seat.new moment
+            caller result }
         ensures waits { Waits self.now.turn seat.new }
     {
         let mut none = PendingEntry::new(self.alloc, Step::NoMemory { caller });
@@ -238,10 +239,10 @@ impl<K: Keeper> Shared<K> {
         mut held: Box<Held<K>>,
         seat: &mut TurnSeat<Held<K>>,
     ) -> Result<Recorded, MakeFault>
-        requires turn { HasTurn K.held K.faults self.now.turn seat.old held.value }
+        requires turn { HasTurn K.held K.faults K.settled self.now.turn seat.old held.value }
         requires may { MayMakeBy self.now.turn.opening seat.old.me.0 moment call.old.step }
         requires none { MayMakeBy self.now.turn.opening seat.old.me.0 moment (steps.NoMemory by) }
-        ensures did { DidCall K.held K.faults self.now.turn seat.old seat.new moment by
+        ensures did { DidCall K.held K.faults K.settled self.now.turn seat.old seat.new moment by
             call.old.step (call_told result answer.new) }
         ensures waits { Waits self.now.turn seat.new }
         ensures same { result ≡ Ok NoMemory → call.new ≡ call.old }

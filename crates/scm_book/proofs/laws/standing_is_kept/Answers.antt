@@ -4,9 +4,11 @@ use Rattle.scm_book.proofs.laws.standing_is_kept.Goals as goal
 
 pub returns : goal.returns
 returns g c = record {
-  makes = λ o log h h' moment step told runs holds made. made_holds g.K.Keeper.held g.K.Keeper.faults o log h holds h' moment step told runs
+  makes = λ o log h h' moment step told runs holds made. made_holds g.K.Keeper.held g.K.Keeper.faults g.K.Keeper.settled o log h holds h'
+      moment step told runs
       made;
-  adds = λ o log h h' moment owed told runs holds adds. added_holds g.K.Keeper.held g.K.Keeper.faults o log h holds h' moment owed told runs
+  adds = λ o log h h' moment owed told runs holds adds. added_holds g.K.Keeper.held g.K.Keeper.faults g.K.Keeper.settled o log h holds h'
+      moment owed told runs
       adds;
-  leaves = λ o log h h' holds same. holds_same g.K.Keeper.held g.K.Keeper.faults o log h h' holds same;
+  leaves = λ o log h h' holds same. holds_same g.K.Keeper.held g.K.Keeper.faults g.K.Keeper.settled o log h h' holds same;
 }

@@ -5,11 +5,11 @@ use Rattle.scm_book.proofs.held.Held.keep.Goals as goal
 
 pub returns-in-Ok-clause-keeps : goal.returns-in-Ok-clause-keeps
 returns-in-Ok-clause-keeps g c =
-    keeps_kept g.K.Keeper.held g.K.Keeper.faults c.args.self.now _ c.args.step.now c.in-Some.change.now
-    (sym c.in-Some.ensures) c.in-Ok.ensures.ok c.append.ensures.grows
+    keeps_kept g.K.Keeper.held g.K.Keeper.faults g.K.Keeper.settled c.args.self.now _ c.args.step.now c.in-Some.change.now
+    (sym c.in-Some.ensures) c.in-Ok.ensures.ok c.append.ensures.grows c.in-Ok.ensures.settled
 
 pub returns-in-Err-Failed-clause-keeps : goal.returns-in-Err-Failed-clause-keeps
 returns-in-Err-Failed-clause-keeps g c =
     let wrapped : KeepFault → Result (Unit {0}) KeepFault = λ fault. Err fault in
-    keeps_failed g.K.Keeper.held g.K.Keeper.faults c.args.self.now _ c.args.step.now c.in-Err-Failed.ensures.err
+    keeps_failed g.K.Keeper.held g.K.Keeper.faults g.K.Keeper.settled c.args.self.now _ c.args.step.now c.in-Err-Failed.ensures.err
     (c.in-Err-Failed.ensures.cause (ap wrapped c.in-Err-Failed.field-0-is))

@@ -10,7 +10,8 @@ unreachable-requires g c =
 
 pub returns-clause-ok : goal.returns-clause-ok
 returns-clause-ok g c =
-    handed_over g.K.Keeper.held g.K.Keeper.faults c.args.self.now c.prepare.new.self c.finish.new.self c.args.process c.args.moment
+    handed_over g.K.Keeper.held g.K.Keeper.faults g.K.Keeper.settled c.args.self.now c.prepare.new.self c.finish.new.self c.args.process
+    c.args.moment
     c.in_ok-kept.kept c.args.control.now.step c.requires.step c.in_ok-kept.ensures.ok c.args.name.now c.write_name.new.name
     c.finish.new.answer (record { order = c.in-Some.order; shared = c.shares-shared.result }) c.finish.ensures.grows
     c.finish.ensures.journal c.finish.ensures.keeper c.finish.ensures.room

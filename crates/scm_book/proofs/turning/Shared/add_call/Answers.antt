@@ -7,21 +7,25 @@ use Rattle.scm_book.proofs.turning.Shared.add_call.Goals as goal
 
 pub commit-requires-clause-content : goal.commit-requires-clause-content
 commit-requires-clause-content g c =
-    let holds = subst (λ (x : Held _). Holds g.K.Keeper.held g.K.Keeper.faults c.args.self.now.turn.opening c.args.seat.now.me.0.seen x)
+    let holds = subst (λ (x : Held _). Holds g.K.Keeper.held g.K.Keeper.faults g.K.Keeper.settled c.args.self.now.turn.opening
+    c.args.seat.now.me.0.seen x)
     (sym c.deref_mut.ensures.value) c.requires.turn.holds in
-    let p = stands_made g.K.Keeper.held g.K.Keeper.faults c.args.self.now.turn c.args.seat.now.me.0 c.deref_mut.result.now
+    let p = stands_made g.K.Keeper.held g.K.Keeper.faults g.K.Keeper.settled c.args.self.now.turn c.args.seat.now.me.0
+    c.deref_mut.result.now
     c.make_into.new.self holds c.requires.turn.runs c.args.moment c.args.call.now.step c.make_into.new.answer c.in-Ok.ensures.ok
     c.requires.may.own in
     record { entry = p.entry; trail = p.trail; names = p.names; follows = p.follows; fits = p.fits }
 
 pub returns-in-Ok-clause-did : goal.returns-in-Ok-clause-did
 returns-in-Ok-clause-did g c =
-    let holds = subst (λ (x : Held _). Holds g.K.Keeper.held g.K.Keeper.faults c.args.self.now.turn.opening c.args.seat.now.me.0.seen x)
+    let holds = subst (λ (x : Held _). Holds g.K.Keeper.held g.K.Keeper.faults g.K.Keeper.settled c.args.self.now.turn.opening
+    c.args.seat.now.me.0.seen x)
     (sym c.deref_mut.ensures.value) c.requires.turn.holds in
-    let did = did_make g.K.Keeper.held g.K.Keeper.faults c.args.self.now.turn c.args.seat.now.me.0 c.deref_mut.result.now
+    let did = did_make g.K.Keeper.held g.K.Keeper.faults g.K.Keeper.settled c.args.self.now.turn c.args.seat.now.me.0 c.deref_mut.result.now
     c.make_into.new.self holds c.requires.turn.runs c.args.moment c.args.call.now.step c.make_into.new.answer c.in-Ok.ensures.ok
     c.args.seat.now c.commit.new.seat refl c.commit.ensures.table (c.commit.ensures.seat
     (c.args.moment, with_kept c.args.call.now.step c.in-Ok.ensures.ok.append)
-    (end_made g.K.Keeper.held g.K.Keeper.faults c.args.self.now.turn c.args.seat.now.me.0 c.deref_mut.result.now c.make_into.new.self
+    (end_made g.K.Keeper.held g.K.Keeper.faults g.K.Keeper.settled c.args.self.now.turn c.args.seat.now.me.0 c.deref_mut.result.now
+    c.make_into.new.self
     holds c.requires.turn.runs c.args.moment c.args.call.now.step c.make_into.new.answer c.in-Ok.ensures.ok)) in
     did

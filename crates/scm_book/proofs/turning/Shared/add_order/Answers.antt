@@ -14,72 +14,87 @@ use Rattle.scm_book.proofs.turning.Shared.add_order.Goals as goal
 
 pub take_control-requires-clause-may : goal.take_control-requires-clause-may
 take_control-requires-clause-may g c =
-    let holds = subst (λ (x : Held _). Holds g.K.Keeper.held g.K.Keeper.faults c.args.self.now.turn.opening c.args.seat.now.me.0.seen x)
+    let holds = subst (λ (x : Held _). Holds g.K.Keeper.held g.K.Keeper.faults g.K.Keeper.settled c.args.self.now.turn.opening
+    c.args.seat.now.me.0.seen x)
     (sym c.deref_mut.ensures.value) c.requires.turn.holds in
-    come_same g.K.Keeper.held g.K.Keeper.faults c.args.self.now.turn.opening c.args.seat.now.me.0.seen c.deref_mut.result.now holds
+    come_same g.K.Keeper.held g.K.Keeper.faults g.K.Keeper.settled c.args.self.now.turn.opening c.args.seat.now.me.0.seen
+    c.deref_mut.result.now holds
     c.args.moment (ControlTaken c.args.process) ∙ c.requires.may.may
 
 pub take_control-requires-clause-small : goal.take_control-requires-clause-small
 take_control-requires-clause-small g c =
-    let holds = subst (λ (x : Held _). Holds g.K.Keeper.held g.K.Keeper.faults c.args.self.now.turn.opening c.args.seat.now.me.0.seen x)
+    let holds = subst (λ (x : Held _). Holds g.K.Keeper.held g.K.Keeper.faults g.K.Keeper.settled c.args.self.now.turn.opening
+    c.args.seat.now.me.0.seen x)
     (sym c.deref_mut.ensures.value) c.requires.turn.holds in
-    is_small g.K.Keeper.held g.K.Keeper.faults c.args.self.now.turn.opening c.args.seat.now.me.0.seen c.deref_mut.result.now holds
+    is_small g.K.Keeper.held g.K.Keeper.faults g.K.Keeper.settled c.args.self.now.turn.opening c.args.seat.now.me.0.seen
+    c.deref_mut.result.now holds
     c.requires.turn.runs
 
 pub commit-requires-clause-content : goal.commit-requires-clause-content
 commit-requires-clause-content g c =
-    let holds = subst (λ (x : Held _). Holds g.K.Keeper.held g.K.Keeper.faults c.args.self.now.turn.opening c.args.seat.now.me.0.seen x)
+    let holds = subst (λ (x : Held _). Holds g.K.Keeper.held g.K.Keeper.faults g.K.Keeper.settled c.args.self.now.turn.opening
+    c.args.seat.now.me.0.seen x)
     (sym c.deref_mut.ensures.value) c.requires.turn.holds in
-    let p = stands_made g.K.Keeper.held g.K.Keeper.faults c.args.self.now.turn c.args.seat.now.me.0 c.deref_mut.result.now
+    let p = stands_made g.K.Keeper.held g.K.Keeper.faults g.K.Keeper.settled c.args.self.now.turn c.args.seat.now.me.0
+    c.deref_mut.result.now
     c.take_control.new.self holds c.requires.turn.runs c.args.moment (ControlTaken c.args.process)
     (answers.Control c.in-Ok.handed.order) c.in-Ok.ensures.ok.0 c.requires.may.own in
     record { entry = p.entry; trail = p.trail; names = p.names; follows = p.follows; fits = p.fits }
 
 pub returns-in-Ok-clause-ok : goal.returns-in-Ok-clause-ok
 returns-in-Ok-clause-ok g c =
-    let holds = subst (λ (x : Held _). Holds g.K.Keeper.held g.K.Keeper.faults c.args.self.now.turn.opening c.args.seat.now.me.0.seen x)
+    let holds = subst (λ (x : Held _). Holds g.K.Keeper.held g.K.Keeper.faults g.K.Keeper.settled c.args.self.now.turn.opening
+    c.args.seat.now.me.0.seen x)
     (sym c.deref_mut.ensures.value) c.requires.turn.holds in
     let step = ControlTaken c.args.process in
     let told = answers.Control c.in-Ok.handed.order in
     let makes = c.in-Ok.ensures.ok.0 in
-    let did = did_make g.K.Keeper.held g.K.Keeper.faults c.args.self.now.turn c.args.seat.now.me.0 c.deref_mut.result.now
+    let did = did_make g.K.Keeper.held g.K.Keeper.faults g.K.Keeper.settled c.args.self.now.turn c.args.seat.now.me.0 c.deref_mut.result.now
     c.take_control.new.self holds c.requires.turn.runs c.args.moment step told makes c.args.seat.now c.commit.new.seat refl
     c.commit.ensures.table (c.commit.ensures.seat (c.args.moment, with_kept step makes.append)
-    (end_made g.K.Keeper.held g.K.Keeper.faults c.args.self.now.turn c.args.seat.now.me.0 c.deref_mut.result.now c.take_control.new.self
+    (end_made g.K.Keeper.held g.K.Keeper.faults g.K.Keeper.settled c.args.self.now.turn c.args.seat.now.me.0 c.deref_mut.result.now
+    c.take_control.new.self
     holds c.requires.turn.runs c.args.moment step told makes)) in (
       did,
-      hands_same g.K.Keeper.held g.K.Keeper.faults c.args.self.now.turn.opening c.args.seat.now.me.0.seen c.deref_mut.result.now holds
+      hands_same g.K.Keeper.held g.K.Keeper.faults g.K.Keeper.settled c.args.self.now.turn.opening c.args.seat.now.me.0.seen
+          c.deref_mut.result.now holds
           c.args.process c.args.name.now c.take_control.new.name c.in-Ok.handed c.in-Ok.ensures.ok.1,
     )
 
 pub returns-in-Ok-clause-waits : goal.returns-in-Ok-clause-waits
 returns-in-Ok-clause-waits g c =
-    let holds = subst (λ (x : Held _). Holds g.K.Keeper.held g.K.Keeper.faults c.args.self.now.turn.opening c.args.seat.now.me.0.seen x)
+    let holds = subst (λ (x : Held _). Holds g.K.Keeper.held g.K.Keeper.faults g.K.Keeper.settled c.args.self.now.turn.opening
+    c.args.seat.now.me.0.seen x)
     (sym c.deref_mut.ensures.value) c.requires.turn.holds in
     let step = ControlTaken c.args.process in
     let told = answers.Control c.in-Ok.handed.order in
     let makes = c.in-Ok.ensures.ok.0 in
-    let did = did_make g.K.Keeper.held g.K.Keeper.faults c.args.self.now.turn c.args.seat.now.me.0 c.deref_mut.result.now
+    let did = did_make g.K.Keeper.held g.K.Keeper.faults g.K.Keeper.settled c.args.self.now.turn c.args.seat.now.me.0 c.deref_mut.result.now
     c.take_control.new.self holds c.requires.turn.runs c.args.moment step told makes c.args.seat.now c.commit.new.seat refl
     c.commit.ensures.table (c.commit.ensures.seat (c.args.moment, with_kept step makes.append)
-    (end_made g.K.Keeper.held g.K.Keeper.faults c.args.self.now.turn c.args.seat.now.me.0 c.deref_mut.result.now c.take_control.new.self
+    (end_made g.K.Keeper.held g.K.Keeper.faults g.K.Keeper.settled c.args.self.now.turn c.args.seat.now.me.0 c.deref_mut.result.now
+    c.take_control.new.self
     holds c.requires.turn.runs c.args.moment step told makes)) in
     settled_waits c.args.self.now.turn c.args.seat.now c.commit.new.seat
-    (having_made (way_of g.K.Keeper.held g.K.Keeper.faults) c.args.self.now.turn.opening c.args.seat.now.me.0
+    (having_made (way_of g.K.Keeper.held g.K.Keeper.faults g.K.Keeper.settled) c.args.self.now.turn.opening c.args.seat.now.me.0
     (c.args.moment, with_kept step did.append)) c.requires.turn.seat did.did.table did.did.me refl
 
 pub unlock-requires-clause-fits : goal.unlock-requires-clause-fits
 unlock-requires-clause-fits g c =
-    let holds = subst (λ (x : Held _). Holds g.K.Keeper.held g.K.Keeper.faults c.args.self.now.turn.opening c.args.seat.now.me.0.seen x)
+    let holds = subst (λ (x : Held _). Holds g.K.Keeper.held g.K.Keeper.faults g.K.Keeper.settled c.args.self.now.turn.opening
+    c.args.seat.now.me.0.seen x)
     (sym c.deref_mut.ensures.value) c.requires.turn.holds in
-    holds_same g.K.Keeper.held g.K.Keeper.faults c.args.self.now.turn.opening c.args.seat.now.me.0.seen c.deref_mut.result.now
+    holds_same g.K.Keeper.held g.K.Keeper.faults g.K.Keeper.settled c.args.self.now.turn.opening c.args.seat.now.me.0.seen
+    c.deref_mut.result.now
     c.take_control.new.self holds c.in-Err.ensures.err
 
 pub returns-in-Err-clause-why : goal.returns-in-Err-clause-why
 returns-in-Err-clause-why g c =
-    let holds = subst (λ (x : Held _). Holds g.K.Keeper.held g.K.Keeper.faults c.args.self.now.turn.opening c.args.seat.now.me.0.seen x)
+    let holds = subst (λ (x : Held _). Holds g.K.Keeper.held g.K.Keeper.faults g.K.Keeper.settled c.args.self.now.turn.opening
+    c.args.seat.now.me.0.seen x)
     (sym c.deref_mut.ensures.value) c.requires.turn.holds in
-    why_same g.K.Keeper.held g.K.Keeper.faults c.args.self.now.turn.opening c.args.seat.now.me.0.seen c.deref_mut.result.now holds
+    why_same g.K.Keeper.held g.K.Keeper.faults g.K.Keeper.settled c.args.self.now.turn.opening c.args.seat.now.me.0.seen
+    c.deref_mut.result.now holds
     (ControlTaken c.args.process) c.in-Err.fault c.in-Err.ensures.why
 
 pub returns-in-Err-clause-waits : goal.returns-in-Err-clause-waits

@@ -11,38 +11,46 @@ use Rattle.scm_book.proofs.turning.Shared.add_taken.Goals as goal
 
 pub take_launch-requires-clause-steps : goal.take_launch-requires-clause-steps
 take_launch-requires-clause-steps g c =
-    let holds = subst (λ (x : Held _). Holds g.K.Keeper.held g.K.Keeper.faults c.args.self.now.turn.opening c.args.seat.now.me.0.seen x)
+    let holds = subst (λ (x : Held _). Holds g.K.Keeper.held g.K.Keeper.faults g.K.Keeper.settled c.args.self.now.turn.opening
+    c.args.seat.now.me.0.seen x)
     (sym c.deref_mut.ensures.value) c.requires.turn.holds in
-    few_steps g.K.Keeper.held g.K.Keeper.faults c.args.self.now.turn.opening c.args.seat.now.me.0.seen c.deref_mut.result.now holds
+    few_steps g.K.Keeper.held g.K.Keeper.faults g.K.Keeper.settled c.args.self.now.turn.opening c.args.seat.now.me.0.seen
+    c.deref_mut.result.now holds
     c.requires.turn.runs
 
 pub take_launch-requires-clause-room : goal.take_launch-requires-clause-room
 take_launch-requires-clause-room g c =
-    let holds = subst (λ (x : Held _). Holds g.K.Keeper.held g.K.Keeper.faults c.args.self.now.turn.opening c.args.seat.now.me.0.seen x)
+    let holds = subst (λ (x : Held _). Holds g.K.Keeper.held g.K.Keeper.faults g.K.Keeper.settled c.args.self.now.turn.opening
+    c.args.seat.now.me.0.seen x)
     (sym c.deref_mut.ensures.value) c.requires.turn.holds in
-    launch_room g.K.Keeper.held g.K.Keeper.faults c.args.self.now.turn.opening c.args.seat.now.me.0.seen c.deref_mut.result.now holds
+    launch_room g.K.Keeper.held g.K.Keeper.faults g.K.Keeper.settled c.args.self.now.turn.opening c.args.seat.now.me.0.seen
+    c.deref_mut.result.now holds
     c.requires.turn.runs c.args.moment
 
 pub commit-requires-clause-content : goal.commit-requires-clause-content
 commit-requires-clause-content g c =
-    let holds = subst (λ (x : Held _). Holds g.K.Keeper.held g.K.Keeper.faults c.args.self.now.turn.opening c.args.seat.now.me.0.seen x)
+    let holds = subst (λ (x : Held _). Holds g.K.Keeper.held g.K.Keeper.faults g.K.Keeper.settled c.args.self.now.turn.opening
+    c.args.seat.now.me.0.seen x)
     (sym c.deref_mut.ensures.value) c.requires.turn.holds in
-    let p = stands_added g.K.Keeper.held g.K.Keeper.faults c.args.self.now.turn c.args.seat.now.me.0 c.deref_mut.result.now
+    let p = stands_added g.K.Keeper.held g.K.Keeper.faults g.K.Keeper.settled c.args.self.now.turn c.args.seat.now.me.0
+    c.deref_mut.result.now
     c.take_launch.new.self holds c.requires.turn.runs c.args.moment owes.LaunchTaken
     (answers.Launch c.in-Some.taken.process) c.in-Some.ensures.0 (λ n has. absurd has) in
     record { entry = p.entry; trail = p.trail; names = p.names; follows = p.follows; fits = p.fits }
 
 pub returns-clause-did : goal.returns-clause-did
 returns-clause-did g c =
-    let holds = subst (λ (x : Held _). Holds g.K.Keeper.held g.K.Keeper.faults c.args.self.now.turn.opening c.args.seat.now.me.0.seen x)
+    let holds = subst (λ (x : Held _). Holds g.K.Keeper.held g.K.Keeper.faults g.K.Keeper.settled c.args.self.now.turn.opening
+    c.args.seat.now.me.0.seen x)
     (sym c.deref_mut.ensures.value) c.requires.turn.holds in
-    let did = did_add g.K.Keeper.held g.K.Keeper.faults c.args.self.now.turn c.args.seat.now.me.0 c.deref_mut.result.now
+    let did = did_add g.K.Keeper.held g.K.Keeper.faults g.K.Keeper.settled c.args.self.now.turn c.args.seat.now.me.0 c.deref_mut.result.now
     c.take_launch.new.self holds c.requires.turn.runs c.args.moment owes.LaunchTaken
     (answers.Launch c.in-Some.taken.process) c.in-Some.ensures.0 c.args.seat.now c.commit.new.seat refl c.commit.ensures.table
-    (c.commit.ensures.seat (c.args.moment, LaunchTaken) (end_added g.K.Keeper.held g.K.Keeper.faults c.args.self.now.turn
+    (c.commit.ensures.seat (c.args.moment, LaunchTaken) (end_added g.K.Keeper.held g.K.Keeper.faults g.K.Keeper.settled c.args.self.now.turn
     c.args.seat.now.me.0 c.deref_mut.result.now c.take_launch.new.self holds c.requires.turn.runs c.args.moment owes.LaunchTaken
     (answers.Launch c.in-Some.taken.process) c.in-Some.ensures.0)) in (
       did,
-      line_same g.K.Keeper.held g.K.Keeper.faults c.args.self.now.turn.opening c.args.seat.now.me.0.seen c.deref_mut.result.now holds
+      line_same g.K.Keeper.held g.K.Keeper.faults g.K.Keeper.settled c.args.self.now.turn.opening c.args.seat.now.me.0.seen
+          c.deref_mut.result.now holds
           c.args.path.now c.take_launch.new.path c.in-Some.taken.words c.in-Some.ensures.1,
     )

@@ -8,12 +8,14 @@ use Rattle.scm_book.proofs.turning.Shared.call_by.Goals as goal
 
 pub add_call-ended-requires-clause-turn : goal.add_call-ended-requires-clause-turn
 add_call-ended-requires-clause-turn g c =
-    has_turn g.K.Keeper.held g.K.Keeper.faults c.args.self.now.turn c.sit-seat.result c.enter-held.new.seat c.enter-held.result
+    has_turn g.K.Keeper.held g.K.Keeper.faults g.K.Keeper.settled c.args.self.now.turn c.sit-seat.result c.enter-held.new.seat
+    c.enter-held.result
     c.enter-held.ensures c.sit-seat.ensures.waits
 
 pub add_call-ended-requires-clause-may : goal.add_call-ended-requires-clause-may
 add_call-ended-requires-clause-may g c =
-    may_now g.K.Keeper.held g.K.Keeper.faults c.args.self.now.turn c.sit-seat.result c.enter-held.new.seat c.enter-held.result
+    may_now g.K.Keeper.held g.K.Keeper.faults g.K.Keeper.settled c.args.self.now.turn c.sit-seat.result c.enter-held.new.seat
+    c.enter-held.result
     c.enter-held.ensures c.args.moment c.args.call.now.step
     (subst (λ (k : Known). AlwaysMay c.args.self.now.turn.opening k c.args.moment c.args.call.now.step) c.sit-seat.ensures.knows
     c.requires.may)
@@ -21,7 +23,8 @@ add_call-ended-requires-clause-may g c =
 pub add_call-ended-requires-clause-none : goal.add_call-ended-requires-clause-none
 add_call-ended-requires-clause-none g c =
     let none : Step = NoMemory c.args.caller in
-    may_now g.K.Keeper.held g.K.Keeper.faults c.args.self.now.turn c.sit-seat.result c.enter-held.new.seat c.enter-held.result
+    may_now g.K.Keeper.held g.K.Keeper.faults g.K.Keeper.settled c.args.self.now.turn c.sit-seat.result c.enter-held.new.seat
+    c.enter-held.result
     c.enter-held.ensures c.args.moment none
     (subst (λ (k : Known). AlwaysMay c.args.self.now.turn.opening k c.args.moment none) c.sit-seat.ensures.knows c.requires.none)
 
@@ -29,7 +32,8 @@ pub returns-clause-ends : goal.returns-clause-ends
 returns-clause-ends g c =
     as_tokens (λ (k k' : Known). CallEnds c.args.self.now.turn.opening k c.args.moment c.args.caller c.args.call.now.step
     (call_told c.add_call-ended.result c.add_call-ended.new.answer) k') c.sit-seat.ensures.knows c.stand.ensures.knows
-    (did_call g.K.Keeper.held g.K.Keeper.faults c.args.self.now.turn c.sit-seat.result c.enter-held.new.seat c.enter-held.result
+    (did_call g.K.Keeper.held g.K.Keeper.faults g.K.Keeper.settled c.args.self.now.turn c.sit-seat.result c.enter-held.new.seat
+    c.enter-held.result
     c.enter-held.ensures c.add_call-ended.new.seat c.args.moment c.args.caller c.args.call.now.step
     (call_told c.add_call-ended.result c.add_call-ended.new.answer)
     c.add_call-ended.ensures.did)

@@ -9,7 +9,8 @@ use Rattle.scm_book.proofs.turning.Shared.control_by.Goals as goal
 
 pub add_control-ended-requires-clause-turn : goal.add_control-ended-requires-clause-turn
 add_control-ended-requires-clause-turn g c =
-    has_turn g.K.Keeper.held g.K.Keeper.faults c.args.self.now.turn c.sit-seat.result c.enter-held.new.seat c.enter-held.result
+    has_turn g.K.Keeper.held g.K.Keeper.faults g.K.Keeper.settled c.args.self.now.turn c.sit-seat.result c.enter-held.new.seat
+    c.enter-held.result
     c.enter-held.ensures c.sit-seat.ensures.waits
 
 pub returns-clause-looks : goal.returns-clause-looks
@@ -17,7 +18,8 @@ returns-clause-looks g c =
     as_tokens (λ (k k' : Known). LooksFor c.args.self.now.turn.opening k c.args.moment c.args.process c.args.name.now
     c.add_control-ended.new.name k' (record { ended = c.add_control-ended.result; waiting = c.waiting-waiting.result }))
     c.sit-seat.ensures.knows c.stand.ensures.knows
-    (looks_for g.K.Keeper.held g.K.Keeper.faults c.args.self.now.turn c.sit-seat.result c.enter-held.new.seat c.enter-held.result
+    (looks_for g.K.Keeper.held g.K.Keeper.faults g.K.Keeper.settled c.args.self.now.turn c.sit-seat.result c.enter-held.new.seat
+    c.enter-held.result
     c.enter-held.ensures c.add_control-ended.new.seat c.args.moment c.args.process c.args.name.now c.add_control-ended.new.name
     (record { ended = c.add_control-ended.result; waiting = c.waiting-waiting.result })
     (c.waiting-waiting.ensures ∙ ap (λ (h : Held _). waiting h.manager.flat c.args.process) c.deref.ensures)

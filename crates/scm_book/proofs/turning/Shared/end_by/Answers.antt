@@ -6,12 +6,14 @@ use Rattle.scm_book.proofs.turning.Shared.end_by.Goals as goal
 
 pub add_end-ended-requires-clause-turn : goal.add_end-ended-requires-clause-turn
 add_end-ended-requires-clause-turn g c =
-    has_turn g.K.Keeper.held g.K.Keeper.faults c.args.self.now.turn c.sit-seat.result c.enter-held.new.seat c.enter-held.result
+    has_turn g.K.Keeper.held g.K.Keeper.faults g.K.Keeper.settled c.args.self.now.turn c.sit-seat.result c.enter-held.new.seat
+    c.enter-held.result
     c.enter-held.ensures c.sit-seat.ensures.waits
 
 pub add_end-ended-requires-clause-there : goal.add_end-ended-requires-clause-there
 add_end-ended-requires-clause-there g c =
-    there_now g.K.Keeper.held g.K.Keeper.faults c.args.self.now.turn c.sit-seat.result c.enter-held.new.seat c.enter-held.result
+    there_now g.K.Keeper.held g.K.Keeper.faults g.K.Keeper.settled c.args.self.now.turn c.sit-seat.result c.enter-held.new.seat
+    c.enter-held.result
     c.enter-held.ensures c.args.caller c.args.plan
     (subst (λ (k : Known). AlwaysThere c.args.self.now.turn.opening k c.args.caller c.args.plan) c.sit-seat.ensures.knows c.requires.there)
 
@@ -19,6 +21,7 @@ pub returns-clause-ends : goal.returns-clause-ends
 returns-clause-ends g c =
     as_tokens (λ (k k' : Known). Ends c.args.self.now.turn.opening k c.args.moment c.args.caller c.args.plan k' c.add_end-ended.result)
     c.sit-seat.ensures.knows c.stand.ensures.knows
-    (did_end g.K.Keeper.held g.K.Keeper.faults c.args.self.now.turn c.sit-seat.result c.enter-held.new.seat c.enter-held.result
+    (did_end g.K.Keeper.held g.K.Keeper.faults g.K.Keeper.settled c.args.self.now.turn c.sit-seat.result c.enter-held.new.seat
+    c.enter-held.result
     c.enter-held.ensures c.add_end-ended.new.seat c.args.moment c.args.caller c.args.plan c.add_end-ended.result
     c.add_end-ended.ensures.did)

@@ -47,13 +47,15 @@ returns-in-Ok-clause-by g c =
 pub returns-in-Ok-clause-keeps : goal.returns-in-Ok-clause-keeps
 returns-in-Ok-clause-keeps g c =
     as_tokens (λ (k k' : Known). KeepsAll c.args.self.now.turn.opening k k') c.sit-mine.ensures.knows c.stand.ensures.knows
-    (beside_keeps g.K.Keeper.held g.K.Keeper.faults c.args.self.now.turn c.requires.opens c.fork-seat.new.seat c.merge.new.seat
+    (beside_keeps g.K.Keeper.held g.K.Keeper.faults g.K.Keeper.settled c.args.self.now.turn c.requires.opens c.fork-seat.new.seat
+    c.merge.new.seat
     c.fork-witness.result c.sit-mine.result c.fork-seat.result c.fork-seat.ensures c.merge.ensures.seat c.merge.ensures.claims)
 
 pub returns-in-Err-clause-keeps : goal.returns-in-Err-clause-keeps
 returns-in-Err-clause-keeps g c =
     as_tokens (λ (k k' : Known). KeepsAll c.args.self.now.turn.opening k k') c.sit-mine.ensures.knows c.stand.ensures.knows
-    (beside_keeps g.K.Keeper.held g.K.Keeper.faults c.args.self.now.turn c.requires.opens c.fork-seat.new.seat c.merge.new.seat
+    (beside_keeps g.K.Keeper.held g.K.Keeper.faults g.K.Keeper.settled c.args.self.now.turn c.requires.opens c.fork-seat.new.seat
+    c.merge.new.seat
     c.fork-witness.result c.sit-mine.result c.fork-seat.result c.fork-seat.ensures c.merge.ensures.seat c.merge.ensures.claims)
 
 pub returns-in-Err-clause-by : goal.returns-in-Err-clause-by

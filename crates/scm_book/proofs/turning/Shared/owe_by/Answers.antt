@@ -7,12 +7,14 @@ use Rattle.scm_book.proofs.turning.Shared.owe_by.Goals as goal
 
 pub add_owed-told-requires-clause-turn : goal.add_owed-told-requires-clause-turn
 add_owed-told-requires-clause-turn g c =
-    has_turn g.K.Keeper.held g.K.Keeper.faults c.args.self.now.turn c.sit-seat.result c.enter-held.new.seat c.enter-held.result
+    has_turn g.K.Keeper.held g.K.Keeper.faults g.K.Keeper.settled c.args.self.now.turn c.sit-seat.result c.enter-held.new.seat
+    c.enter-held.result
     c.enter-held.ensures c.sit-seat.ensures.waits
 
 pub add_owed-told-requires-clause-may : goal.add_owed-told-requires-clause-may
 add_owed-told-requires-clause-may g c =
-    may_now g.K.Keeper.held g.K.Keeper.faults c.args.self.now.turn c.sit-seat.result c.enter-held.new.seat c.enter-held.result
+    may_now g.K.Keeper.held g.K.Keeper.faults g.K.Keeper.settled c.args.self.now.turn c.sit-seat.result c.enter-held.new.seat
+    c.enter-held.result
     c.enter-held.ensures c.args.moment (owed_step c.args.owed)
     (subst (λ (k : Known). AlwaysMay c.args.self.now.turn.opening k c.args.moment (owed_step c.args.owed)) c.sit-seat.ensures.knows
     c.requires.may)
@@ -21,6 +23,7 @@ pub returns-clause-made : goal.returns-clause-made
 returns-clause-made g c =
     as_tokens (λ (k k' : Known). Made c.args.self.now.turn.opening k c.args.moment (owed_step c.args.owed) c.add_owed-told.result k')
     c.sit-seat.ensures.knows c.stand.ensures.knows
-    (did_made g.K.Keeper.held g.K.Keeper.faults c.args.self.now.turn c.sit-seat.result c.enter-held.new.seat c.enter-held.result
+    (did_made g.K.Keeper.held g.K.Keeper.faults g.K.Keeper.settled c.args.self.now.turn c.sit-seat.result c.enter-held.new.seat
+    c.enter-held.result
     c.enter-held.ensures c.add_owed-told.new.seat c.args.moment (owed_step c.args.owed) c.add_owed-told.result
     c.add_owed-told.ensures.did)

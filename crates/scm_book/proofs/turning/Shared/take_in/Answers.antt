@@ -13,7 +13,8 @@ stand-requires g c = merged_waits c.args.self.now.turn c.sit-mine.result c.merge
 pub returns-clause-keeps : goal.returns-clause-keeps
 returns-clause-keeps g c =
     as_tokens (λ (k k' : Known). KeepsAll c.args.self.now.turn.opening k k') c.sit-mine.ensures.knows c.stand.ensures.knows
-    (merged_keeps g.K.Keeper.held g.K.Keeper.faults c.args.self.now.turn c.requires.opens c.sit-mine.result c.merge.new.seat
+    (merged_keeps g.K.Keeper.held g.K.Keeper.faults g.K.Keeper.settled c.args.self.now.turn c.requires.opens c.sit-mine.result
+    c.merge.new.seat
     c.sit-other.result c.merge.ensures.seat c.merge.ensures.claims)
 
 pub returns-clause-takes : goal.returns-clause-takes
