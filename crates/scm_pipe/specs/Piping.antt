@@ -11,6 +11,7 @@ use Rattle.scm_rules.specs.Histories.{Legal}
 use Rattle.scm_rules.specs.Opening.{IsOpening}
 use Rattle.scm_history.specs.Kept.{kept_changes}
 use Rattle.record_journal.specs.Bearing.{Bears, and_changes}
+use Rattle.record_journal.specs.Keepers.{SettledSince}
 use Rattle.record_journal.specs.declared.journal.Journal.{Journal}
 use Rattle.rpc_session.specs.declared.state.Incoming.{Incoming}
 use Rattle.rpc_session.specs.Items.{items}
@@ -88,11 +89,14 @@ module _ {K : Type 0} (told : K → Option (List ℕ)) (faulted : K → ℕ) whe
   abbrev pub begun_with : Limits → Flat → Journal → K → Opening
   begun_with l f j keeper = record { limits = l; first = f; bytes = told keeper; form = j.form; faults = faulted keeper }
 
-  -- a keeper bears what stood before and a history's kept changes in order, and each change that was not kept has a fault of it
+module _ {K : Type 0} (told : K → Option (List ℕ)) (faulted : K → ℕ) (IsSettled : K → Type 0) where
+  -- a keeper bears what stood before and a history's kept changes in order, and each change that was not kept has a fault of it. A crash
+  -- leaves what it holds, unless it failed.
   pub record IsKept (o : Opening) (history : List Entry) (keeper : K) : Type 0 where
     pub journal : Journal
     pub bears : Bears (and_changes (stood_at o) (kept_changes o.limits o.first history)) journal (told keeper)
     pub faults : RoseBy (failures_in history) o.faults (faulted keeper)
+    pub settled : SettledSince o.faults (faulted keeper) (IsSettled keeper)
 
   -- a connection was served, and the keeper has the kept changes of its history
   pub record IsJoined (tells : ℕ → Type 0) (principal : Principal) (o : Opening) (left left_now held held_now : Option (List ℕ))
@@ -110,5 +114,5 @@ module _ {K : Type 0} (told : K → Option (List ℕ)) (faulted : K → ℕ) whe
   abbrev pub IsEnd : (tells : ℕ → Type 0) → Principal → Limits → Flat → Journal → (left left_now held held_now : Option (List ℕ)) → K
       → Piped K → Type 0
   IsEnd tells principal l f j left left_now held held_now keeper end =
-      IsEndAt tells principal (begun_with l f j keeper) left left_now held held_now end
+      IsEndAt tells principal (begun_with told faulted l f j keeper) left left_now held held_now end
       ⊎ (IsUnjoined left left_now held held_now end.how × (end.keeper ≡ keeper))

@@ -44,7 +44,7 @@ fn finished<R: Wait, K: Keeper>(rt: &R, book: Book<K>, last: Spent, how: Served)
     requires { IsOf book last }
     ensures how { result.how ≡ how }
     ensures kept { last.alone ≡ true →
-        IsKept K.held K.faults book.opening last.seen result.keeper }
+        IsKept K.held K.faults K.settled book.opening last.seen result.keeper }
 {
     let Closed {
         trail,
@@ -69,7 +69,8 @@ fn serve_root<R: Wait, K: Keeper, I: Source, O: Sink, C: Clock>(
     requires book { IsOf opened.book opened.pass }
     requires root { IsRoot opened.pass }
     requires can { CanJoin opened.book.opening principal }
-    ensures ended { IsEndAt K.held K.faults (C.tells clock.now) principal opened.book.opening
+    ensures ended { IsEndAt K.held K.faults K.settled
+        (C.tells clock.now) principal opened.book.opening
         (I.left input.old) (I.left input.new) (O.held output.old) (O.held output.new) result }
     ensures input { I.faults input.old ≤ I.faults input.new }
     ensures output { O.faults output.old ≤ O.faults output.new }
@@ -110,7 +111,9 @@ pub fn serve_alone<R: Wait, K: Keeper, I: Source, O: Sink, C: Clock>(
     requires place { 1 ≤ manager.limits.callers }
     requires room { 2 ≤ manager.limits.steps }
     requires journal { Bears (stood_in journal.form (K.held keeper)) journal (K.held keeper) }
-    ensures ended { IsEnd K.held K.faults (C.tells clock.now) principal manager.limits manager.flat
+    requires settled { K.settled keeper }
+    ensures ended { IsEnd K.held K.faults K.settled
+        (C.tells clock.now) principal manager.limits manager.flat
         journal (I.left input.old) (I.left input.new) (O.held output.old) (O.held output.new) keeper
         result }
     ensures input { I.faults input.old ≤ I.faults input.new }

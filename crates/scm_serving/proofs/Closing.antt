@@ -51,23 +51,23 @@ said_where tells o log a a' u u' is_short now so s = record {
 
 -- ## The book
 
-module _ {K : Type 0} (told : K → Option (List ℕ)) (faulted : K → ℕ) where
-  pub closed_so : (o : Opening) (last : Known) (c : Closed K) (how : ServeEnd) (end : BookEnd) → Closes told faulted o last c
+module _ {K : Type 0} (told : K → Option (List ℕ)) (faulted : K → ℕ) (IsSettled : K → Type 0) where
+  pub closed_so : (o : Opening) (last : Known) (c : Closed K) (how : ServeEnd) (end : BookEnd) → Closes told faulted IsSettled o last c
       → IsTold c.trail.entries c.services how end
-      → HasClosed told faulted o last.seen how end c.keeper
+      → HasClosed told faulted IsSettled o last.seen how end c.keeper
   closed_so o last c how end cl t = record {
     history = c.trail.entries;
     longer = cl.longer;
     legal = cl.legal;
-    kept = record { journal = cl.journal; bears = cl.bears; faults = cl.faults };
+    kept = record { journal = cl.journal; bears = cl.bears; faults = cl.faults; settled = cl.settled };
     told_is = subst (λ (n : ℕ). IsTold c.trail.entries n how end) cl.services t;
   }
 
   served_so : (tells : ℕ → Type 0) (o : Opening) (by last : Known) (moment : ℕ) (a a' u u' : Told) (how : ServeEnd) (end : BookEnd)
       (keeper : K) → IsOpening o.limits o.first
       → by.caller ≡ 0 → Goes o by moment last → ServedIn tells o by.seen a a' u u' (was_short how) → EndsAll how a a' u u'
-      → HasClosed told faulted o last.seen how end keeper
-      → IsServed told faulted tells o a a' u u' keeper end
+      → HasClosed told faulted IsSettled o last.seen how end keeper
+      → IsServed told faulted IsSettled tells o a a' u u' keeper end
   served_so tells o by last moment a a' u u' how end keeper begins nobody goes served over c =
       let longer : IsPrefix by.seen c.history = subst (λ (es : List Entry). IsPrefix es c.history)
       (ap (λ (k : Known). k.seen) (goes.nobody nobody)) c.longer in record {
@@ -83,9 +83,9 @@ module _ {K : Type 0} (told : K → Option (List ℕ)) (faulted : K → ℕ) whe
   pub served_from : (tells : ℕ → Type 0) (o begun : Opening) → o ≡ begun → (by last : Known) (moment : ℕ) (a a' u u' : Told)
       (how : ServeEnd) (end : BookEnd) (keeper : K) → IsOpening begun.limits begun.first
       → by.caller ≡ 0 → Goes o by moment last → ServedIn tells o by.seen a a' u u' (was_short how) → EndsAll how a a' u u'
-      → HasClosed told faulted o last.seen how end keeper
-      → IsServed told faulted tells begun a a' u u' keeper end
+      → HasClosed told faulted IsSettled o last.seen how end keeper
+      → IsServed told faulted IsSettled tells begun a a' u u' keeper end
   served_from tells o begun is by last moment a a' u u' how end keeper begins nobody goes served over c =
-      subst (λ (x : Opening). IsServed told faulted tells x a a' u u' keeper end) is
+      subst (λ (x : Opening). IsServed told faulted IsSettled tells x a a' u u' keeper end) is
       (served_so tells o by last moment a a' u u' how end keeper
       (subst (λ (x : Opening). IsOpening x.limits x.first) (sym is) begins) nobody goes served over c)

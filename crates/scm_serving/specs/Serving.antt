@@ -37,20 +37,20 @@ IsTold history services ends.Ended (Ended text) = text ≡ summary history servi
 IsTold history services ends.ListenFault end = end ≡ ListenFault
 IsTold history services fault end = end ≡ OutOfMemory
 
-module _ {K : Type 0} (told : K → Option (List ℕ)) (faulted : K → ℕ) where
+module _ {K : Type 0} (told : K → Option (List ℕ)) (faulted : K → ℕ) (IsSettled : K → Type 0) where
   -- a book was closed after what was seen: its history is legal, and the keeper has its kept changes
   pub record HasClosed (o : Opening) (seen : List Entry) (how : ServeEnd) (end : BookEnd) (keeper : K) : Type 0 where
     pub history : List Entry
     pub longer : IsPrefix seen history
     pub legal : Legal o.limits o.first history
-    pub kept : IsKept told faulted o history keeper
+    pub kept : IsKept told faulted IsSettled o history keeper
     pub told_is : IsTold history (length (state o.limits o.first history).services) how end
 
   -- a book was made and closed: its history is legal, the keeper has its kept changes, and the connections of both listeners stand in it
   pub record IsServed (tells : ℕ → Type 0) (o : Opening) (a a' u u' : Told) (keeper : K) (end : BookEnd) : Type 0 where
     pub history : List Entry
     pub legal : Legal o.limits o.first history
-    pub kept : IsKept told faulted o history keeper
+    pub kept : IsKept told faulted IsSettled o history keeper
     pub served : ServedIn tells o history a a' u u' (lacked_memory end)
     pub ends : EndsAs o history a a' u u' end
 

@@ -67,7 +67,7 @@ fn closed<R: Wait, K: Keeper, N, P>(
     served: ServedAll<N, P>,
 ) -> BookServed<K, N, P>
     requires { IsOf book last }
-    ensures closes { HasClosed K.held K.faults book.opening last.seen served.end
+    ensures closes { HasClosed K.held K.faults K.settled book.opening last.seen served.end
         result.end result.keeper }
     ensures admin { result.admin ≡ served.admin }
     ensures user { result.user ≡ served.user }
@@ -124,8 +124,9 @@ where
     requires steps { manager.steps ≡ 0 }
     requires text { manager.text ≡ 0 }
     requires journal { Bears (stood_in journal.form (K.held keeper)) journal (K.held keeper) }
-    ensures { ServesBook K.held K.faults (C.tells clock.now) manager.limits manager.flat journal
-        (told_by N.left N.accepted N.noted N.listened N.faults admin)
+    requires settled { K.settled keeper }
+    ensures { ServesBook K.held K.faults K.settled (C.tells clock.now) manager.limits manager.flat
+        journal (told_by N.left N.accepted N.noted N.listened N.faults admin)
         (told_by N.left N.accepted N.noted N.listened N.faults result.admin)
         (told_by N.left N.accepted N.noted N.listened N.faults user)
         (told_by N.left N.accepted N.noted N.listened N.faults result.user)

@@ -11,7 +11,8 @@ serve_root-requires-clause-can g c =
 pub returns-in-Ok-new-clause-complete : goal.returns-in-Ok-new-clause-complete
 returns-in-Ok-new-clause-complete g c =
     let served = c.serve_root in
-    complete_at g.K.Keeper.held g.K.Keeper.faults (g.C.Clock.tells c.args.clock.now) c.args.principal c.args.manager.limits
+    complete_at g.K.Keeper.held g.K.Keeper.faults g.K.Keeper.settled (g.C.Clock.tells c.args.clock.now) c.args.principal
+    c.args.manager.limits
     c.args.manager.flat c.args.journal
     (g.I.Source.left c.args.input.now) (g.I.Source.left served.new.input) (g.O.Sink.held c.args.output.now)
     (g.O.Sink.held served.new.output)
@@ -22,7 +23,8 @@ returns-in-Ok-new-clause-complete g c =
 pub returns-in-Ok-new-clause-room : goal.returns-in-Ok-new-clause-room
 returns-in-Ok-new-clause-room g c =
     let served = c.serve_root in
-    finds_room_at g.K.Keeper.held g.K.Keeper.faults (g.C.Clock.tells c.args.clock.now) c.args.principal c.args.manager.limits
+    finds_room_at g.K.Keeper.held g.K.Keeper.faults g.K.Keeper.settled (g.C.Clock.tells c.args.clock.now) c.args.principal
+    c.args.manager.limits
     c.args.manager.flat c.args.journal
     (g.I.Source.left c.args.input.now) (g.I.Source.left served.new.input) (g.O.Sink.held c.args.output.now)
     (g.O.Sink.held served.new.output) c.args.keeper served.result

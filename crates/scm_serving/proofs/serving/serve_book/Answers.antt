@@ -8,7 +8,8 @@ returns-in-Ok g c =
     let made = c.in-Ok.ensures.ok in
     let served = c.serve_all-served in
     rw c.closed.ensures.admin (rw c.closed.ensures.user
-    (inl (served_from g.K.Keeper.held g.K.Keeper.faults (g.C.Clock.tells c.args.clock.now) c.in-Ok.field-0.book.opening _ made.0
+    (inl (served_from g.K.Keeper.held g.K.Keeper.faults g.K.Keeper.settled
+    (g.C.Clock.tells c.args.clock.now) c.in-Ok.field-0.book.opening _ made.0
     served.new.root c.gone-last.result c.now.result
     _ _ _ _ served.result.end c.closed.result.end c.closed.result.keeper c.requires.begins
     (ap (λ (k : Known). k.caller) served.ensures.goes.same ∙ ap (λ (k : Known). k.caller) made.1) c.gone-last.ensures.goes
