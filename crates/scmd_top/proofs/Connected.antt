@@ -13,6 +13,7 @@ use Rattle.scm_core.specs.Managed.{Managed}
 use Rattle.scm_history.specs.Kept.{kept_changes}
 use Rattle.scm_history.proofs.Kept.{law_of_kept}
 use Rattle.record_journal.specs.Bearing.{Bears, Stood, and_changes, stood_in}
+use Rattle.record_journal.specs.Keepers.{SettledSince}
 use Rattle.record_journal.specs.declared.journal.Journal.{Journal}
 use Rattle.record_journal.specs.declared.opening.JournalFault.{JournalFault}
 use Rattle.record_journal.specs.declared.replaying.Replay.{Replay}
@@ -44,12 +45,12 @@ behind replay form (Some bytes) mid now changes j ends cut h =
     subst (λ (good : Option Stood). Bears (and_changes good changes) j now)
     (ap (λ (f : Form). stood_in f mid) ends ∙ ap (stood_in replay.form) cut) h
 
-module _ {K : Type 0} (told : K → Option (List ℕ)) (faulted : K → ℕ) where
+module _ {K : Type 0} (told : K → Option (List ℕ)) (faulted : K → ℕ) (IsSettled : K → Type 0) where
   -- a keeper that was opened has the kept changes of a history
   pub keeps : (replay : Replay) (l : Limits) (f : Flat) (j : Journal) (history : List Entry) (keeper mid now : K) → j.form ≡ replay.form
       → IsCut replay.kept (told keeper) (told mid)
       → faulted mid ≡ faulted keeper
-      → IsKept told faulted (begun_with told faulted l f j mid) history now
+      → IsKept told faulted IsSettled (begun_with told faulted l f j mid) history now
       → KeepsJournal replay (kept_changes l f history) (failures_in history) (side told faulted keeper now)
   keeps replay l f j history keeper mid now ends cut same k = record {
     journal = k.journal;
@@ -93,7 +94,8 @@ module _ {K : Type 0} (told : K → Option (List ℕ)) (faulted : K → ℕ) whe
 
   came : (tells : ℕ → Type 0) (path : Bool) (principal : Principal) (moment : ℕ) (o : Opened) (a b : Side) (keeper mid : K) (end : Piped K)
       → tells moment → (h : HasOpened path [] (side told faulted keeper mid) moment o)
-      → IsEnd told faulted tells principal program_limits (program_opening [] h.replay.configs moment) o.journal a.told a.told_now b.told
+      → IsEnd told faulted IsSettled tells principal program_limits (program_opening [] h.replay.configs moment) o.journal a.told a.told_now
+      b.told
       b.told_now mid end
       → HasCome tells path principal end.how (record { input = a; output = b; keeper = side told faulted keeper end.keeper })
   came tells path principal moment o a b keeper mid end at h (inl (inl j)) = inl (record {
@@ -123,14 +125,28 @@ module _ {K : Type 0} (told : K → Option (List ℕ)) (faulted : K → ℕ) whe
   pub come : (tells : ℕ → Type 0) (path : Bool) (principal : Principal) (moment : ℕ) (o : Opened) (a b : Side) (keeper mid : K)
       (end : Piped K)
       → tells moment → HasOpened path [] (side told faulted keeper mid) moment o
-      → IsEnd told faulted tells principal o.manager.limits o.manager.flat o.journal a.told a.told_now b.told b.told_now mid end
+      → IsEnd told faulted IsSettled tells principal o.manager.limits o.manager.flat o.journal a.told a.told_now b.told b.told_now mid end
       → HasCome tells path principal end.how (record { input = a; output = b; keeper = side told faulted keeper end.keeper })
   come tells path principal moment o a b keeper mid end at h e =
       came tells path principal moment o a b keeper mid end at h
-      (subst (λ (l : Limits). IsEnd told faulted tells principal l (program_opening [] h.replay.configs moment) o.journal a.told a.told_now
+      (subst (λ (l : Limits). IsEnd told faulted IsSettled tells principal l
+      (program_opening [] h.replay.configs moment) o.journal a.told a.told_now
       b.told b.told_now mid end) h.new.limits
-      (subst (λ (f : Flat). IsEnd told faulted tells principal o.manager.limits f o.journal a.told a.told_now b.told b.told_now mid end)
+      (subst (λ (f : Flat). IsEnd told faulted IsSettled tells principal o.manager.limits f o.journal a.told a.told_now b.told b.told_now
+      mid end)
       h.new.flat e))
+
+  -- a keeper that was settled when its book began is settled after it, unless it failed
+  pub end_settled : (tells : ℕ → Type 0) (principal : Principal) (l : Limits) (f : Flat) (j : Journal)
+      (left left_now held held_now : Option (List ℕ)) (keeper mid : K) (end : Piped K) → faulted mid ≡ faulted keeper → IsSettled mid
+      → IsEnd told faulted IsSettled tells principal l f j left left_now held held_now mid end
+      → SettledSince (faulted keeper) (faulted end.keeper) (IsSettled end.keeper)
+  end_settled tells principal l f j left left_now held held_now keeper mid end same settled (inl (inl joined)) =
+      subst (λ (n : ℕ). SettledSince n (faulted end.keeper) (IsSettled end.keeper)) same joined.kept.settled
+  end_settled tells principal l f j left left_now held held_now keeper mid end same settled (inl (inr none)) =
+      subst (λ (n : ℕ). SettledSince n (faulted end.keeper) (IsSettled end.keeper)) same none.1.settled
+  end_settled tells principal l f j left left_now held held_now keeper mid end same settled (inr none) =
+      inr (subst IsSettled (sym none.1) settled)
 
 -- ## Completeness
 

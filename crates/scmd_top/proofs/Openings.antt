@@ -14,7 +14,7 @@ use Rattle.scm_rules.specs.Opening.{CanOpen, IsOpening, opening}
 use Rattle.scm_kept.specs.Replayed.{unmarked}
 use Rattle.scm_kept.proofs.Opened.{of_opening}
 use Rattle.record_journal.specs.Bearing.{Bears, stood_in}
-use Rattle.record_journal.specs.Keepers.{IsEmptied}
+use Rattle.record_journal.specs.Keepers.{IsEmptied, SettledSince, Settles}
 use Rattle.record_journal.specs.Opening.{Restores, LeavesAt, LeavesAll}
 use Rattle.record_journal.specs.declared.journal.Journal.{Journal}
 use Rattle.record_journal.specs.declared.opening.JournalFault.{JournalFault}
@@ -23,7 +23,7 @@ use Rattle.record_journal.specs.declared.opening.Restored.{Restored}
 use Rattle.scm_restored.specs.Restored.{Comes, IsUnmoved, Manages}
 use Rattle.scm_restored.specs.declared.Opened.{Opened}
 use Rattle.scmd_top.specs.Opening.{FailsToOpen, HasOpened, IsCut, IsDamaged, IsJournalLeft, IsNew, IsOpenable, IsUnopened, OpensJournal}
-use Rattle.scmd_top.specs.Opening.{program_opening, status_of_fault}
+use Rattle.scmd_top.specs.Opening.{LeavesSettled, OpensSettled, program_opening, status_of_fault}
 use Rattle.scmd_top.specs.Sides.{Side}
 use Rattle.scmd_top.specs.Statuses.{program_limits}
 
@@ -213,3 +213,20 @@ pub not_9 : (fault : JournalFault) → status_of_fault fault ≢ 9
 not_9 faults.Failed = λ e. cc
 not_9 (faults.Damaged place) = λ e. cc
 not_9 faults.OutOfMemory = λ e. cc
+
+-- ## What is settled
+
+-- a keeper that was opened, whatever was answered
+pub opens_settled : {T : Type 0} (old : Type 0) (before now : ℕ) (result : Result T JournalFault) (settled : Type 0)
+    → Settles before now result settled → OpensSettled old before now result settled
+opens_settled old before now (Ok opened) settled is = is
+opens_settled old before now (Err faults.Failed) settled is = is
+opens_settled old before now (Err faults.OutOfMemory) settled is = λ was. is
+opens_settled old before now (Err (faults.Damaged place)) settled is = is
+
+-- there is no manager
+pub unopened_settled : (old : Type 0) (before now : ℕ) (fault : JournalFault) (settled : Type 0)
+    → OpensSettled {T = Opened} old before now (Err fault) settled → LeavesSettled old before now (status_of_fault fault) settled
+unopened_settled old before now faults.Failed settled is = λ was. is
+unopened_settled old before now faults.OutOfMemory settled is = λ was. is (was refl)
+unopened_settled old before now (faults.Damaged place) settled is = λ was. is

@@ -3,6 +3,8 @@ use Rattle.std.proofs.Common.{ℕ, ◌≡◌, ◌∙◌, Bool, List, [], Option,
 use Rattle.outside.specs.Causes.{Rose}
 use Rattle.scm_model.specs.declared.flat.Flat.{Flat}
 use Rattle.scm_model.specs.declared.flat.Limits.{Limits}
+use Rattle.record_journal.specs.Keepers.{SettledSince}
+use Rattle.record_journal.specs.declared.journal.Journal.{Journal}
 use Rattle.record_journal.specs.declared.opening.JournalFault.{JournalFault}
 use Rattle.record_journal.specs.declared.opening.JournalFault.TheVariants as faults
 use Rattle.scm_book.specs.Holds.{failures_in}
@@ -24,11 +26,12 @@ use Rattle.scmd_top.proofs.Openings.{fails, openable}
 
 -- ## The book
 
-module _ {K : Type 0} (told : K → Option (List ℕ)) (faulted : K → ℕ) where
+module _ {K : Type 0} (told : K → Option (List ℕ)) (faulted : K → ℕ) (IsSettled : K → Type 0) where
   served : (tells : ℕ → Type 0) (path : Bool) (groups : List (List ℕ)) (moment : ℕ) (o : Opened) (keeper mid now : K) (a a' u u' : Told)
       (end : BookEnd) → tells moment
       → (h : HasOpened path groups (side told faulted keeper mid) moment o)
-      → ServesBook told faulted tells program_limits (program_opening groups h.replay.configs moment) o.journal a a' u u' mid now end
+      → ServesBook told faulted IsSettled tells program_limits (program_opening groups h.replay.configs moment) o.journal a a' u u' mid now
+      end
       → HasServedOver tells path groups (side told faulted keeper now) a a' u u' end
   served tells path groups moment o keeper mid now a a' u u' end at h (inl s) = inl (record {
     replay = h.replay;
@@ -39,11 +42,13 @@ module _ {K : Type 0} (told : K → Option (List ℕ)) (faulted : K → ℕ) whe
     opens = record { limits = refl; first = refl };
     history = s.history;
     legal = s.legal;
-    kept = keeps told faulted h.replay program_limits (program_opening groups h.replay.configs moment) o.journal s.history keeper mid now
+    kept = keeps told faulted IsSettled h.replay program_limits (program_opening groups h.replay.configs moment) o.journal s.history keeper
+        mid now
         h.form h.cut h.faults s.kept;
     again = opens_again path groups (side told faulted keeper mid) moment o h s.history (failures_in s.history)
         (side told faulted keeper now) refl s.legal
-        (keeps told faulted h.replay program_limits (program_opening groups h.replay.configs moment) o.journal s.history keeper mid now
+        (keeps told faulted IsSettled h.replay program_limits (program_opening groups h.replay.configs moment) o.journal s.history keeper
+        mid now
         h.form h.cut h.faults s.kept);
     served = s.served;
     ends = s.ends;
@@ -54,26 +59,27 @@ module _ {K : Type 0} (told : K → Option (List ℕ)) (faulted : K → ℕ) whe
     lacks = s.lacks;
     admin = s.admin;
     user = s.user;
-    kept = rests told faulted h.replay o.journal keeper mid now h.form h.cut h.faults h.bears s.same;
+    kept = rests told faulted IsSettled h.replay o.journal keeper mid now h.form h.cut h.faults h.bears s.same;
   })
 
   served_over : (tells : ℕ → Type 0) (path : Bool) (groups : List (List ℕ)) (moment : ℕ) (o : Opened) (keeper mid now : K)
       (a a' u u' : Told) (end : BookEnd) → tells moment
       → HasOpened path groups (side told faulted keeper mid) moment o →
-      ServesBook told faulted tells o.manager.limits o.manager.flat o.journal a a' u u' mid now end
+      ServesBook told faulted IsSettled tells o.manager.limits o.manager.flat o.journal a a' u u' mid now end
       → HasServedOver tells path groups (side told faulted keeper now) a a' u u' end
   served_over tells path groups moment o keeper mid now a a' u u' end at h s =
       served tells path groups moment o keeper mid now a a' u u' end at h
-      (subst (λ (l : Limits). ServesBook told faulted tells l (program_opening groups h.replay.configs moment) o.journal a a' u u' mid now
+      (subst (λ (l : Limits). ServesBook told faulted IsSettled tells l
+      (program_opening groups h.replay.configs moment) o.journal a a' u u' mid now
       end) h.new.limits
-      (subst (λ (f : Flat). ServesBook told faulted tells o.manager.limits f o.journal a a' u u' mid now end) h.new.flat s))
+      (subst (λ (f : Flat). ServesBook told faulted IsSettled tells o.manager.limits f o.journal a a' u u' mid now end) h.new.flat s))
 
   -- both listened, and were served
   pub has_listened : (tells : ℕ → Type 0) (path : Bool) (groups : List (List ℕ)) (admin user : Listening) (input output : Side) (p : Ports)
       (status moment : ℕ) (o : Opened) (keeper mid now : K) (a u : Told)
       (end : BookEnd) → tells moment → HasOpened path groups (side told faulted keeper mid) moment o → a ≡ listening_at p.admin admin
       → u ≡ listening_at p.user user
-      → ServesBook told faulted tells o.manager.limits o.manager.flat o.journal a p.admin_now u p.user_now mid now end
+      → ServesBook told faulted IsSettled tells o.manager.limits o.manager.flat o.journal a p.admin_now u p.user_now mid now end
       → HasSummary end output status
       → HasServed tells path groups admin user (record { input = input; output = output; keeper = side told faulted keeper now }) p status
   has_listened tells path groups admin user input output p status moment o keeper mid now a u end at h at_admin at_user s wrote =
@@ -81,9 +87,10 @@ module _ {K : Type 0} (told : K → Option (List ℕ)) (faulted : K → ℕ) whe
         end = end;
         served = served_over tells path groups moment o keeper mid now (listening_at p.admin admin) p.admin_now
             (listening_at p.user user) p.user_now end at h
-            (subst (λ (l : Told). ServesBook told faulted tells o.manager.limits o.manager.flat o.journal l p.admin_now
+            (subst (λ (l : Told). ServesBook told faulted IsSettled tells o.manager.limits o.manager.flat o.journal l p.admin_now
             (listening_at p.user user) p.user_now mid now end) at_admin
-            (subst (λ (l : Told). ServesBook told faulted tells o.manager.limits o.manager.flat o.journal a p.admin_now l p.user_now mid now
+            (subst (λ (l : Told). ServesBook told faulted IsSettled tells o.manager.limits o.manager.flat o.journal a p.admin_now l
+            p.user_now mid now
             end) at_user s));
         written = wrote;
       })
@@ -102,9 +109,17 @@ module _ {K : Type 0} (told : K → Option (List ℕ)) (faulted : K → ℕ) whe
     replay = h.replay;
     stood = openable path groups (side told faulted keeper mid) moment o h;
     cause = cause;
-    kept = rests told faulted h.replay o.journal keeper mid mid h.form h.cut h.faults h.bears refl;
+    kept = rests told faulted IsSettled h.replay o.journal keeper mid mid h.form h.cut h.faults h.bears refl;
     output = untouched;
   }))
+
+  -- a keeper that was settled when its book began is settled after it, unless it failed
+  pub served_settled : (tells : ℕ → Type 0) (l : Limits) (f : Flat) (j : Journal) (a a' u u' : Told) (keeper mid now : K) (end : BookEnd)
+      → faulted mid ≡ faulted keeper → IsSettled mid → ServesBook told faulted IsSettled tells l f j a a' u u' mid now end
+      → SettledSince (faulted keeper) (faulted now) (IsSettled now)
+  served_settled tells l f j a a' u u' keeper mid now end same settled (inl s) =
+      subst (λ (n : ℕ). SettledSince n (faulted now) (IsSettled now)) same s.kept.settled
+  served_settled tells l f j a a' u u' keeper mid now end same settled (inr s) = inr (subst IsSettled (sym s.same) settled)
 
 -- there is no manager
 pub not_opened : (tells : ℕ → Type 0) (path : Bool) (groups : List (List ℕ)) (admin user : Listening) (s : Sides) (p : Ports)

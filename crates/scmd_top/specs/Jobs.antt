@@ -15,7 +15,7 @@ use Rattle.scm_replay.specs.declared.replayed.Replayed.TheVariants as answered
 use Rattle.scm_model.specs.declared.flat.Config.{Config}
 use Rattle.record_journal.specs.declared.replaying.Replay.{Replay as Restoring}
 use Rattle.scmd_top.specs.Groups.{groups_in}
-use Rattle.scmd_top.specs.Opening.{FailsToOpen, HasNotOpened, IsCut, IsOpenable, program_opening}
+use Rattle.scmd_top.specs.Opening.{FailsToOpen, HasNotOpened, IsCut, IsOpenable, LeavesSettled, program_opening}
 use Rattle.scmd_top.specs.declared.words.Job.{Job}
 use Rattle.scmd_top.specs.declared.words.Job.TheVariants.{Pipe, Replay, Generate, Serve}
 use Rattle.scmd_top.specs.Pipe.{HasPiped, IsComplete}
@@ -94,6 +94,14 @@ LeavesKeeper true Replay keeper now = Unit {0}
 LeavesKeeper path (Generate services) keeper now = now ≡ keeper
 LeavesKeeper path (Serve admin user) keeper now = Unit {0}
 
+-- those leave the keeper settled, unless it failed
+abbrev pub SettlesKeeper : (path : Bool) → Job → (old : Type 0) → (before now status : ℕ) → (settled : Type 0) → Type 0
+SettlesKeeper path (Pipe principal) old before now status settled = LeavesSettled old before now status settled
+SettlesKeeper false Replay old before now status settled = Unit {0}
+SettlesKeeper true Replay old before now status settled = LeavesSettled old before now status settled
+SettlesKeeper path (Generate services) old before now status settled = Unit {0}
+SettlesKeeper path (Serve admin user) old before now status settled = LeavesSettled old before now status settled
+
 -- no other job than a server touches the listeners and what starts programs
 abbrev pub LeavesOthers : {I O K N P C : Type 0} → Job → (w w' : World I O K N P C) → Type 0
 LeavesOthers (Serve admin user) w w' = Unit {0}
@@ -146,6 +154,11 @@ names_file words = is_some (path_of words)
 -- the groups that they list
 abbrev pub groups_listed : List (List ℕ) → List (List ℕ)
 groups_listed words = groups_in (listed_groups words)
+
+-- the job that words are leaves the keeper settled, unless it failed
+abbrev pub SettlesAsWords : (words : List (List ℕ)) → (old : Type 0) → (before now status : ℕ) → (settled : Type 0) → Type 0
+SettlesAsWords words old before now status settled =
+    IfSome (job_of words) (λ job. SettlesKeeper (names_file words) job old before now status settled)
 
 -- what words came to: 5 exactly where they are no job, and else what the job came to
 pub record HasEnded (tells : ℕ → Type 0) (words : List (List ℕ)) (s : Sides) (p : Ports) (status : ℕ) : Type 0 where

@@ -9,7 +9,7 @@ use Rattle.scm_core.specs.Managed.{Managed}
 use Rattle.scm_rules.specs.Opening.{CanOpen, IsOpening, opening}
 use Rattle.record_journal.specs.Bearing.{Bears, Stood, stood_in}
 use Rattle.record_journal.specs.Entries.{read_journal}
-use Rattle.record_journal.specs.Keepers.{IsEmptied}
+use Rattle.record_journal.specs.Keepers.{IsEmptied, SettledSince}
 use Rattle.record_journal.specs.Opening.{LeavesAll}
 use Rattle.record_journal.specs.declared.opening.JournalFault.{JournalFault}
 use Rattle.record_journal.specs.declared.opening.JournalFault.TheVariants as faults
@@ -88,6 +88,19 @@ IsUnopened true keeper (faults.Damaged place) =
 abbrev pub OpensJournal : (path : Bool) → (groups : List (List ℕ)) → (keeper : Side) → (moment : ℕ) → Result Opened JournalFault → Type 0
 OpensJournal path groups keeper moment (Ok opened) = HasOpened path groups keeper moment opened
 OpensJournal path groups keeper moment (Err fault) = IsUnopened path keeper fault
+
+-- ## Crashes
+
+-- The keeper is settled where it was opened, unless it failed. Where memory ran out nothing may have been asked of it: then it is settled
+-- if it was.
+abbrev pub OpensSettled : {T : Type 0} → (old : Type 0) → (before now : ℕ) → Result T JournalFault → (settled : Type 0) → Type 0
+OpensSettled old before now (Ok opened) settled = settled
+OpensSettled old before now (Err faults.OutOfMemory) settled = old → SettledSince before now settled
+OpensSettled old before now (Err fault) settled = SettledSince before now settled
+
+-- the same at the end of a run that was to open it, by the status
+abbrev pub LeavesSettled : (old : Type 0) → (before now status : ℕ) → (settled : Type 0) → Type 0
+LeavesSettled old before now status settled = (status ≡ 8 → old) → SettledSince before now settled
 
 -- ## A run without one
 

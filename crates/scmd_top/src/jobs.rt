@@ -2,6 +2,8 @@
 ghost use Rattle.std.specs.Prelude.{◌≡◌, ◌≤◌, is_some};
 ghost use Rattle.scmd_top.specs.Groups.{groups_in};
 ghost use Rattle.scmd_top.specs.Jobs.{HasAllDone, HasRun, LeavesKeeper, LeavesOthers};
+ghost use Rattle.scmd_top.specs.Jobs.{SettlesKeeper};
+ghost use Rattle.scmd_top.specs.Opening.{LeavesSettled};
 ghost use Rattle.scmd_top.specs.Parts.{lent};
 ghost use Rattle.scmd_top.specs.Serving.{HasServed, HasSummary, IsServingComplete};
 ghost use Rattle.scmd_top.specs.Sides.{ports_of, side, sides_of};
@@ -78,6 +80,9 @@ where
             (is_some path.entry) (groups_in (lent names.entry)) admin_at user_at
             (sides_of I.left I.faults O.held O.faults K.held K.faults self result.1)
             (ports_of N.left N.accepted N.noted N.listened N.faults self result.1) result.0 }
+        // A crash after it leaves what was kept, unless the keeper failed.
+        ensures settled { LeavesSettled (K.settled self.keeper)
+            (K.faults self.keeper) (K.faults result.1.keeper) result.0 (K.settled result.1.keeper) }
         // Nothing else ends a server without faults.
         ensures complete { IsServingComplete (is_some path.entry)
             (sides_of I.left I.faults O.held O.faults K.held K.faults self result.1)
@@ -139,6 +144,8 @@ where
         ensures input { I.faults self.input ≤ I.faults result.1.input }
         ensures output { O.faults self.output ≤ O.faults result.1.output }
         ensures keeper { LeavesKeeper (is_some path.entry) job self.keeper result.1.keeper }
+        ensures settled { SettlesKeeper (is_some path.entry) job (K.settled self.keeper)
+            (K.faults self.keeper) (K.faults result.1.keeper) result.0 (K.settled result.1.keeper) }
         ensures ports { LeavesOthers job self result.1 }
         ensures complete { HasAllDone (is_some path.entry) job
             (sides_of I.left I.faults O.held O.faults K.held K.faults self result.1)

@@ -2,7 +2,8 @@
 ghost use Rattle.std.specs.Prelude.{◌≡◌, ◌≤◌, [], true, is_some};
 ghost use Rattle.scm_replay.specs.Replay.{IsReplayCaused};
 ghost use Rattle.scmd_top.specs.Jobs.{HasAllReplayed, HasReplayed, LeavesKeeper, LeavesReplayed};
-ghost use Rattle.scmd_top.specs.Jobs.{status_of_replay};
+ghost use Rattle.scmd_top.specs.Jobs.{SettlesKeeper, status_of_replay};
+ghost use Rattle.scmd_top.specs.Opening.{LeavesSettled};
 ghost use Rattle.scmd_top.specs.Sides.{LeavesPorts, side, sides_of};
 ghost use Rattle.scmd_top.specs.declared.words.Job.TheVariants as jobs;
 
@@ -64,6 +65,8 @@ fn answer_over<I: Source, O: Sink, K: Keeper>(
       output = side O.held O.faults output.old output.new;
       keeper = side K.held K.faults keeper.old keeper.new;
     }) result }
+    ensures settled { LeavesSettled (K.settled keeper.old)
+        (K.faults keeper.old) (K.faults keeper.new) result (K.settled keeper.new) }
     ensures complete { HasAllReplayed true (record {
       input = side I.left I.faults input.old input.new;
       output = side O.held O.faults output.old output.new;
@@ -94,6 +97,8 @@ fn answer<I: Source, O: Sink, K: Keeper>(
     output: &mut O,
 ) -> u8
     ensures keeper { LeavesKeeper (is_some path.entry) jobs.Replay keeper.old keeper.new }
+    ensures settled { SettlesKeeper (is_some path.entry) jobs.Replay (K.settled keeper.old)
+        (K.faults keeper.old) (K.faults keeper.new) result (K.settled keeper.new) }
     ensures input { I.faults input.old ≤ I.faults input.new }
     ensures output { O.faults output.old ≤ O.faults output.new }
     ensures run { HasReplayed (is_some path.entry) (record {
@@ -121,6 +126,8 @@ pub fn replay_main<I: Source, O: Sink, K: Keeper, N: Listener, P: Spawner, C: Cl
     world: World<I, O, K, N, P, C>,
 ) -> (u8, World<I, O, K, N, P, C>)
     ensures keeper { LeavesKeeper (is_some path.entry) jobs.Replay world.keeper result.1.keeper }
+    ensures settled { SettlesKeeper (is_some path.entry) jobs.Replay (K.settled world.keeper)
+        (K.faults world.keeper) (K.faults result.1.keeper) result.0 (K.settled result.1.keeper) }
     ensures clock { result.1.clock ≡ world.clock }
     ensures ports { LeavesPorts world result.1 }
     ensures input { I.faults world.input ≤ I.faults result.1.input }

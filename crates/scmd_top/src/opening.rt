@@ -1,6 +1,6 @@
 ghost use Rattle.std.specs.Prelude.{◌≡◌, [], false, true, IfOk, is_some};
 ghost use Rattle.scmd_top.specs.Groups.{groups_in};
-ghost use Rattle.scmd_top.specs.Opening.{IsNew, OpensJournal, status_of_fault};
+ghost use Rattle.scmd_top.specs.Opening.{IsNew, OpensJournal, OpensSettled, status_of_fault};
 ghost use Rattle.scmd_top.specs.Parts.{lent};
 ghost use Rattle.scmd_top.specs.Sides.{side};
 
@@ -38,8 +38,10 @@ fn open_empty<K: Keeper>(
     names: Option<&str>,
     moment: u64,
 ) -> Result<Opened, JournalFault>
-    ensures { OpensJournal false (groups_in (lent names.entry))
+    ensures opens { OpensJournal false (groups_in (lent names.entry))
         (side K.held K.faults keeper.old keeper.new) moment result }
+    ensures settled { OpensSettled (K.settled keeper.old)
+        (K.faults keeper.old) (K.faults keeper.new) result (K.settled keeper.new) }
 {
     let Ok(()) = keeper.open_at(None) else {
         return Err(JournalFault::Failed);
@@ -61,8 +63,10 @@ pub fn open_stored<K: Keeper>(
     names: Option<&str>,
     moment: u64,
 ) -> Result<Opened, JournalFault>
-    ensures { OpensJournal true (groups_in (lent names.entry))
+    ensures opens { OpensJournal true (groups_in (lent names.entry))
         (side K.held K.faults keeper.old keeper.new) moment result }
+    ensures settled { OpensSettled (K.settled keeper.old)
+        (K.faults keeper.old) (K.faults keeper.new) result (K.settled keeper.new) }
 {
     let Ok(groups) = groups_in(alloc, names) else {
         return Err(JournalFault::OutOfMemory);
@@ -79,8 +83,10 @@ pub fn open_at<K: Keeper>(
     names: Option<&str>,
     moment: u64,
 ) -> Result<Opened, JournalFault>
-    ensures { OpensJournal (is_some path.entry) (groups_in (lent names.entry))
+    ensures opens { OpensJournal (is_some path.entry) (groups_in (lent names.entry))
         (side K.held K.faults keeper.old keeper.new) moment result }
+    ensures settled { OpensSettled (K.settled keeper.old)
+        (K.faults keeper.old) (K.faults keeper.new) result (K.settled keeper.new) }
 {
     match path {
         Some(path) => open_stored(alloc, keeper, path, names, moment),

@@ -1,6 +1,6 @@
 ghost use Rattle.std.specs.Prelude.{◌≡◌, ◌≤◌, ◌↔◌, IfOk, IfSome, IsErrOf, IsNone};
 ghost use Rattle.scmd_top.specs.Jobs.{HasAllDone, HasEnded, HasRun, LeavesKeeper, LeavesOthers};
-ghost use Rattle.scmd_top.specs.Jobs.{groups_listed, names_file};
+ghost use Rattle.scmd_top.specs.Jobs.{SettlesAsWords, groups_listed, names_file};
 ghost use Rattle.scmd_top.specs.Sides.{ports_of, sides_of};
 ghost use Rattle.scmd_top.specs.Words.{job_of};
 
@@ -51,6 +51,9 @@ where
     ensures keeper { IfSome (job_of words.now) (λ job.
         LeavesKeeper (names_file words.now) job world.keeper result.1.keeper) }
     ensures ports { IfSome (job_of words.now) (λ job. LeavesOthers job world result.1) }
+    // A crash after a run that opened the keeper leaves what it kept, unless the keeper failed.
+    ensures settled { SettlesAsWords words.now (K.settled world.keeper)
+        (K.faults world.keeper) (K.faults result.1.keeper) result.0 (K.settled result.1.keeper) }
     // Counts of faults never fall.
     ensures input { I.faults world.input ≤ I.faults result.1.input }
     ensures output { O.faults world.output ≤ O.faults result.1.output }
@@ -96,6 +99,8 @@ where
     ensures ended { IfOk words (λ w. HasEnded (C.tells world.clock) w
         (sides_of I.left I.faults O.held O.faults K.held K.faults world result.1)
         (ports_of N.left N.accepted N.noted N.listened N.faults world result.1) result.0) }
+    ensures settled { IfOk words (λ w. SettlesAsWords w (K.settled world.keeper)
+        (K.faults world.keeper) (K.faults result.1.keeper) result.0 (K.settled result.1.keeper)) }
 {
     match words {
         Ok(words) => scmd_main(rt, alloc, &words, world),

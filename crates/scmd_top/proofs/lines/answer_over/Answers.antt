@@ -1,3 +1,4 @@
+use Rattle.std.proofs.Common.{inr}
 use Rattle.scm_replay.specs.Outcomes.{standing}
 use Rattle.scmd_top.specs.Sides.{side}
 use Rattle.scmd_top.proofs.Replays.{answered_over, complete_over}
@@ -13,7 +14,7 @@ returns-in-Ok-clause-complete g c =
       output = side g.O.Sink.held g.O.Sink.faults c.args.output.now how.new.output;
       keeper = side g.K.Keeper.held g.K.Keeper.faults c.args.keeper.now c.open_stored.new.keeper;
     })
-    _ (standing how.new.manager) c.in-Ok.ensures how.ensures.replayed how.ensures.cause)
+    _ (standing how.new.manager) c.in-Ok.ensures.opens how.ensures.replayed how.ensures.cause)
 
 pub returns-in-Ok-clause-run : goal.returns-in-Ok-clause-run
 returns-in-Ok-clause-run g c =
@@ -25,4 +26,7 @@ returns-in-Ok-clause-run g c =
       output = side g.O.Sink.held g.O.Sink.faults c.args.output.now how.new.output;
       keeper = side g.K.Keeper.held g.K.Keeper.faults c.args.keeper.now c.open_stored.new.keeper;
     })
-    _ (standing how.new.manager) c.in-Ok.ensures how.ensures.replayed how.ensures.cause)
+    _ (standing how.new.manager) c.in-Ok.ensures.opens how.ensures.replayed how.ensures.cause)
+
+pub returns-in-Ok-clause-settled : goal.returns-in-Ok-clause-settled
+returns-in-Ok-clause-settled g c = λ was. inr c.in-Ok.ensures.settled

@@ -1,7 +1,7 @@
-use Rattle.std.proofs.Common.{inl}
+use Rattle.std.proofs.Common.{false, inl}
 use Rattle.std.specs.Prelude.{is_some}
 use Rattle.scmd_top.specs.Sides.{side, sides_of}
-use Rattle.scmd_top.proofs.Connected.{come, complete_pipe, room_always}
+use Rattle.scmd_top.proofs.Connected.{come, complete_pipe, end_settled, room_always}
 use Rattle.scmd_top.proofs.pipe.pipe_main.Goals as goal
 
 pub returns-in-Ok-clause-run : goal.returns-in-Ok-clause-run
@@ -10,11 +10,11 @@ returns-in-Ok-clause-run g c =
     inl (record {
       how = how.result.how;
       status_is = c.status_of.ensures;
-      come = come g.K.Keeper.held g.K.Keeper.faults (g.C.Clock.tells c.args.world.clock)
+      come = come g.K.Keeper.held g.K.Keeper.faults g.K.Keeper.settled (g.C.Clock.tells c.args.world.clock)
           (is_some c.args.path) c.args.principal c.now-moment.result _
           (side g.I.Source.left g.I.Source.faults c.args.world.input how.new.input)
           (side g.O.Sink.held g.O.Sink.faults c.args.world.output how.new.output)
-          c.args.world.keeper c.open_at.new.keeper how.result c.now-moment.ensures c.in-Ok.ensures how.ensures.ended;
+          c.args.world.keeper c.open_at.new.keeper how.result c.now-moment.ensures c.in-Ok.ensures.opens how.ensures.ended;
       cause = how.ensures.cause;
     })
 
@@ -36,4 +36,12 @@ returns-in-Ok-clause-complete g c =
     how.result.how how.ensures.complete
     (room_always (is_some c.args.path) c.args.principal c.now-moment.result _
     (side g.K.Keeper.held g.K.Keeper.faults c.args.world.keeper c.open_at.new.keeper) _ how.result.how
-    c.in-Ok.ensures how.ensures.room))
+    c.in-Ok.ensures.opens how.ensures.room))
+
+pub returns-in-Ok-clause-settled : goal.returns-in-Ok-clause-settled
+returns-in-Ok-clause-settled g c = λ was.
+    let how = c.serve_alone-how in
+    end_settled g.K.Keeper.held g.K.Keeper.faults g.K.Keeper.settled (g.C.Clock.tells c.args.world.clock) c.args.principal _ _
+    (record { good = 0; dirty = false; form = _ })
+    (g.I.Source.left c.args.world.input) (g.I.Source.left how.new.input) (g.O.Sink.held c.args.world.output) (g.O.Sink.held how.new.output)
+    c.args.world.keeper c.open_at.new.keeper how.result c.in-Ok.ensures.opens.faults c.in-Ok.ensures.settled how.ensures.ended
