@@ -1,10 +1,13 @@
 //! `scmd`: the service control manager. `scmd pipe` serves one connection of svcctl from its input
 //! to its output, `scmd replay` makes the steps that stand in the lines of its input and answers
 //! them, `scmd generate N` prints the summary of a stated list of steps, and `scmd serve` serves
-//! the connections of two ports of the loopback.
+//! the connections of two ports of the loopback. `scmd compact` makes the journal in a store as
+//! short as it can be, and `scmd move` moves a journal from a plain file to a store.
 #![tactic(auto)]
 
 use child_link::{Feed, Link};
+use journal_disk::FileDisk;
+use journal_store::{Compactor, JournalStore};
 use outside::{Clock, ReadSource, Sink, Source, SystemClock, WriteSink};
 use process_runner::{ProcessSpawner, Spawner};
 use record_journal::{FileKeeper, Keeper};
@@ -63,12 +66,16 @@ fn arguments<R: Env + AllocGlobal>(rt: &R) -> Result<Items<Text>, NoWords> {
 
 /// The whole program. Its bounds give it no leave to write to standard error, nor to any place that
 /// it isn't handed.
-fn program<R, I, O, K, N, NI, NO, A, P, L, F, C>(rt: &R, world: World<I, O, K, N, P, C>) -> ExitCode
+fn program<R, I, O, K, Q, N, NI, NO, A, P, L, F, C>(
+    rt: &R,
+    world: World<I, O, K, Q, N, P, C>,
+) -> ExitCode
 where
     R: Env + AllocGlobal + Threads + Wait + time::Clock + Sync,
     I: Source + Drop,
     O: Sink + Drop,
     K: Keeper + Send,
+    Q: Compactor + Send,
     NI: Source + Send + Drop,
     NO: Sink + Send + Drop,
     A: Send + Drop,
@@ -92,6 +99,7 @@ fn main(rt: HostRuntime) -> ExitCode {
         input: ReadSource::new(rt.stdin()),
         output: WriteSink::new(rt.stdout()),
         keeper: FileKeeper::new(alloc, rt),
+        store: JournalStore::new(alloc, FileDisk::new(alloc, rt)),
         admin: PortListener::new(alloc, rt, None),
         user: PortListener::new(alloc, rt, Some(USERS)),
         spawner: ProcessSpawner::new(rt, alloc),

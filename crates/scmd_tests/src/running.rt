@@ -1,4 +1,6 @@
 //! The program in memory.
+use journal_disk::MemoryDisk;
+use journal_store::JournalStore;
 use outside::{FixedClock, MemorySink, MemorySource};
 use process_runner::MemorySpawner;
 use record_journal::{Fate, MemoryKeeper};
@@ -78,6 +80,7 @@ pub type Memory = World<
     MemorySource,
     MemorySink,
     MemoryKeeper,
+    JournalStore<MemoryDisk>,
     MemoryListener,
     MemorySpawner,
     FixedClock,
@@ -103,6 +106,7 @@ where
         input: MemorySource::in_pieces(input, piece, reads),
         output: MemorySink::new(alloc, writes),
         keeper: MemoryKeeper::new(stands, keeps),
+        store: JournalStore::new(alloc, MemoryDisk::new(alloc, Vec::new(alloc))),
         admin: admin.listener(alloc),
         user: user.listener(alloc),
         spawner: MemorySpawner::new(alloc, Vec::new(alloc)),

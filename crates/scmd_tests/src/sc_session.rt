@@ -3,6 +3,8 @@ use crate::children::{ObedientSpawner, Told};
 use crate::running::put_words;
 use crate::sc_asking::{TAKE, session};
 use crate::sc_rows::{GROUPS, JOURNAL};
+use journal_disk::MemoryDisk;
+use journal_store::JournalStore;
 use outside::{MemorySink, MemorySource, SystemClock};
 use process_runner::SpawnFaults;
 use record_journal::MemoryKeeper;
@@ -43,6 +45,7 @@ where
         input: MemorySource::new(Vec::new(alloc), Vec::new(alloc)),
         output: MemorySink::new(alloc, Vec::new(alloc)),
         keeper: MemoryKeeper::new(journal(alloc), Vec::new(alloc)),
+        store: JournalStore::new(alloc, MemoryDisk::new(alloc, Vec::new(alloc))),
         admin: PortListener::new(alloc, *rt, None),
         user: PortListener::new(alloc, *rt, None),
         spawner: ObedientSpawner {

@@ -1,5 +1,10 @@
 -- No job has the status of words that are none.
-use Rattle.std.proofs.Common.{Bool, true, false, ℕ, ◌≡◌, ◌≢◌, ◌∙◌, List, inl, inr, sym}
+use Rattle.std.proofs.Common.{Bool, true, false, ℕ, ◌≡◌, ◌≢◌, ◌∙◌, List, inl, inr, sym, Ok, Err}
+use Rattle.std.specs.Prelude.{Result}
+use Rattle.record_journal.specs.declared.keeper.KeepFault.TheVariants as keeps
+use Rattle.record_journal.specs.declared.opening.JournalFault.{JournalFault}
+use Rattle.scm_compacted.specs.declared.moving.MoveFault.{MoveFault}
+use Rattle.scm_compacted.specs.declared.moving.MoveFault.TheVariants as faults
 use Rattle.conn_desk.specs.declared.served.Served.{Served}
 use Rattle.conn_desk.specs.declared.served.Served.TheVariants as served
 use Rattle.scm_generate.specs.declared.generated.Generated.{Generated}
@@ -16,6 +21,7 @@ use Rattle.scm_serving.specs.declared.serving.BookEnd.{BookEnd}
 use Rattle.scm_serving.specs.declared.serving.BookEnd.TheVariants.{Ended, ListenFault, OutOfMemory}
 use Rattle.scmd_top.specs.Serving.{HasSummary}
 use Rattle.scmd_top.specs.Sides.{Ports, Side, Sides}
+use Rattle.scmd_top.specs.Stores.{status_of_compact, status_of_move}
 
 not_of_pipe : (how : Served) → status_of how ≢ 5
 not_of_pipe served.Ended = λ e. cc
@@ -71,3 +77,16 @@ not_5 tells path groups (Generate services) s p status h = λ e. not_of_generate
 not_5 tells path groups (Serve admin user) s p status (inl h, untouched) = not_of_serve h.end s.output status h.written
 not_5 tells path groups (Serve admin user) s p status (inr (inl h), untouched) = not_10 status h.status_is
 not_5 tells path groups (Serve admin user) s p status (inr (inr h), untouched) = not_opened path s status h.0
+
+-- ## Modes
+
+pub not_of_compact : (how : Result (Unit {0}) JournalFault) → status_of_compact how ≢ 5
+not_of_compact (Ok done) = λ e. cc
+not_of_compact (Err fault) = not_of_fault fault
+
+pub not_of_move : (how : Result (Unit {0}) MoveFault) → status_of_move how ≢ 5
+not_of_move (Ok done) = λ e. cc
+not_of_move (Err (faults.Journal fault)) = not_of_fault fault
+not_of_move (Err (faults.Store keeps.Failed)) = λ e. cc
+not_of_move (Err (faults.Store keeps.OutOfMemory)) = λ e. cc
+not_of_move (Err faults.NotEmpty) = λ e. cc

@@ -7,3 +7,4 @@ mod Summaries
 mod Options
 mod Served
 mod Named
+mod ByStatus

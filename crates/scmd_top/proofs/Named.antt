@@ -1,29 +1,53 @@
--- What the words of a job name, as a run is told it.
+-- What words name, as a run is told it.
 use Rattle.std.proofs.Common.{ℕ, ◌≡◌, ◌∙◌, List, Option, None, Some, sym, ap, subst}
-use Rattle.std.specs.Prelude.{Bool, IfSome, is_some}
+use Rattle.std.specs.Prelude.{Bool, IfSome, IsNone, option_and_then, is_some, ◌↔◌}
 use Rattle.std.specs.Borrow.{Bor}
-use Rattle.scmd_top.specs.declared.words.Job.{Job}
+use Rattle.scmd_top.specs.declared.words.Task.{Task}
 use Rattle.scmd_top.specs.Groups.{groups_in}
-use Rattle.scmd_top.specs.Jobs.{HasRun, groups_listed, names_file}
+use Rattle.scmd_top.specs.Modes.{groups_listed}
 use Rattle.scmd_top.specs.Parts.{IsText, lent}
-use Rattle.scmd_top.specs.Sides.{Ports, Sides}
-use Rattle.scmd_top.specs.Words.{job_of, listed_groups, path_of}
+use Rattle.scmd_top.specs.Words.{Mode, listed_groups, mode_by, mode_of, names_file, names_store, path_of, store_of, task_of}
 
-same_path : (words : List (List ℕ)) (path : Option (Bor (List ℕ))) → IsText (path_of words) path → is_some path ≡ names_file words
-same_path words None is = ap is_some (sym is)
-same_path words (Some x) is = ap is_some (sym is)
+same_name : (name : Option (List ℕ)) (lent : Option (Bor (List ℕ))) → IsText name lent → is_some lent ≡ is_some name
+same_name name None is = ap is_some (sym is)
+same_name name (Some x) is = ap is_some (sym is)
 
 same_groups : (words : List (List ℕ)) (names : Option (Bor (List ℕ))) → IsText (listed_groups words) names
     → groups_in (lent names) ≡ groups_listed words
 same_groups words None is = ap groups_in (sym is)
 same_groups words (Some x) is = ap groups_in (sym is)
 
-pub run_named : (tells : ℕ → Type 0) (words : List (List ℕ)) (job : Job) (found : Option Job) (path names : Option (Bor (List ℕ)))
-    (s : Sides) (p : Ports) (status : ℕ)
-    → found ≡ job_of words → found ≡ Some job → IsText (path_of words) path → IsText (listed_groups words) names
-    → HasRun tells (is_some path) (groups_in (lent names)) job s p status
-    → IfSome (job_of words) (λ j. HasRun tells (names_file words) (groups_listed words) j s p status)
-run_named tells words job found path names s p status of is a_path a_list run =
-    subst (λ (j : Option Job). IfSome j (λ k. HasRun tells (names_file words) (groups_listed words) k s p status)) (sym is ∙ of)
-    (subst (λ (b : Bool). HasRun tells b (groups_listed words) job s p status) (same_path words path a_path)
-    (subst (λ (gs : List (List ℕ)). HasRun tells (is_some path) gs job s p status) (same_groups words names a_list) run))
+-- words, and what is lent of them
+pub record AreNamed (words : List (List ℕ)) (task : Task) (path store names : Option (Bor (List ℕ))) : Type 0 where
+  pub task_is : task_of words ≡ Some task
+  pub path_is : IsText (path_of words) path
+  pub store_is : IsText (store_of words) store
+  pub names_are : IsText (listed_groups words) names
+
+pub named : (words : List (List ℕ)) (task : Task) (found : Option Task) (path store names : Option (Bor (List ℕ))) → found ≡ task_of words
+    → found ≡ Some task → IsText (path_of words) path → IsText (store_of words) store → IsText (listed_groups words) names
+    → AreNamed words task path store names
+named words task found path store names of is a_path a_store a_list =
+    record { task_is = sym of ∙ is; path_is = a_path; store_is = a_store; names_are = a_list }
+
+module _ (words : List (List ℕ)) (task : Task) (path store names : Option (Bor (List ℕ))) (named : AreNamed words task path store names)
+  where
+    pub same_mode : mode_by task (is_some path) (is_some store) ≡ mode_of words
+    same_mode =
+        ap (λ (b : Bool). mode_by task b (is_some store)) (same_name (path_of words) path named.path_is)
+        ∙ ap (λ (b : Bool). mode_by task (names_file words) b) (same_name (store_of words) store named.store_is)
+        ∙ ap (λ (o : Option Task). option_and_then (λ (t : Task). mode_by t (names_file words) (names_store words)) o) (sym named.task_is)
+
+    pub as_named : (P : Bool → List (List ℕ) → Mode → Type 0)
+        → IfSome (mode_by task (is_some path) (is_some store)) (λ mode. P (is_some path) (groups_in (lent names)) mode)
+        → IfSome (mode_of words) (λ mode. P (names_file words) (groups_listed words) mode)
+    as_named P run =
+        subst (λ (m : Option Mode). IfSome m (λ mode. P (names_file words) (groups_listed words) mode)) same_mode
+        (subst (λ (b : Bool). IfSome (mode_by task (is_some path) (is_some store)) (λ mode. P b (groups_listed words) mode))
+        (same_name (path_of words) path named.path_is)
+        (subst (λ (gs : List (List ℕ)). IfSome (mode_by task (is_some path) (is_some store)) (λ mode. P (is_some path) gs mode))
+        (same_groups words names named.names_are) run))
+
+    pub none_named : (status : ℕ) → (status ≡ 5 ↔ IsNone (mode_by task (is_some path) (is_some store)))
+        → (status ≡ 5 ↔ IsNone (mode_of words))
+    none_named status is = subst (λ (m : Option Mode). status ≡ 5 ↔ IsNone m) same_mode is

@@ -1,5 +1,5 @@
 -- The outcome of each job, and its status.
-use Rattle.std.specs.Prelude.{ℕ, ◌≡◌, ◌<◌, ◌^◌, ◌↔◌, Bool, true, false, ◌⊎◌, List, [], length, Option, IfSome, IsNone, is_some}
+use Rattle.std.specs.Prelude.{ℕ, ◌≡◌, ◌<◌, ◌^◌, Bool, true, false, ◌⊎◌, List, [], length, Option, IfSome}
 use Rattle.outside.specs.Causes.{Rose}
 use Rattle.outside.specs.Written.{Begins}
 use Rattle.scm_generate.specs.Listed.{generated}
@@ -14,16 +14,14 @@ use Rattle.scm_replay.specs.declared.replayed.Replayed.{Replayed}
 use Rattle.scm_replay.specs.declared.replayed.Replayed.TheVariants as answered
 use Rattle.scm_model.specs.declared.flat.Config.{Config}
 use Rattle.record_journal.specs.declared.replaying.Replay.{Replay as Restoring}
-use Rattle.scmd_top.specs.Groups.{groups_in}
 use Rattle.scmd_top.specs.Opening.{FailsToOpen, HasNotOpened, IsCut, IsOpenable, LeavesSettled, program_opening}
 use Rattle.scmd_top.specs.declared.words.Job.{Job}
 use Rattle.scmd_top.specs.declared.words.Job.TheVariants.{Pipe, Replay, Generate, Serve}
 use Rattle.scmd_top.specs.Pipe.{HasPiped, IsComplete}
 use Rattle.scmd_top.specs.Serving.{HasServed, IsServingComplete as IsServed}
 use Rattle.scmd_top.specs.Sides.{IsUntouched, LeavesPorts, Ports, Side, Sides}
-use Rattle.scmd_top.specs.declared.world.World.{World}
+use Rattle.scmd_top.specs.declared.world.JobWorld.{JobWorld}
 use Rattle.scmd_top.specs.Statuses.{IsOrLacks, program_limits}
-use Rattle.scmd_top.specs.Words.{job_of, listed_groups, path_of}
 
 -- ## Statuses
 
@@ -103,7 +101,7 @@ SettlesKeeper path (Generate services) old before now status settled = Unit {0}
 SettlesKeeper path (Serve admin user) old before now status settled = LeavesSettled old before now status settled
 
 -- no other job than a server touches the listeners and what starts programs
-abbrev pub LeavesOthers : {I O K N P C : Type 0} → Job → (w w' : World I O K N P C) → Type 0
+abbrev pub LeavesOthers : {I O K N P C : Type 0} → Job → (w w' : JobWorld I O K N P C) → Type 0
 LeavesOthers (Serve admin user) w w' = Unit {0}
 LeavesOthers job w w' = LeavesPorts w w'
 
@@ -144,24 +142,3 @@ HasAllDone path (Pipe principal) s p status = IsComplete path principal s status
 HasAllDone path Replay s p status = HasAllReplayed path s status
 HasAllDone path (Generate services) s p status = HasSummedUp s.output status
 HasAllDone path (Serve admin user) s p status = IsServed path s p status
-
--- ## The program
-
--- whether these words name a file
-abbrev pub names_file : List (List ℕ) → Bool
-names_file words = is_some (path_of words)
-
--- the groups that they list
-abbrev pub groups_listed : List (List ℕ) → List (List ℕ)
-groups_listed words = groups_in (listed_groups words)
-
--- the job that words are leaves the keeper settled, unless it failed
-abbrev pub SettlesAsWords : (words : List (List ℕ)) → (old : Type 0) → (before now status : ℕ) → (settled : Type 0) → Type 0
-SettlesAsWords words old before now status settled =
-    IfSome (job_of words) (λ job. SettlesKeeper (names_file words) job old before now status settled)
-
--- what words came to: 5 exactly where they are no job, and else what the job came to
-pub record HasEnded (tells : ℕ → Type 0) (words : List (List ℕ)) (s : Sides) (p : Ports) (status : ℕ) : Type 0 where
-  pub words_are : status ≡ 5 ↔ IsNone (job_of words)
-  pub run : IfSome (job_of words) (λ job. HasRun tells (names_file words) (groups_listed words) job s p status)
-  pub complete : IfSome (job_of words) (λ job. HasAllDone (names_file words) job s p status)

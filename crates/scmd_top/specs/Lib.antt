@@ -8,3 +8,5 @@ pub mod Opening
 pub mod Pipe
 pub mod Serving
 pub mod Jobs
+pub mod Stores
+pub mod Modes

@@ -7,7 +7,7 @@ use Rattle.scm_replay.specs.Words.{decimal_at, ◌>>=◌}
 use Rattle.scm_model.specs.declared.flat.Principal.{Principal}
 use Rattle.scm_model.specs.declared.flat.Principal.TheVariants.{Admin, User}
 use Rattle.scmd_top.specs.declared.settings.Setting.{Setting}
-use Rattle.scmd_top.specs.declared.settings.Setting.TheVariants.{AdminPort, UserPort, AdminTake, UserTake, As, File, Groups}
+use Rattle.scmd_top.specs.declared.settings.Setting.TheVariants.{AdminPort, UserPort, AdminTake, UserTake, As, File, Groups, Store}
 use Rattle.scmd_top.specs.declared.settings.Settings.{Settings}
 
 -- ## Names
@@ -23,6 +23,7 @@ setting_named word =
     else if is_word word (codes "--take-user") then Some UserTake
     else if is_word word (codes "--as") then Some As
     else if is_word word (codes "--db") then Some File
+    else if is_word word (codes "--store") then Some Store
     else if is_word word (codes "--groups") then Some Groups
     else None
 
@@ -47,7 +48,7 @@ principal_named value =
     if is_word value (codes "admin") then Some Admin else
     if is_word value (codes "user") then Some User else None
 
--- a name of a file and a list of groups aren't empty, and don't begin as an option does, with `-`
+-- a name of a file or a store and a list of groups aren't empty, and don't begin as an option does, with `-`
 abbrev pub is_plain : List ℕ → Bool
 is_plain [] = false
 is_plain (b ∷ value) = not (b == 45)
@@ -69,6 +70,7 @@ with_option s UserTake value = option_map (λ (n : ℕ). record s { take_user = 
 with_option s As value = option_map (λ (p : Principal). record s { principal = Some p; waits = None })
     (once s.principal (principal_named value))
 with_option s File value = if not s.file && is_plain value then Some (record s { file = true; waits = None }) else None
+with_option s Store value = if not s.store && is_plain value then Some (record s { store = true; waits = None }) else None
 with_option s Groups value = if not s.groups && is_plain value then Some (record s { groups = true; waits = None }) else None
 
 -- ## Words
@@ -81,6 +83,7 @@ no_options = record {
   take_user = None;
   principal = None;
   file = false;
+  store = false;
   groups = false;
   waits = None;
 }

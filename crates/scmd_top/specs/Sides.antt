@@ -4,7 +4,7 @@ use Rattle.scm_listener.specs.Connections.{PastConnection}
 use Rattle.scm_listener.specs.declared.listener.Listening.{Listening}
 use Rattle.scm_server.specs.Ports.{Told}
 use Rattle.scm_serving.specs.Listening.{told_by}
-use Rattle.scmd_top.specs.declared.world.World.{World}
+use Rattle.scmd_top.specs.declared.world.JobWorld.{JobWorld}
 
 pub record Side : Type 0 where
   pub told : Option (List ℕ)
@@ -26,7 +26,7 @@ pub record Sides : Type 0 where
   pub keeper : Side
 
 abbrev pub sides_of : {I O K N P C : Type 0} → (left : I → Option (List ℕ)) (source : I → ℕ) (held : O → Option (List ℕ)) (sink : O → ℕ)
-    (bytes : K → Option (List ℕ)) (keeper : K → ℕ) → World I O K N P C → World I O K N P C → Sides
+    (bytes : K → Option (List ℕ)) (keeper : K → ℕ) → JobWorld I O K N P C → JobWorld I O K N P C → Sides
 sides_of left source held sink bytes keeper w w' = record {
   input = side left source w.input w'.input;
   output = side held sink w.output w'.output;
@@ -42,7 +42,7 @@ pub record Ports : Type 0 where
 
 abbrev pub ports_of : {I O K N P C : Type 0} → (left : N → Option (List (List ℕ))) → (accepted : N → ℕ)
     → (noted : N → Option (List PastConnection))
-    → (listened : N → Option (List Listening)) → (faults : N → ℕ) → World I O K N P C → World I O K N P C → Ports
+    → (listened : N → Option (List Listening)) → (faults : N → ℕ) → JobWorld I O K N P C → JobWorld I O K N P C → Ports
 ports_of left accepted noted listened faults w w' = record {
   admin = told_by left accepted noted listened faults w.admin;
   admin_now = told_by left accepted noted listened faults w'.admin;
@@ -51,7 +51,7 @@ ports_of left accepted noted listened faults w w' = record {
 }
 
 -- what serves and is served is as it was
-pub record LeavesPorts {I O K N P C : Type 0} (w w' : World I O K N P C) : Type 0 where
+pub record LeavesPorts {I O K N P C : Type 0} (w w' : JobWorld I O K N P C) : Type 0 where
   pub admin : w'.admin ≡ w.admin
   pub user : w'.user ≡ w.user
   pub spawner : w'.spawner ≡ w.spawner

@@ -1,6 +1,6 @@
 -- What the words ask for.
-use Rattle.std.specs.Prelude.{ℕ, ◌≤◌, Bool, ◌&&◌, nat_le, false, codes, List, [], ◌∷◌, Option, None, Some, option_and_then, option_map}
-use Rattle.std.specs.Prelude.{if◌then◌else◌}
+use Rattle.std.specs.Prelude.{ℕ, ◌≤◌, Bool, ◌&&◌, nat_le, false, true, not, codes, List, [], ◌∷◌, Option, None, Some, option_and_then}
+use Rattle.std.specs.Prelude.{option_map, is_some, if◌then◌else◌}
 use Rattle.scm_model.specs.declared.flat.Principal.{Principal}
 use Rattle.scm_model.specs.declared.flat.Principal.TheVariants.{Admin}
 use Rattle.scmd_top.specs.declared.words.Job.{Job}
@@ -9,6 +9,8 @@ use Rattle.scmd_top.specs.declared.words.Job.TheVariants.{Pipe, Replay, Generate
 use Rattle.scmd_top.specs.Settings.{is_word, no_options, options_from, value_from}
 use Rattle.scmd_top.specs.declared.settings.Setting.{Setting}
 use Rattle.scmd_top.specs.declared.settings.Settings.{Settings}
+use Rattle.scmd_top.specs.declared.words.Task.{Task}
+use Rattle.scmd_top.specs.declared.words.Task.TheVariants.{Compact, Move, Run}
 
 -- ## Options of each job
 
@@ -22,13 +24,13 @@ pipe_with waits admin user take_admin take_user groups principal = None
 abbrev pub pipe_of : Settings → Option Job
 pipe_of s = pipe_with s.waits s.admin s.user s.take_admin s.take_user s.groups s.principal
 
-abbrev pub replay_with : Option Setting → (admin user take_admin take_user : Option ℕ) → (groups : Bool) → Option Principal → Option Job
-replay_with None None None None None false None = Some Replay
-replay_with waits admin user take_admin take_user groups principal = None
+-- no option is given but a file or a store
+abbrev pub is_bare : Settings → Bool
+is_bare s = is_some (pipe_of s) && not (is_some s.principal)
 
 -- a replay has no option but its file
 abbrev pub replay_job : Settings → Option Job
-replay_job s = replay_with s.waits s.admin s.user s.take_admin s.take_user s.groups s.principal
+replay_job s = if is_bare s && not s.store then Some Replay else None
 
 -- where two ports are listened at, and how many connections each takes
 abbrev pub serve_job : Option Setting → Option Principal → (admin user : Option ℕ) → (take_admin take_user : Option ℕ) → Option Job
@@ -40,9 +42,9 @@ serve_job waits principal admin user take_admin take_user = None
 abbrev pub serving_of : Settings → Option Job
 serving_of s = serve_job s.waits s.principal s.admin s.user s.take_admin s.take_user
 
--- what options say of a job
-abbrev pub with_options : (Settings → Option Job) → List (List ℕ) → Option Job
-with_options job words = option_and_then job (options_from no_options words)
+-- what is said by options
+abbrev pub with_options : {A : Type 0} → (Settings → Option A) → List (List ℕ) → Option A
+with_options said words = option_and_then said (options_from no_options words)
 
 -- ## The job
 
@@ -63,20 +65,72 @@ generate_with [] = None
 generate_with (number ∷ []) = option_map Generate (option_and_then within (decimal_at number))
 generate_with (number ∷ other ∷ words) = None
 
--- the job, or none where the words aren't in the set
-abbrev pub job_of : List (List ℕ) → Option Job
-job_of [] = None
-job_of (word ∷ words) =
+-- the job that a word asks for, with these options
+abbrev pub job_named : List ℕ → List (List ℕ) → Option Job
+job_named word words =
     if is_word word (codes "pipe") then with_options pipe_of words
     else if is_word word (codes "replay") then with_options replay_job words
     else if is_word word (codes "generate") then generate_with words
     else if is_word word (codes "serve") then with_options serving_of words
     else None
 
--- which file they name, where they are a job
+-- ## The mode
+
+-- a task without options of its own
+abbrev pub bare_task : Task → Settings → Option Task
+bare_task task s = if is_bare s then Some task else None
+
+-- the task that a word asks for, with these options: a job, or what is done to a store
+abbrev pub task_named : List ℕ → List (List ℕ) → Option Task
+task_named word words =
+    if is_word word (codes "compact") then with_options (bare_task Compact) words
+    else if is_word word (codes "move") then with_options (bare_task Move) words
+    else option_map Run (job_named word words)
+
+abbrev pub task_of : List (List ℕ) → Option Task
+task_of [] = None
+task_of (word ∷ words) = task_named word words
+
+-- which file they name, if they are a task
 abbrev pub path_of : List (List ℕ) → Option (List ℕ)
 path_of words = value_from (codes "--db") false words
 
--- which groups they list, where they are a job
+-- which store they name, if they are a task
+abbrev pub store_of : List (List ℕ) → Option (List ℕ)
+store_of words = value_from (codes "--store") false words
+
+-- which groups they list, if they are a task
 abbrev pub listed_groups : List (List ℕ) → Option (List ℕ)
 listed_groups words = value_from (codes "--groups") false words
+
+-- what is done, and where its journal is kept
+pub data Mode : Type 0 where
+  OverKeeper : Job → Mode
+  OverStore : Job → Mode
+  Compacting : Mode
+  Moving : Mode
+
+-- By whether a file and a store are named: a job has at most one of them, a compaction has a store, and a move has both.
+abbrev pub mode_by : Task → (file store : Bool) → Option Mode
+mode_by (Run job) file false = Some (OverKeeper job)
+mode_by (Run job) false true = Some (OverStore job)
+mode_by Compact false true = Some Compacting
+mode_by Move true true = Some Moving
+mode_by task file store = None
+
+-- whether the words name a file
+abbrev pub names_file : List (List ℕ) → Bool
+names_file words = is_some (path_of words)
+
+-- whether they name a store
+abbrev pub names_store : List (List ℕ) → Bool
+names_store words = is_some (store_of words)
+
+-- the mode, or none if the words aren't in the set
+abbrev pub mode_of : List (List ℕ) → Option Mode
+mode_of words = option_and_then (λ (task : Task). mode_by task (names_file words) (names_store words)) (task_of words)
+
+-- at most 512 services are to be made
+abbrev pub HasFew : Task → Type 0
+HasFew (Run job) = IsFew job
+HasFew task = Unit {0}

@@ -14,7 +14,7 @@ use crate::opening::{open_at, status_of_fault};
 use crate::pipe::pipe_main;
 use crate::summary::generate_main;
 use crate::words::Job;
-use crate::world::World;
+use crate::world::JobWorld;
 use child_link::{Feed, Link};
 use outside::{Clock, Failed, Sink, Source, write_all};
 use process_runner::Spawner;
@@ -46,7 +46,7 @@ fn written<O: Sink>(end: BookEnd, output: &mut O) -> u8
     }
 }
 
-impl<I, O, K, N, NI, NO, A, P, L, F, C> World<I, O, K, N, P, C>
+impl<I, O, K, N, NI, NO, A, P, L, F, C> JobWorld<I, O, K, N, P, C>
 where
     I: Source,
     O: Sink,
@@ -71,7 +71,7 @@ where
         user_at: Listening,
         path: Option<&str>,
         names: Option<&str>,
-    ) -> (u8, World<I, O, K, N, P, C>)
+    ) -> (u8, JobWorld<I, O, K, N, P, C>)
         ensures input { result.1.input ≡ self.input }
         ensures clock { result.1.clock ≡ self.clock }
         ensures output { O.faults self.output ≤ O.faults result.1.output }
@@ -97,7 +97,7 @@ where
                     manager.close();
                     return (10, world);
                 };
-                let World {
+                let JobWorld {
                     input,
                     mut output,
                     keeper,
@@ -110,7 +110,7 @@ where
                     rt, alloc, manager, journal, keeper, admin, user, spawner, &clock,
                 );
                 let status = written(served.end, &mut output);
-                let world = World {
+                let world = JobWorld {
                     input,
                     output,
                     keeper: served.keeper,
@@ -134,7 +134,7 @@ where
         job: Job,
         path: Option<&str>,
         names: Option<&str>,
-    ) -> (u8, World<I, O, K, N, P, C>)
+    ) -> (u8, JobWorld<I, O, K, N, P, C>)
         requires { IsFew job }
         ensures run { HasRun (C.tells self.clock)
             (is_some path.entry) (groups_in (lent names.entry)) job

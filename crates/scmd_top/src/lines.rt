@@ -8,7 +8,7 @@ ghost use Rattle.scmd_top.specs.Sides.{LeavesPorts, side, sides_of};
 ghost use Rattle.scmd_top.specs.declared.words.Job.TheVariants as jobs;
 
 use crate::opening::{new_manager, open_stored, status_of_fault};
-use crate::world::World;
+use crate::world::JobWorld;
 use outside::{Clock, Sink, Source};
 use process_runner::Spawner;
 use record_journal::Keeper;
@@ -123,8 +123,8 @@ fn answer<I: Source, O: Sink, K: Keeper>(
 pub fn replay_main<I: Source, O: Sink, K: Keeper, N: Listener, P: Spawner, C: Clock>(
     alloc: Global,
     path: Option<&str>,
-    world: World<I, O, K, N, P, C>,
-) -> (u8, World<I, O, K, N, P, C>)
+    world: JobWorld<I, O, K, N, P, C>,
+) -> (u8, JobWorld<I, O, K, N, P, C>)
     ensures keeper { LeavesKeeper (is_some path.entry) jobs.Replay world.keeper result.1.keeper }
     ensures settled { SettlesKeeper (is_some path.entry) jobs.Replay (K.settled world.keeper)
         (K.faults world.keeper) (K.faults result.1.keeper) result.0 (K.settled result.1.keeper) }

@@ -5,7 +5,7 @@ ghost use Rattle.scmd_top.specs.Pipe.{HasPiped, IsComplete, status_of};
 ghost use Rattle.scmd_top.specs.Sides.{LeavesPorts, sides_of};
 
 use crate::opening::{open_at, status_of_fault};
-use crate::world::World;
+use crate::world::JobWorld;
 use outside::{Clock, Sink, Source};
 use process_runner::Spawner;
 use record_journal::Keeper;
@@ -39,8 +39,8 @@ pub fn pipe_main<R: Wait, I: Source, O: Sink, K: Keeper, N: Listener, P: Spawner
     alloc: Global,
     principal: Principal,
     path: Option<&str>,
-    world: World<I, O, K, N, P, C>,
-) -> (u8, World<I, O, K, N, P, C>)
+    world: JobWorld<I, O, K, N, P, C>,
+) -> (u8, JobWorld<I, O, K, N, P, C>)
     ensures clock { result.1.clock ≡ world.clock }
     ensures ports { LeavesPorts world result.1 }
     ensures input { I.faults world.input ≤ I.faults result.1.input }

@@ -20,8 +20,10 @@ pub enum Setting {
     UserTake,
     /// Whose connection it is.
     As,
-    /// Where the journal stands.
+    /// Where the journal stands in a plain file.
     File,
+    /// Where the store stands.
+    Store,
     /// Which groups start first.
     Groups,
 }
@@ -37,6 +39,8 @@ pub struct Settings {
     pub principal: Option<Principal>,
     /// Whether a file is named.
     pub file: bool,
+    /// Whether a store is named.
+    pub store: bool,
     /// Whether groups are listed.
     pub groups: bool,
     /// The option whose value is the next word.
@@ -53,6 +57,7 @@ fn setting_named(word: &str) -> Option<Setting>
         "--take-user" => Some(Setting::UserTake),
         "--as" => Some(Setting::As),
         "--db" => Some(Setting::File),
+        "--store" => Some(Setting::Store),
         "--groups" => Some(Setting::Groups),
         _ => None,
     }
@@ -136,6 +141,7 @@ impl Settings {
         take_user: None,
         principal: None,
         file: false,
+        store: false,
         groups: false,
         waits: None,
     };
@@ -172,11 +178,15 @@ impl Settings {
                 file: true,
                 ..settings
             }),
+            Setting::Store if !self.store && is_plain(value) => Some(Settings {
+                store: true,
+                ..settings
+            }),
             Setting::Groups if !self.groups && is_plain(value) => Some(Settings {
                 groups: true,
                 ..settings
             }),
-            Setting::File | Setting::Groups => None,
+            Setting::File | Setting::Store | Setting::Groups => None,
         }
     }
 
@@ -245,6 +255,13 @@ pub fn file_of(words: &[Text]) -> Option<&str>
     ensures { IsText (value_from (codes "--db") false words.now) result }
 {
     value_of("--db", words)
+}
+
+/// Which store they name.
+pub fn store_in(words: &[Text]) -> Option<&str>
+    ensures { IsText (value_from (codes "--store") false words.now) result }
+{
+    value_of("--store", words)
 }
 
 /// The groups that they list, as one text.

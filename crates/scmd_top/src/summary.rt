@@ -4,7 +4,7 @@ ghost use Rattle.scmd_top.specs.Jobs.{HasPrinted, HasSummedUp, status_of_generat
 ghost use Rattle.scmd_top.specs.Sides.{LeavesPorts, side};
 
 use crate::limits::LIMITS;
-use crate::world::World;
+use crate::world::JobWorld;
 use outside::{Clock, Sink, Source};
 use process_runner::Spawner;
 use record_journal::Keeper;
@@ -28,8 +28,8 @@ fn status_of_generate(how: Generated) -> u8
 pub fn generate_main<I: Source, O: Sink, K: Keeper, N: Listener, P: Spawner, C: Clock>(
     alloc: Global,
     services: u32,
-    world: World<I, O, K, N, P, C>,
-) -> (u8, World<I, O, K, N, P, C>)
+    world: JobWorld<I, O, K, N, P, C>,
+) -> (u8, JobWorld<I, O, K, N, P, C>)
     requires few { services ≤ 512 }
     ensures unread { result.1.input ≡ world.input }
     ensures keeper { result.1.keeper ≡ world.keeper }

@@ -1,10 +1,13 @@
-ghost use Rattle.std.specs.Prelude.{◌≡◌, ◌≤◌, IfSome, option_and_then};
+ghost use Rattle.std.specs.Prelude.{◌≡◌, ◌≤◌, IfSome, option_and_then, option_map};
 ghost use Rattle.scm_replay.specs.Words.{decimal_at};
 ghost use Rattle.scmd_top.specs.Parts.{IsText};
-ghost use Rattle.scmd_top.specs.Words.{IsFew, generate_with, job_of, listed_groups, path_of};
-ghost use Rattle.scmd_top.specs.Words.{pipe_of, replay_job, serving_of, with_options, within};
+ghost use Rattle.scmd_top.specs.Words.{HasFew, IsFew, bare_task, generate_with, is_bare};
+ghost use Rattle.scmd_top.specs.Words.{job_named, listed_groups, path_of, pipe_of, replay_job};
+ghost use Rattle.scmd_top.specs.Words.{serving_of, store_of, task_named, task_of, with_options};
+ghost use Rattle.scmd_top.specs.Words.{within};
+ghost use Rattle.scmd_top.specs.declared.words.Task.TheVariants as tasks;
 
-use crate::settings::{Settings, file_of, groups_text};
+use crate::settings::{Settings, file_of, groups_text, store_in};
 use scm_listener::Listening;
 use scm_model::Principal;
 use scm_replay::number_at;
@@ -29,6 +32,16 @@ pub enum Job {
     Generate { services: u32 },
     /// Serves the connections of two ports over one book, and prints the summary of its history.
     Serve { admin: Listening, user: Listening },
+}
+
+/// What the program is to do, wherever it keeps its journal.
+#[derive(Clone, Copy)]
+pub enum Task {
+    Run(Job),
+    /// Replaces the journal in a store by its compact text.
+    Compact,
+    /// Moves the journal of a file to a store.
+    Move,
 }
 
 /// A number of services, if steps are generated for so many.
@@ -60,7 +73,8 @@ fn generate_with(words: &[Text]) -> Option<Job>
 
 /// A pipe's connection is an administrator's, unless the options say it.
 fn pipe_of(said: Settings) -> Option<Job>
-    ensures { result ≡ pipe_of said }
+    ensures job { result ≡ pipe_of said }
+    ensures few { IfSome result IsFew }
 {
     match (
         said.waits,
@@ -77,13 +91,21 @@ fn pipe_of(said: Settings) -> Option<Job>
     }
 }
 
+/// Whether no option is given but a file or a store.
+fn is_bare(said: Settings) -> bool
+    ensures { result ≡ is_bare said }
+{
+    pipe_of(said).is_some() && said.principal.is_none()
+}
+
 /// A replay has no option but its file.
 fn replay_of(said: Settings) -> Option<Job>
     ensures { result ≡ replay_job said }
 {
-    match pipe_of(said) {
-        Some(_) if said.principal.is_none() => Some(Job::Replay),
-        _ => None,
+    if is_bare(said) && !said.store {
+        Some(Job::Replay)
+    } else {
+        None
     }
 }
 
@@ -128,31 +150,77 @@ fn with_serve(words: &[Text]) -> Option<Job>
     serving_of(Settings::of(words)?)
 }
 
-/// The job that the words ask for, or none where they aren't in the set.
-pub fn job_of(words: &Items<Text>) -> Option<Job>
-    ensures job { result ≡ job_of words.now }
+/// The job that a word asks for, with these options.
+fn job_named(word: &str, options: &[Text]) -> Option<Job>
+    ensures job { result ≡ job_named word.now options.now }
     ensures few { IfSome result IsFew }
 {
-    match words.as_slice() {
-        [] => None,
-        [word, rest @ ..] => match word.as_str() {
-            "pipe" => with_pipe(rest),
-            "replay" => with_replay(rest),
-            "generate" => generate_with(rest),
-            "serve" => with_serve(rest),
-            _ => None,
-        },
+    match word {
+        "pipe" => with_pipe(options),
+        "replay" => with_replay(options),
+        "generate" => generate_with(options),
+        "serve" => with_serve(options),
+        _ => None,
     }
 }
 
-/// The file that the words name, where they are a job.
+/// A task without options of its own.
+fn with_bare(task: Task, words: &[Text]) -> Option<Task>
+    ensures { result ≡ with_options (bare_task task) words.now }
+{
+    if is_bare(Settings::of(words)?) {
+        Some(task)
+    } else {
+        None
+    }
+}
+
+/// A job as a task.
+fn run_named(word: &str, options: &[Text]) -> Option<Task>
+    ensures task { result ≡ option_map tasks.Run (job_named word.now options.now) }
+    ensures few { IfSome result HasFew }
+{
+    Some(Task::Run(job_named(word, options)?))
+}
+
+/// The task that a word asks for, with these options.
+fn task_named(word: &str, options: &[Text]) -> Option<Task>
+    ensures task { result ≡ task_named word.now options.now }
+    ensures few { IfSome result HasFew }
+{
+    match word {
+        "compact" => with_bare(Task::Compact, options),
+        "move" => with_bare(Task::Move, options),
+        _ => run_named(word, options),
+    }
+}
+
+/// The task that the words ask for, or none if they aren't in the set.
+pub fn task_of(words: &Items<Text>) -> Option<Task>
+    ensures task { result ≡ task_of words.now }
+    ensures few { IfSome result HasFew }
+{
+    match words.as_slice() {
+        [] => None,
+        [word, options @ ..] => task_named(word.as_str(), options),
+    }
+}
+
+/// The file that the words name, if they are a task.
 pub fn path_of(words: &Items<Text>) -> Option<&str>
     ensures { IsText (path_of words.now) result }
 {
     file_of(words.as_slice())
 }
 
-/// The groups that the words list, where they are a job.
+/// The store that the words name, if they are a task.
+pub fn store_of(words: &Items<Text>) -> Option<&str>
+    ensures { IsText (store_of words.now) result }
+{
+    store_in(words.as_slice())
+}
+
+/// The groups that the words list, if they are a task.
 pub fn list_of(words: &Items<Text>) -> Option<&str>
     ensures { IsText (listed_groups words.now) result }
 {

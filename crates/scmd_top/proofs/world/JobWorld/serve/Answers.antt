@@ -4,7 +4,7 @@ use Rattle.scmd_top.specs.Groups.{groups_in}
 use Rattle.scmd_top.specs.Parts.{lent}
 use Rattle.scmd_top.specs.Sides.{ports_of, side, sides_of}
 use Rattle.scmd_top.proofs.Served.{has_listened, has_not_listened, served_settled}
-use Rattle.scmd_top.proofs.world.World.serve.Goals as goal
+use Rattle.scmd_top.proofs.world.JobWorld.serve.Goals as goal
 
 pub returns-in_default-clause-run : goal.returns-in_default-clause-run
 returns-in_default-clause-run g c =
