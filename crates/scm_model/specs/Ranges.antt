@@ -1,7 +1,7 @@
 -- The requests whose sizes and counts are in their ranges.
 use Rattle.std.specs.Prelude.{ℕ, Bool, false, true, not, ◌||◌, ◌==◌, nat_le, List, length, Option, None, Some}
-use Rattle.scm_model.specs.declared.codes.TheConstants.{MAX_CONFIG_SIZE, MAX_ENUM_SIZE, MAX_LOCK_STATUS_SIZE, SC_MAX_ACTIONS}
-use Rattle.scm_model.specs.declared.codes.TheConstants.{SC_MAX_ARGUMENTS, SC_MAX_TRIGGERS, SERVICE_CONFIG_DELAYED_AUTO_START_INFO}
+use Rattle.scm_model.specs.declared.codes.TheConstants.{MAX_CONFIG_SIZE, MAX_ENUM_SIZE, MAX_LOCK_STATUS_SIZE}
+use Rattle.scm_model.specs.declared.codes.TheConstants.{MAX_SECURITY_SIZE, SC_MAX_ACTIONS, SC_MAX_ARGUMENTS, SC_MAX_TRIGGERS, SERVICE_CONFIG_DELAYED_AUTO_START_INFO}
 use Rattle.scm_model.specs.declared.codes.TheConstants.{SERVICE_CONFIG_DESCRIPTION, SERVICE_CONFIG_FAILURE_ACTIONS}
 use Rattle.scm_model.specs.declared.codes.TheConstants.{SERVICE_CONFIG_FAILURE_ACTIONS_FLAG, SERVICE_CONFIG_TRIGGER_INFO}
 use Rattle.scm_model.specs.declared.flat.Action.{Action}
@@ -44,7 +44,6 @@ in_range (request.QueryConfig2 handle level size) = nat_le size MAX_CONFIG_SIZE
 in_range (request.QueryConfig handle size) = nat_le size MAX_CONFIG_SIZE
 in_range (request.QueryLock handle size) = nat_le size MAX_LOCK_STATUS_SIZE
 in_range (request.Start handle words) = are_few words
--- no body is read as one of these yet
-in_range (request.QuerySecurity handle parts size) = false
-in_range (request.SetSecurity handle parts bytes) = false
+in_range (request.QuerySecurity handle parts size) = nat_le size MAX_SECURITY_SIZE
+in_range (request.SetSecurity handle parts bytes) = nat_le (length bytes) MAX_SECURITY_SIZE
 in_range asked = true

@@ -288,6 +288,9 @@ pub const MAX_ENUM_SIZE: u32 = 262144;
 pub const MAX_CONFIG_SIZE: u32 = 8192;
 /// The greatest `cbBufSize` of `RQueryServiceLockStatusW`, in bytes.
 pub const MAX_LOCK_STATUS_SIZE: u32 = 4096;
+/// The greatest `cbBufSize` of `RQueryServiceObjectSecurity` and `RSetServiceObjectSecurity`, in
+/// bytes. This server sets it.
+pub const MAX_SECURITY_SIZE: u32 = 262144;
 /// The most words of a start.
 pub const SC_MAX_ARGUMENTS: u32 = 1024;
 /// The most actions of `SERVICE_FAILURE_ACTIONSW`.

@@ -3,10 +3,10 @@ ghost use Rattle.scm_model.specs.Ranges.{are_few, are_few_actions, in_range, inf
 ghost use Rattle.scm_model.specs.Ranges.{is_level};
 
 use super::codes::{
-    MAX_CONFIG_SIZE, MAX_ENUM_SIZE, MAX_LOCK_STATUS_SIZE, SC_MAX_ACTIONS, SC_MAX_ARGUMENTS,
-    SC_MAX_TRIGGERS, SERVICE_CONFIG_DELAYED_AUTO_START_INFO, SERVICE_CONFIG_DESCRIPTION,
-    SERVICE_CONFIG_FAILURE_ACTIONS, SERVICE_CONFIG_FAILURE_ACTIONS_FLAG,
-    SERVICE_CONFIG_TRIGGER_INFO,
+    MAX_CONFIG_SIZE, MAX_ENUM_SIZE, MAX_LOCK_STATUS_SIZE, MAX_SECURITY_SIZE, SC_MAX_ACTIONS,
+    SC_MAX_ARGUMENTS, SC_MAX_TRIGGERS, SERVICE_CONFIG_DELAYED_AUTO_START_INFO,
+    SERVICE_CONFIG_DESCRIPTION, SERVICE_CONFIG_FAILURE_ACTIONS,
+    SERVICE_CONFIG_FAILURE_ACTIONS_FLAG, SERVICE_CONFIG_TRIGGER_INFO,
 };
 use super::{Action, Info, Request};
 use scm_text::{Items, WText};
@@ -58,8 +58,8 @@ impl Info {
 }
 
 impl Request {
-    /// Whether each size and count that it states is in the range that MS-SCMR sets for it. A
-    /// request that is read from a body is.
+    /// Whether each size and count that it states is in the range that MS-SCMR sets for it, or,
+    /// for a security descriptor, this server. A request that is read from a body is.
     pub fn in_range(&self) -> bool
         ensures { result ≡ in_range self.now }
     {
@@ -73,8 +73,8 @@ impl Request {
             Request::Change2 { handle: _, info } => info.in_range(),
             Request::QueryLock { handle: _, size } => *size <= MAX_LOCK_STATUS_SIZE,
             Request::Start { handle: _, words } => are_few(words),
-            // No body is read as one of these yet.
-            Request::QuerySecurity { .. } | Request::SetSecurity { .. } => false,
+            Request::QuerySecurity { size, .. } => *size <= MAX_SECURITY_SIZE,
+            Request::SetSecurity { bytes, .. } => bytes.len() as u64 <= MAX_SECURITY_SIZE as u64,
             _ => true,
         }
     }
