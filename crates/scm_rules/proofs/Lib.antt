@@ -1,3 +1,5 @@
 pub mod Dues
 pub mod Held
 pub mod Needed
+pub mod Secured
+pub mod Written

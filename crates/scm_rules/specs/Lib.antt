@@ -2,9 +2,10 @@ pub mod Rights
 pub mod Names
 pub mod Close
 pub mod OpenManager
-pub mod OpenService
 pub mod Query
 pub mod Delete
+pub mod Security
+pub mod OpenService
 pub mod Needs
 pub mod Create
 pub mod Change

@@ -32,6 +32,7 @@ use Rattle.start_plan.specs.Started.{TriedOnce}
 use Rattle.scm_model.specs.Processes.{is_by, is_running_phase, is_shared}
 use Rattle.scm_rules.specs.Needs.{need_rows}
 use Rattle.scm_rules.specs.Due.{is_due_of}
+use Rattle.scm_rules.specs.Security.{IsSecured}
 
 -- numbers are at least 1, rise, and lie below the next one
 pub record AreNumbered {A : Type 0} (number : A → ℕ) (next : ℕ) (rows : List A) : Type 0 where
@@ -148,6 +149,8 @@ pub record IsValid (l : Limits) (f : Flat) : Type 0 where
   pub wanted : map (λ (row : Wanted). row.process) f.wanted ≡ map (λ (row : Process). row.number) (filter is_to_launch f.processes)
   pub starting : All (HasStarting f.services) f.processes
   pub asked : All (IsAskedRight f.processes) f.services
+  -- no descriptor was set, or its written form is kept
+  pub secured : All IsSecured f.services
   -- plans try no service twice; an undecided one has one deadline, a decided one has a caller, and no other deadline stands
   pub tried : TriedOnce f.plans
   pub known : All (HasCaller f) f.plans

@@ -1,6 +1,5 @@
 -- What each call results in, and the change of the configurations that it asks to be kept.
 use Rattle.std.specs.Prelude.{ℕ, Bool, not, ◌==◌, Option, None, if◌then◌else◌}
-use Rattle.scm_model.specs.declared.codes.TheConstants.{ERROR_CALL_NOT_IMPLEMENTED}
 use Rattle.scm_model.specs.declared.flat.Flat.{Flat}
 use Rattle.scm_model.specs.declared.flat.Limits.{Limits}
 use Rattle.scm_model.specs.declared.calls.Request.{Request}
@@ -33,6 +32,8 @@ use Rattle.scm_rules.specs.QueryConfig2.{query_config2_verdict, query_config2_to
 use Rattle.scm_rules.specs.Close.{close_verdict, close_done}
 use Rattle.scm_rules.specs.OpenManager.{open_manager_verdict, open_manager_done}
 use Rattle.scm_rules.specs.OpenService.{open_service_verdict, open_service_done}
+use Rattle.scm_rules.specs.Security.{descriptor_in, query_security_done, query_security_told, query_security_verdict, set_security_done}
+use Rattle.scm_rules.specs.Security.{set_security_verdict}
 
 -- the first refusal of a call, or 0
 abbrev pub verdict : Limits → Flat → ℕ → Request → Kept → ℕ
@@ -40,9 +41,8 @@ verdict l f caller (request.Close handle) append = close_verdict f caller handle
 verdict l f caller (request.Control handle control) append = control_verdict l f caller handle control
 verdict l f caller (request.Delete handle) append = delete_verdict f caller handle append
 verdict l f caller (request.Lock handle) append = lock_verdict l f caller handle
--- security descriptors aren't served yet
-verdict l f caller (request.QuerySecurity handle parts size) append = ERROR_CALL_NOT_IMPLEMENTED
-verdict l f caller (request.SetSecurity handle parts bytes) append = ERROR_CALL_NOT_IMPLEMENTED
+verdict l f caller (request.QuerySecurity handle parts size) append = query_security_verdict f caller handle parts size
+verdict l f caller (request.SetSecurity handle parts bytes) append = set_security_verdict f caller handle parts (descriptor_in bytes)
 verdict l f caller (request.QueryStatus handle) append = query_verdict f caller handle
 verdict l f caller (request.SetStatus handle status) append = set_status_verdict f caller handle status
 verdict l f caller (request.Unlock handle) append = unlock_verdict f caller handle
@@ -69,6 +69,7 @@ verdict l f caller (request.QueryStatusEx handle level size) append = query_ex_v
 -- doesn't get a control now, it has the service's status
 abbrev pub told_refused : Flat → ℕ → Request → ℕ → Reply
 told_refused f caller (request.Control handle control) code = control_told f caller handle code
+told_refused f caller (request.QuerySecurity handle parts size) code = query_security_told f caller handle parts size code
 told_refused f caller (request.QueryConfig handle size) code = query_config_told f caller handle code
 told_refused f caller (request.QueryLock handle size) code = query_lock_told f code
 told_refused f caller (request.DisplayName handle name size) code = other_name_told (display_by_name f name) code
@@ -79,18 +80,14 @@ told_refused f caller (request.QueryConfig2 handle level size) code = query_conf
 told_refused f caller (request.QueryStatusEx handle level size) code = query_ex_told size code
 told_refused f caller asked code = refused asked code
 
--- a call that isn't served: it has no effect
-abbrev pub unserved : Flat → Request → CallResult
-unserved f asked = record { reply = refused asked 0; flat = f }
-
 -- the reply and the state of a call that is not refused
 abbrev pub done_of : Limits → Flat → ℕ → Request → CallResult
 done_of l f caller (request.Close handle) = close_done f handle
 done_of l f caller (request.Control handle control) = control_done l f caller handle control
 done_of l f caller (request.Delete handle) = delete_done f caller handle
 done_of l f caller (request.Lock handle) = lock_done f caller
-done_of l f caller (request.QuerySecurity handle parts size) = unserved f (request.QuerySecurity handle parts size)
-done_of l f caller (request.SetSecurity handle parts bytes) = unserved f (request.SetSecurity handle parts bytes)
+done_of l f caller (request.QuerySecurity handle parts size) = query_security_done f caller handle parts size
+done_of l f caller (request.SetSecurity handle parts bytes) = set_security_done f caller handle parts (descriptor_in bytes)
 done_of l f caller (request.QueryStatus handle) = query_done f caller handle
 done_of l f caller (request.SetStatus handle status) = set_status_done f caller handle status
 done_of l f caller (request.Unlock handle) = unlock_done f handle
