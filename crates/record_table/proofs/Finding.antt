@@ -9,6 +9,7 @@ use Rattle.scm_model.specs.declared.flat.Config.{Config}
 use Rattle.scm_model.specs.declared.flat.Service.{Service}
 use Rattle.row_slab.specs.Rowed.{AreRisingBy, left_by}
 use Rattle.record_table.specs.declared.live.Configured.{Configured}
+use Rattle.record_table.specs.declared.live.Secured.{Secured}
 use Rattle.record_table.specs.Recorded.{number_of, has_number, service_at}
 use Rattle.record_table.proofs.Groups.{numbers_if}
 
@@ -52,6 +53,19 @@ exchanged_some (Some row) parts some = refl
 pub exchanged_none : (found : Option Service) → is_some found ≡ false → None ≡ option_map (λ (row : Service). row.config) found
 exchanged_none None none = refl
 exchanged_none (Some row) none = absurd cc
+
+abbrev secured : List ℕ → Secured
+secured security = record { security = security }
+
+-- the same of a security descriptor
+pub secured_some : (found : Option Service) (parts : Secured) → is_some found ≡ true
+    → Some (left_by (λ (row : Service). secured row.security) found parts).security ≡ option_map (λ (row : Service). row.security) found
+secured_some None parts some = absurd cc
+secured_some (Some row) parts some = refl
+
+pub secured_none : (found : Option Service) → is_some found ≡ false → None ≡ option_map (λ (row : Service). row.security) found
+secured_none None none = refl
+secured_none (Some row) none = absurd cc
 
 -- what is told of a configuration is told of its service
 pub none_configured : (o : Option Service) → None ≡ option_map (λ (row : Service). row.config) o → o ≡ None

@@ -180,20 +180,20 @@ its_pair pairs rows number before after change are was becomes apart some = by (
         let is : before ≡ row.process = was ∙ ap process_in found in
         rw is (has_its_pair pairs rows number row are found (rw is at some))
 
--- another configuration leaves the process
-pub configured : (pairs : List Pair) (rows : List Service) (number : ℕ) (config : Config) → AreByProcess pairs rows
-    → AreByProcess pairs (map (altered_at number_of number (with_config config)) rows)
-configured pairs rows number config are process =
-    are process ∙ sym (groups.same_members (is_by process) (altered_at number_of number (with_config config)) rows
-    same_numbers same_processes)
+-- a change of one service that leaves its number and its process
+pub unmoved : (pairs : List Pair) (rows : List Service) (number : ℕ) (change : Service → Service)
+    → ((row : Service) → (change row).number ≡ row.number) → ((row : Service) → (change row).process ≡ row.process)
+    → AreByProcess pairs rows → AreByProcess pairs (map (altered_at number_of number change) rows)
+unmoved pairs rows number change numbers processes are process =
+    are process ∙ sym (groups.same_members (is_by process) (altered_at number_of number change) rows same_numbers same_processes)
   where
-    same_numbers : (row : Service) → (altered_at number_of number (with_config config) row).number ≡ row.number
-    same_numbers row = elim (eqb row.number number) as (λ b. (cond b (with_config config row) row).number ≡ row.number)
-        [ true ↦ refl | false ↦ refl ]
+    same_numbers : (row : Service) → (altered_at number_of number change row).number ≡ row.number
+    same_numbers row = elim (eqb row.number number) as (λ b. (cond b (change row) row).number ≡ row.number)
+        [ true ↦ numbers row | false ↦ refl ]
 
-    same_processes : (row : Service) → is_by process (altered_at number_of number (with_config config) row) ≡ is_by process row
-    same_processes row = elim (eqb row.number number)
-        as (λ b. is_by process (cond b (with_config config row) row) ≡ is_by process row) [ true ↦ refl | false ↦ refl ]
+    same_processes : (row : Service) → is_by process (altered_at number_of number change row) ≡ is_by process row
+    same_processes row = elim (eqb row.number number) as (λ b. is_by process (cond b (change row) row) ≡ is_by process row)
+        [ true ↦ ap (is_under process) (processes row) | false ↦ refl ]
 
 -- ## A number moves
 
@@ -248,11 +248,11 @@ pub idle_mapped : (change : Service → Service) (rows : List Service) → ((row
 idle_mapped change [] same = refl
 idle_mapped change (row ∷ rows) same = rw (same row) (ap (λ n. idle_at row.process + n) (idle_mapped change rows same))
 
-pub idle_configured : (rows : List Service) (number : ℕ) (config : Config)
-    → idle (map (altered_at number_of number (with_config config)) rows) ≡ idle rows
-idle_configured rows number config = idle_mapped (altered_at number_of number (with_config config)) rows
-    (λ row. elim (eqb row.number number) as (λ b. (cond b (with_config config row) row).process ≡ row.process)
-    [ true ↦ refl | false ↦ refl ])
+pub idle_unmoved : (rows : List Service) (number : ℕ) (change : Service → Service)
+    → ((row : Service) → (change row).process ≡ row.process) → idle (map (altered_at number_of number change) rows) ≡ idle rows
+idle_unmoved rows number change same = idle_mapped (altered_at number_of number change) rows
+    (λ row. elim (eqb row.number number) as (λ b. (cond b (change row) row).process ≡ row.process)
+    [ true ↦ same row | false ↦ refl ])
 
 -- where a service changes, so does what it counts
 pub idle_altered : (rows : List Service) (number before after : ℕ) (change : Service → Service)

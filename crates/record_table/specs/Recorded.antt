@@ -46,6 +46,10 @@ service_at rows number = option_and_then (λ (n : ℕ). find (has_number n) rows
 abbrev pub config_of_number : List Service → ℕ → Option Config
 config_of_number rows number = option_map (λ (row : Service). row.config) (find (has_number number) rows)
 
+-- the security descriptor of the service with a number
+abbrev pub security_of_number : List Service → ℕ → Option (List ℕ)
+security_of_number rows number = option_map (λ (row : Service). row.security) (find (has_number number) rows)
+
 -- the process of the service that was found, and 0 if none was
 abbrev pub process_in : Option Service → ℕ
 process_in None = 0
@@ -53,6 +57,9 @@ process_in (Some row) = row.process
 
 abbrev pub with_config : Config → Service → Service
 with_config config row = record row { config = config }
+
+abbrev pub with_security : List ℕ → Service → Service
+with_security security row = record row { security = security }
 
 -- what changes of a service while it lives
 abbrev pub lived : Status → Bool → ℕ → ℕ → ℕ → Bool → Service → Service

@@ -1,8 +1,9 @@
-ghost use Rattle.record_table.specs.Recorded.{lived, with_config};
+ghost use Rattle.record_table.specs.Recorded.{lived, with_config, with_security};
 ghost use Rattle.std.proofs.Common.{refl};
 
 use row_slab::{Change, Exchange};
 use scm_model::{Config, Service, Status};
+use scm_text::Items;
 use std::mem;
 
 /// What changes of a service while it lives.
@@ -47,5 +48,23 @@ impl Exchange<Service> for Configured {
 
     fn exchange(&mut self, row: &mut Service) {
         mem::swap(&mut self.config, &mut row.config);
+    }
+}
+
+/// A security descriptor that a service is given, and then the one that it had.
+#[derive(Drop)]
+pub struct Secured {
+    pub security: Items<u8>,
+}
+
+impl Exchange<Service> for Secured {
+    ghost exchanged = { λ parts. with_security parts.security };
+
+    ghost left = { λ parts row. record { security = row.security } };
+
+    ghost keeps = { λ parts row. refl };
+
+    fn exchange(&mut self, row: &mut Service) {
+        mem::swap(&mut self.security, &mut row.security);
     }
 }

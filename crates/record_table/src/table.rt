@@ -12,12 +12,11 @@ ghost use Rattle.record_table.specs.Recorded.{altered, change_at, config_of_numb
 ghost use Rattle.record_table.specs.Recorded.{first_with, has_number, inserted};
 ghost use Rattle.record_table.specs.Recorded.{is_displayed, is_member, is_named, lived, number_of};
 ghost use Rattle.record_table.specs.Recorded.{numbers_with, process_in, removed, replaced};
-ghost use Rattle.record_table.specs.Recorded.{reserved};
-ghost use Rattle.record_table.specs.Recorded.{service_at};
-ghost use Rattle.record_table.specs.Recorded.{spare_of, unreserved, with_config};
+ghost use Rattle.record_table.specs.Recorded.{reserved, security_of_number, service_at};
+ghost use Rattle.record_table.specs.Recorded.{spare_of, unreserved, with_config, with_security};
 
 use super::iter::Services;
-use super::live::{Configured, Live};
+use super::live::{Configured, Live, Secured};
 use super::texts::{
     KeptTexts, Spare, enter_texts, exchange_room, forget_room, leave_texts, move_texts,
     reserve_texts,
@@ -25,7 +24,7 @@ use super::texts::{
 use number_pairs::{NumberPairs, Pair};
 use row_slab::{Change, Rows};
 use scm_model::{Config, Service, Status};
-use scm_text::{OutOfMemory, WText};
+use scm_text::{Items, OutOfMemory, WText};
 use std::alloc::Global;
 use std::marker::Model;
 
@@ -65,6 +64,28 @@ fn exchange(rows: &mut Rows<Service>, number: u64, config: Config) -> Option<Con
         Some(config)
     } else {
         drop(config);
+        None
+    }
+}
+
+#[tactic(auto, using(crate::proofs::Finding::secured_some, crate::proofs::Finding::secured_none))]
+/// Gives the service with a number another security descriptor, and answers the one that it had.
+fn exchange_security(
+    rows: &mut Rows<Service>,
+    number: u64,
+    security: Items<u8>,
+) -> Option<Items<u8>>
+    ensures security { result ≡ security_of_number rows.old.items number }
+    ensures items { rows.new.items ≡ change_at number (with_security security) rows.old.items }
+    ensures room { rows.new.room ≡ rows.old.room }
+{
+    let mut parts = Secured { security };
+    let is_found = rows.exchange(number, &mut parts);
+    let Secured { security } = parts;
+    if is_found {
+        Some(security)
+    } else {
+        drop(security);
         None
     }
 }
@@ -192,6 +213,15 @@ impl RecordTable {
         move_texts(&mut self.texts, &before, &spare, number);
         drop(spare);
         Some(before)
+    }
+
+    /// Gives a service another security descriptor, and answers the bytes of the one that it had.
+    /// Where no service has the number nothing changes. It takes no memory.
+    pub fn set_security(&mut self, number: u64, security: Items<u8>) -> Option<Items<u8>>
+        ensures security { result ≡ security_of_number self.old.services number }
+        ensures table { self.new ≡ altered self.old number (with_security security) }
+    {
+        exchange_security(&mut self.rows, number, security)
     }
 
     /// Takes the service with a number out, and lets the room for another go. Where no service has

@@ -36,7 +36,8 @@ invariant_of-self-2 c =
           (altered_number n (with_config config) (λ (row : Service). refl)) rows c.self.invariant.rising;
       texts = exchanged_each c.self.inside.texts c.move_texts.new.texts rows got.0 n config c.self.invariant.texts c.self.invariant.rising
           got.1 (rw (← got.2, made) at c.move_texts.ensures);
-      processes = processes.configured c.self.inside.processes.items rows n config c.self.invariant.processes;
-      room = rw (processes.idle_configured rows n config) c.self.invariant.room;
+      processes = processes.unmoved c.self.inside.processes.items rows n (with_config config) (λ row. refl) (λ row. refl)
+          c.self.invariant.processes;
+      room = rw (processes.idle_unmoved rows n (with_config config) (λ row. refl)) c.self.invariant.room;
       spare = rw c.in-Some.ensures.after tt;
     })
