@@ -1,7 +1,6 @@
-ghost use Rattle.std.specs.Prelude.{◌≡◌, ◌≤◌, ◌<◌, ◌^◌, ◌||◌, nat_le, option_copied};
+ghost use Rattle.std.specs.Prelude.{◌≡◌, ◌≤◌, ◌<◌, ◌^◌, ◌||◌, nat_le};
 ghost use Rattle.scm_model.specs.Notices.{registered_by};
 ghost use Rattle.scm_model.specs.Rows.{held_by};
-ghost use Rattle.scm_rules.specs.Delete.{is_marked};
 ghost use Rattle.scm_rules.specs.Notify.{is_bad_mask, notify_done, notify_outcome, notify_verdict};
 ghost use Rattle.scm_rules.specs.Notify.{watched};
 
@@ -9,8 +8,8 @@ use scm_model::codes::{
     ERROR_ACCESS_DENIED, ERROR_INVALID_HANDLE, ERROR_INVALID_PARAMETER, ERROR_NOT_ENOUGH_QUOTA,
     ERROR_SERVICE_MARKED_FOR_DELETE, NOTIFY_OF_MANAGER, NOTIFY_OF_SERVICE, SERVICE_QUERY_STATUS,
 };
-use scm_model::{HandleKind, Limits, Opened, Reply, Service};
-use scm_tables::{Tables, mask_lacks};
+use scm_model::{HandleKind, Limits, Opened, Reply};
+use scm_tables::{Tables, is_marked, mask_lacks};
 
 /// The service, or the manager as 0, that a caller's handle is of, with the rights on it.
 fn watched(tables: &Tables, caller: u64, handle: u64) -> Option<Opened>
@@ -42,16 +41,6 @@ fn is_bad_mask(service: u64, mask: u32) -> bool
         NOTIFY_OF_SERVICE
     };
     mask == 0 || mask & events != mask
-}
-
-/// Whether a service that is there is marked.
-fn is_marked(service: Option<&Service>) -> bool
-    ensures { result ≡ is_marked (option_copied service.entry) }
-{
-    match service {
-        Some(row) => row.marked,
-        None => false,
-    }
 }
 
 /// Whether the caller has as many registrations or handles as it may have.

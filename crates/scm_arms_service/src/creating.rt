@@ -19,7 +19,7 @@ ghost use Rattle.scm_rules.specs.OpenService.{service_granted};
 ghost use Rattle.scm_rules.specs.Verdicts.{unless_refused};
 ghost use Rattle.scm_tables.specs.Tabled.{HasNeedRoom, HasShortTexts};
 
-use super::deleting::{code_once_kept, is_marked};
+use super::deleting::code_once_kept;
 use super::making::{config_of, told_tag};
 use super::needing::are_unreadable;
 use access_mask::granted;
@@ -30,7 +30,7 @@ use scm_model::codes::{
     ERROR_SERVICE_MARKED_FOR_DELETE, SC_MANAGER_CREATE_SERVICE,
 };
 use scm_model::{Change, Config, HandleKind, Kept, Limits, NewService, Reply};
-use scm_tables::{Tables, mask_lacks, new_status};
+use scm_tables::{Tables, is_marked, mask_lacks, new_status};
 use scm_text::OutOfMemory;
 use service_record::check_new;
 use std::alloc::Global;

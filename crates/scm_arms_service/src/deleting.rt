@@ -2,7 +2,7 @@ ghost use Rattle.std.specs.Prelude.{◌≡◌, IfOk, option_copied, option_map};
 ghost use Rattle.scm_model.specs.Refused.{outcome};
 ghost use Rattle.scm_model.specs.declared.calls.Request.TheVariants as request;
 ghost use Rattle.scm_rules.specs.Delete.{delete_change, delete_done, delete_verdict, is_failed};
-ghost use Rattle.scm_rules.specs.Delete.{is_marked, delete_outcome, removal_of};
+ghost use Rattle.scm_rules.specs.Delete.{delete_outcome, removal_of};
 ghost use Rattle.scm_model.specs.declared.steps.Kept.TheVariants as appended;
 ghost use Rattle.scm_rules.specs.Verdicts.{unless_refused};
 ghost use Rattle.scm_arms_service.specs.Judged.{code_once_kept};
@@ -12,19 +12,9 @@ use scm_model::codes::{
     ERROR_SERVICE_MARKED_FOR_DELETE,
 };
 use scm_model::{Change, Kept, Reply, Service};
-use scm_tables::{Tables, mask_lacks};
+use scm_tables::{Tables, is_marked, mask_lacks};
 use scm_text::OutOfMemory;
 use std::alloc::Global;
-
-/// Whether a service that is there is marked.
-pub fn is_marked(service: Option<&Service>) -> bool
-    ensures { result ≡ is_marked (option_copied service.entry) }
-{
-    match service {
-        Some(row) => row.marked,
-        None => false,
-    }
-}
 
 /// Whether a change could not be kept.
 pub fn is_failed(kept: Kept) -> bool

@@ -203,6 +203,7 @@ pub other_plans : {t u : Inside} → IsKept t → u.next.service ≡ t.next.serv
 other_plans kept next rows index acyclic marked limit processes tried wide starts commands plans pending dues = record {
   rising = rw next (rw rows kept.rising);
   texts = rw rows kept.texts;
+  secured = rw rows kept.secured;
   index = rw (index, rows) kept.index;
   needs = rw acyclic (rw rows kept.needs);
   marked = rw marked (rw rows kept.marked);
@@ -221,6 +222,7 @@ pub other_processes : {t : Inside} → IsKept t → (all : Processed) → {new :
 other_processes kept all is next capacity = record {
   rising = kept.rising;
   texts = kept.texts;
+  secured = kept.secured;
   index = kept.index;
   needs = kept.needs;
   marked = kept.marked;

@@ -22,3 +22,4 @@ pub mod Fired
 pub mod Failures
 pub mod Falling
 pub mod Promising
+pub mod Securing

@@ -6,6 +6,7 @@ use Rattle.scm_model.specs.declared.flat.Plan.{Plan}
 use Rattle.scm_model.specs.Needs.{needs_of}
 use Rattle.scm_model.specs.Walks.{IsAcyclic}
 use Rattle.scm_rules.specs.Needs.{need_rows}
+use Rattle.scm_rules.specs.Security.{IsSecured}
 use Rattle.start_plan.specs.Asleep.{ArePending}
 use Rattle.start_plan.specs.Settle.{stays}
 use Rattle.scm_tables.specs.Marked.{marked_numbers}
@@ -68,14 +69,15 @@ pub record IsKeptPlan (next : ℕ) (plan : Plan) : Type 0 where
   pub below : plan.number < next
   pub staying : IsTrue (stays plan)
 
--- services stand in order of number; their paths and names are short; their needs are kept, and where it is said so, have no cycle; the
--- numbers of those that are marked are kept, with room for each; as many
+-- services stand in order of number; their paths and names are short, and their security descriptors written; their needs are kept, and
+-- where it is said so, have no cycle; the numbers of those that are marked are kept, with room for each; as many
 -- processes as may be listed find room; plans have numbers below
 -- the next one, are undecided or have a caller, and sleep only for services whose state is about to change; what becomes due of a service
 -- finds a place
 pub record IsKept (t : Inside) : Type 0 where
   pub rising : AreByNumber t.next.service t.services.services
   pub texts : All HasShort t.services.services
+  pub secured : All IsSecured t.services.services
   pub index : t.index.rows ≡ need_rows t.services.services
   pub needs : IsTrue t.acyclic → IsAcyclic (needs_of (need_rows t.services.services))
   pub marked : t.leaving.items ≡ marked_numbers t.services.services

@@ -25,13 +25,25 @@ mod settling;
 mod tables;
 mod turning;
 
-ghost use Rattle.std.specs.Prelude.{◌≡◌};
+ghost use Rattle.std.specs.Prelude.{◌≡◌, option_copied};
+ghost use Rattle.scm_rules.specs.Delete.{is_marked};
 ghost use Rattle.scm_rules.specs.Rights.{mask_lacks};
 
 pub use noticing::with_pid;
 pub use opening::new_status;
 pub use running::status_in;
+use scm_model::Service;
 pub use tables::Tables;
+
+/// Whether a service that is there is marked.
+pub fn is_marked(service: Option<&Service>) -> bool
+    ensures { result ≡ is_marked (option_copied service.entry) }
+{
+    match service {
+        Some(row) => row.marked,
+        None => false,
+    }
+}
 
 /// Whether a mask lacks one of the rights.
 pub fn mask_lacks(mask: u32, rights: u32) -> bool

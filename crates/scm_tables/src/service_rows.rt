@@ -9,6 +9,7 @@ ghost use Rattle.scm_model.specs.Processes.{is_by};
 ghost use Rattle.scm_rules.specs.Controls.{is_asked_by, unasked_if};
 ghost use Rattle.scm_rules.specs.Failures.{counted_if};
 ghost use Rattle.scm_rules.specs.Reports.{reported_if};
+ghost use Rattle.scm_rules.specs.Security.{secured_if};
 ghost use Rattle.start_plan.specs.Entered.{started_if};
 ghost use Rattle.scm_model.specs.Ready.{is_running};
 ghost use Rattle.scm_tables.specs.Failed.{fallen_at};
@@ -22,7 +23,7 @@ use number_pairs::Pair;
 use record_table::RecordTable;
 use scm_model::codes::{SERVICE_RUNNING, SERVICE_STOPPED};
 use scm_model::{Config, Opened, Service, Status};
-use scm_text::WText;
+use scm_text::{Items, WText};
 
 /// The service that a handle is of.
 pub fn row_in(rows: &RecordTable, opened: Option<Opened>) -> Option<&Service>
@@ -98,6 +99,14 @@ pub fn configure_in(rows: &mut RecordTable, number: u64, config: Config)
     let typing = Typing { kind: config.kind };
     let _before = rows.replace(number, config);
     let _found = rows.alter(number, &typing);
+}
+
+/// Gives the service with a number another security descriptor.
+pub fn secure_in(rows: &mut RecordTable, number: u64, security: Items<u8>)
+    ensures { rows.new.services ≡ map (secured_if number security) rows.old.services }
+{
+    let before = rows.set_security(number, security);
+    drop(before);
 }
 
 /// Whether a service is marked, stopped and named by no handle.

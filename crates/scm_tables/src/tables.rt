@@ -21,6 +21,8 @@ ghost use Rattle.scm_rules.specs.Create.{next_tag, with_creation};
 ghost use Rattle.scm_model.specs.Changes.{with_service};
 ghost use Rattle.scm_rules.specs.Locks.{with_lock, without_lock};
 ghost use Rattle.scm_rules.specs.Opening.{empty_at, opening};
+ghost use Rattle.scm_rules.specs.Security.{IsSecured, with_security};
+ghost use Rattle.sec_desc.specs.Writing.{IsWritten};
 ghost use Rattle.scm_model.specs.declared.codes.TheConstants.{SERVICE_RUNNING};
 ghost use Rattle.scm_tables.specs.Inside.{all_numbers};
 ghost use Rattle.scm_tables.specs.Noticed.{with_marked};
@@ -37,7 +39,7 @@ use super::processes::Processes;
 use super::rooms::{CommandRoom, StartRoom};
 use super::service_rows::{
     Marked, configure_in, displayed_in, is_shown_by_another_in, is_shown_in, mark_in, named_in,
-    running_in,
+    row_in, running_in, secure_in,
 };
 use database_lock::DatabaseLock;
 use dependency_index::DependencyIndex;
@@ -512,6 +514,24 @@ impl Tables {
         named_in(&self.services, name)
     }
 
+    /// The service with the same name, and that its security descriptor is a written one, or none.
+    pub fn named_secured(&self, name: &WText) -> Option<&Service>
+        ensures row { option_copied result ≡ named self.now.flat name.now }
+        ensures secured { IfSome (option_copied result) IsSecured }
+    {
+        named_in(&self.services, name)
+    }
+
+    /// The service that a caller's handle is of, and that its security descriptor is a written one,
+    /// or none.
+    pub fn held_secured(&self, caller: u64, number: u64) -> Option<&Service>
+        ensures row { option_copied result ≡ held_service self.now.flat caller number }
+        ensures secured { IfSome (option_copied result) IsSecured }
+    {
+        let opened = self.opened(caller, number);
+        row_in(&self.services, opened)
+    }
+
     /// The service with the same display name.
     pub fn displayed(&self, display: &WText) -> Option<&Service>
         ensures { option_copied result ≡ displayed self.now.flat display.now }
@@ -639,6 +659,16 @@ impl Tables {
         );
         change_needs(&mut self.index, number, &config);
         configure_in(&mut self.services, number, config);
+    }
+
+    /// Gives the service with a number another security descriptor. Where no service has the number
+    /// nothing changes. It takes no memory.
+    pub fn set_security(&mut self, number: u64, security: Items<u8>)
+        requires { IsWritten security }
+        ensures flat { self.new.flat ≡ with_security self.old.flat number security }
+        ensures limits { self.new.limits ≡ self.old.limits }
+    {
+        secure_in(&mut self.services, number, security);
     }
 
     /// Marks a service, if it is there; its registrations are notified.

@@ -7,6 +7,8 @@ use Rattle.scm_tables.proofs.Keeping.{texts_configured}
 use Rattle.scm_tables.proofs.Placed.{map_keeps}
 use Rattle.scm_tables.proofs.Sleeping.{configured_state, pending_map}
 use Rattle.scm_tables.proofs.Rising.{rising_map, configured_number}
+use Rattle.scm_rules.proofs.Secured.{secured_map}
+use Rattle.scm_tables.proofs.Securing.{configured_security}
 use Rattle.scm_tables.proofs.tables.Tables.configure.Goals as goal
 
 pub invariant_of-self : goal.invariant_of-self
@@ -16,6 +18,8 @@ invariant_of-self c =
       rising = rw c.configure_in.ensures
           (rising_map _ (configured_if c.args.number c.args.config) (configured_number c.args.number c.args.config) _ kept.rising);
       texts = rw c.configure_in.ensures (texts_configured c.args.number c.args.config _ c.requires.texts kept.texts);
+      secured = rw c.configure_in.ensures (secured_map (configured_if c.args.number c.args.config)
+          (configured_security c.args.number c.args.config) _ kept.secured);
       index = rw (c.change_needs.ensures, c.configure_in.ensures, kept.index) (rows_changed c.args.number c.args.config _);
       needs = λ t. rw c.configure_in.ensures (still_free c.args.number c.args.config _
           (kept.needs (c.stays_acyclic-self-inside.ensures.before t)) (rw kept.index at (c.stays_acyclic-self-inside.ensures.after t)));

@@ -8,6 +8,8 @@ use Rattle.scm_tables.proofs.Placed.{map_keeps}
 use Rattle.scm_tables.proofs.Sleeping.{counted_state, pending_map}
 use Rattle.scm_tables.proofs.Rising.{rising_map}
 use Rattle.scm_tables.proofs.Marks.{marks_map, room_map}
+use Rattle.scm_rules.proofs.Secured.{secured_map}
+use Rattle.scm_tables.proofs.Securing.{counted_security}
 use Rattle.scm_tables.proofs.tables.Tables.count_failure.Goals as goal
 
 pub invariant_of-self : goal.invariant_of-self
@@ -18,6 +20,7 @@ invariant_of-self c =
     record {
       rising = rw c.count_in.ensures (rising_map _ (counted_if number moment) (counted_number number moment) _ kept.rising);
       texts = rw c.count_in.ensures (texts_map (counted_if number moment) (counted_config number moment) _ kept.texts);
+      secured = rw c.count_in.ensures (secured_map (counted_if number moment) (counted_security number moment) _ kept.secured);
       index = rw c.count_in.ensures (kept.index ∙ same_rows (counted_if number moment) (counted_needs number moment) _);
       needs = λ t. rw c.count_in.ensures (same_graph (counted_if number moment) (counted_needs number moment) _ (kept.needs t));
       marked = rw c.count_in.ensures (kept.marked ∙ sym (marks_map (counted_if number moment) (counted_number number moment)

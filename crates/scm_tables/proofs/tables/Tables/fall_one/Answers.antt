@@ -12,6 +12,8 @@ use Rattle.scm_tables.proofs.Sleeping.{fallen_changes, woken}
 use Rattle.scm_tables.proofs.Rising.{rising_map}
 use Rattle.scm_tables.proofs.Numbered.{found_number}
 use Rattle.scm_tables.proofs.Wording.{found_has}
+use Rattle.scm_rules.proofs.Secured.{secured_map}
+use Rattle.scm_tables.proofs.Securing.{fallen_security}
 use Rattle.scm_tables.proofs.tables.Tables.fall_one.Goals as goal
 
 pub note_fall-requires : goal.note_fall-requires
@@ -29,6 +31,8 @@ invariant_of-self c =
           (fallen_number c.args.number c.args.code) _ kept.rising);
       texts = rw c.fall_in.ensures (texts_map (fallen_at c.args.number c.args.code)
           (fallen_config c.args.number c.args.code) _ kept.texts);
+      secured = rw c.fall_in.ensures (secured_map (fallen_at c.args.number c.args.code)
+          (fallen_security c.args.number c.args.code) _ kept.secured);
       index = rw c.fall_in.ensures (kept.index ∙ same_rows (fallen_at c.args.number c.args.code)
           (fallen_needs c.args.number c.args.code) _);
       needs = λ t. rw c.fall_in.ensures (same_graph (fallen_at c.args.number c.args.code) (fallen_needs c.args.number c.args.code) _

@@ -5,6 +5,7 @@ use Rattle.scm_model.specs.Purge.{purged}
 use Rattle.scm_rules.proofs.Needed.{fewer}
 use Rattle.number_lists.specs.Rising.{without_number}
 use Rattle.record_table.specs.Recorded.{Recorded}
+use Rattle.scm_rules.specs.Security.{IsSecured}
 use Rattle.scm_tables.specs.Inside.{tabled}
 use Rattle.scm_tables.specs.Tabled.{HasShort, Tabled}
 use Rattle.scm_tables.proofs.NeedRows.{rows_without}
@@ -29,6 +30,7 @@ invariant_of-self-2 c =
     record {
       rising = rw gone (rising_filter _ _ _ kept.rising);
       texts = rw gone (All-filter _ HasShort _ kept.texts);
+      secured = rw gone (All-filter _ IsSecured _ kept.secured);
       index = rw (c.drop_service.ensures, gone) (ap (filter (λ (row : NeedRow). not (row.number == number))) kept.index
           ∙ rows_without number _);
       needs = λ t. rw gone (fewer _ _ kept.rising.rising (kept.needs t));

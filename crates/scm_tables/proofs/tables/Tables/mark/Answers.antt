@@ -13,6 +13,7 @@ use Rattle.scm_tables.proofs.Sleeping.{pending_map}
 use Rattle.scm_tables.proofs.Rising.{rising_map}
 use Rattle.scm_tables.proofs.Wording.{found_has}
 use Rattle.scm_text.specs.Numbers.{has}
+use Rattle.scm_rules.proofs.Secured.{secured_map}
 use Rattle.scm_tables.proofs.tables.Tables.mark.Goals as goal
 
 pub note_mark-requires : goal.note_mark-requires
@@ -39,6 +40,7 @@ invariant_of-self c =
     record {
       rising = rw c.mark_in.ensures (rising_map _ (marked_if number) (λ row. refl) _ kept.rising);
       texts = rw c.mark_in.ensures (texts_map (marked_if number) (λ row. refl) _ kept.texts);
+      secured = rw c.mark_in.ensures (secured_map (marked_if number) (λ row. refl) _ kept.secured);
       index = rw c.mark_in.ensures (kept.index ∙ same_rows (marked_if number) (λ row. refl) _);
       needs = λ t. rw c.mark_in.ensures (same_graph (marked_if number) (λ row. refl) _ (kept.needs t));
       marked = rw c.mark_in.ensures (c.mark-told.ensures.items ∙ ap (λ ns. with_number ns number) kept.marked

@@ -7,6 +7,7 @@ use Rattle.scm_model.specs.declared.flat.Due.{Due}
 use Rattle.scm_model.specs.declared.flat.Next.{Next}
 use Rattle.scm_model.specs.declared.flat.Service.{Service}
 use Rattle.scm_rules.specs.Opening.{automatic_starts, empty_at, opening, services_from, starts_from}
+use Rattle.scm_rules.specs.Security.{IsSecured}
 use Rattle.scm_tables.specs.Tabled.{HasShort}
 use Rattle.scm_tables.specs.Tabled.{AreByNumber}
 use Rattle.scm_model.specs.declared.flat.NeedRow.{NeedRow}
@@ -14,6 +15,7 @@ use Rattle.scm_model.specs.Needs.{needs_of}
 use Rattle.scm_model.specs.Walks.{IsAcyclic}
 use Rattle.scm_rules.specs.Needs.{need_rows}
 use Rattle.scm_tables.proofs.Opened.{same_flat, opened_length, opened_places, opened_texts, opened_rising}
+use Rattle.scm_rules.proofs.Secured.{opened_secured}
 use Rattle.scm_tables.proofs.tables.Tables.new.Goals as goal
 
 pub invariant_of-result : goal.invariant_of-result
@@ -33,6 +35,7 @@ invariant_of-result c =
       rising = subst (λ (n : ℕ). AreByNumber n rows) (sym (ap (λ (n : Next). n.service) c.first_numbers-next.ensures))
           (subst (λ (n : ℕ). AreByNumber (n + 1) rows) (sym count) rising);
       texts = subst (All HasShort) (sym is) (opened_texts 1 c.args.configs c.requires);
+      secured = subst (All IsSecured) (sym is) (opened_secured 1 c.args.configs);
       index = graph;
       needs = λ t. subst (λ (g : List NeedRow). IsAcyclic (needs_of g)) graph (c.is_acyclic-acyclic.ensures t);
       marked = rw (c.reserve.ensures.items, c.new-leaving.ensures, is) (sym (opened_marks 1 c.args.configs));

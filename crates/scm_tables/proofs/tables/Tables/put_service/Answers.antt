@@ -1,10 +1,11 @@
 use Rattle.scm_tables.proofs.Marks.{marks_pushed, room_push}
-use Rattle.std.proofs.Common.{◌≤◌, ◌<◌, ◌∙◌, ap, arith, refl, subst, sym}
+use Rattle.std.proofs.Common.{◌≤◌, ◌<◌, ◌∙◌, ap, arith, inl, refl, subst, sym}
 use Rattle.scm_model.specs.declared.flat.Service.{Service}
 use Rattle.scm_model.specs.Needs.{needs_of}
 use Rattle.scm_model.specs.Walks.{IsAcyclic}
 use Rattle.std.proofs.lemmas.List.Elements.{All-push, recursion_from_All}
 use Rattle.scm_rules.proofs.Needed.{rows_added}
+use Rattle.scm_rules.specs.Security.{IsSecured}
 use Rattle.record_table.specs.Recorded.{Recorded}
 use Rattle.scm_tables.specs.Tabled.{HasNeedRoom, HasShort, NeedRoom, Tabled}
 use Rattle.scm_tables.proofs.NeedRows.{next_above}
@@ -20,6 +21,7 @@ invariant_of-self c =
     record {
       rising = rw more (rising_push _ _ _ kept.rising refl);
       texts = rw more (All-push HasShort _ _ kept.texts c.requires.texts);
+      secured = rw more (All-push IsSecured _ _ kept.secured (inl c.new-security.ensures));
       index = rw (c.set_needs.ensures, more, kept.index) (sym (rows_added _ _ kept.rising.below));
       needs = λ t. rw more (subst (λ g. IsAcyclic (needs_of g)) (sym (rows_added _ _ kept.rising.below))
           (rw kept.index at (c.stays_acyclic-self-inside.ensures.after t)));

@@ -7,6 +7,7 @@ invariant_of-self c =
     record {
       rising = kept.rising;
       texts = kept.texts;
+      secured = kept.secured;
       index = kept.index;
       needs = kept.needs;
       marked = rw c.reserve.ensures.items kept.marked;
@@ -25,6 +26,7 @@ invariant_of-self-2 c =
     record {
       rising = kept.rising;
       texts = kept.texts;
+      secured = kept.secured;
       index = kept.index;
       needs = kept.needs;
       marked = rw c.reserve.ensures.items kept.marked;

@@ -33,6 +33,7 @@ invariant_of-self c =
     record {
       rising = kept.rising;
       texts = kept.texts;
+      secured = kept.secured;
       index = kept.index;
       needs = kept.needs;
       marked = kept.marked;

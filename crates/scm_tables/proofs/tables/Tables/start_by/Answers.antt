@@ -10,6 +10,8 @@ use Rattle.scm_rules.proofs.Needed.{same_graph}
 use Rattle.scm_tables.proofs.Keeping.{texts_map, started_needs, started_number, started_config}
 use Rattle.scm_tables.proofs.Placed.{map_keeps}
 use Rattle.scm_tables.proofs.Rising.{rising_map}
+use Rattle.scm_rules.proofs.Secured.{secured_map}
+use Rattle.scm_tables.proofs.Securing.{started_security}
 use Rattle.scm_tables.proofs.tables.Tables.start_by.Goals as goal
 
 pub note_start-requires : goal.note_start-requires
@@ -32,6 +34,7 @@ invariant_of-self c =
     record {
       rising = rw c.start_in.ensures (rising_map _ change number _ kept.rising);
       texts = rw c.start_in.ensures (texts_map change (started_config c.args.service c.args.process) _ kept.texts);
+      secured = rw c.start_in.ensures (secured_map change (started_security c.args.service c.args.process) _ kept.secured);
       index = rw c.start_in.ensures (kept.index ∙ same_rows change needs _);
       needs = λ t. rw c.start_in.ensures (same_graph change needs _ (kept.needs t));
       marked = rw c.start_in.ensures (kept.marked ∙ sym (marks_map change number (started_mark c.args.service c.args.process) _));

@@ -7,6 +7,8 @@ use Rattle.scm_tables.proofs.NeedRows.{same_rows}
 use Rattle.scm_tables.proofs.Placed.{map_keeps}
 use Rattle.scm_tables.proofs.Rising.{rising_map}
 use Rattle.scm_tables.proofs.Sleeping.{pending_map, unasked_state}
+use Rattle.scm_rules.proofs.Secured.{secured_map}
+use Rattle.scm_tables.proofs.Securing.{unasked_security}
 use Rattle.scm_tables.proofs.tables.Tables.take_control.Goals as goal
 
 pub first_asked_in-requires : goal.first_asked_in-requires
@@ -30,6 +32,7 @@ invariant_of-self c =
     record {
       rising = rw c.unask_in.ensures (rising_map _ change (unasked_number number) _ kept.rising);
       texts = rw c.unask_in.ensures (texts_map change (unasked_config number) _ kept.texts);
+      secured = rw c.unask_in.ensures (secured_map change (unasked_security number) _ kept.secured);
       index = rw c.unask_in.ensures (kept.index ∙ same_rows change (unasked_needs number) _);
       needs = λ t. rw c.unask_in.ensures (same_graph change (unasked_needs number) _ (kept.needs t));
       marked = rw c.unask_in.ensures (kept.marked ∙ sym (marks_map change (unasked_number number) (unasked_mark number) _));

@@ -12,6 +12,8 @@ use Rattle.scm_tables.proofs.Sleeping.{reported_changes, woken}
 use Rattle.scm_tables.proofs.Rising.{rising_map}
 use Rattle.scm_tables.proofs.Numbered.{found_number}
 use Rattle.scm_tables.proofs.Wording.{found_has}
+use Rattle.scm_rules.proofs.Secured.{secured_map}
+use Rattle.scm_tables.proofs.Securing.{reported_security}
 use Rattle.scm_tables.proofs.tables.Tables.take_report_of.Goals as goal
 
 pub note_report-requires : goal.note_report-requires
@@ -30,6 +32,8 @@ invariant_of-self c =
           (reported_number number c.args.report.now) _ kept.rising);
       texts = rw c.report_in.ensures (texts_map (reported_if number c.args.report.now)
           (reported_config number c.args.report.now) _ kept.texts);
+      secured = rw c.report_in.ensures (secured_map (reported_if number c.args.report.now)
+          (reported_security number c.args.report.now) _ kept.secured);
       index = rw c.report_in.ensures (kept.index ∙ same_rows (reported_if number c.args.report.now)
           (reported_needs number c.args.report.now) _);
       needs = λ t. rw c.report_in.ensures (same_graph (reported_if number c.args.report.now) (reported_needs number c.args.report.now) _
