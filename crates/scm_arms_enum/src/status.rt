@@ -1,14 +1,14 @@
-ghost use Rattle.std.specs.Prelude.{◌≡◌, [], IfOk, option_copied};
-ghost use Rattle.scm_model.specs.declared.calls.Reply.TheVariants as reply;
+ghost use Rattle.std.specs.Prelude.{◌≡◌, IfOk, option_copied};
 ghost use Rattle.scm_rules.specs.QueryStatusEx.{process_status_in, query_ex_reply};
 
+use super::byte_replies::no_bytes;
 use scm_model::codes::{
     ERROR_ACCESS_DENIED, ERROR_INSUFFICIENT_BUFFER, ERROR_INVALID_HANDLE, ERROR_INVALID_LEVEL,
     SC_STATUS_PROCESS_INFO, SERVICE_QUERY_STATUS,
 };
 use scm_model::{ProcessStatus, Reply, Service, zero_process_status};
 use scm_tables::{Tables, mask_lacks};
-use scm_text::{Items, OutOfMemory};
+use scm_text::OutOfMemory;
 use service_listing::process_status;
 use std::alloc::Global;
 
@@ -26,18 +26,6 @@ fn process_status_in(tables: &Tables, service: Option<&Service>) -> ProcessStatu
     }
 }
 
-/// The answer without bytes.
-pub fn refused(size: u32, needed: u32, code: u32, alloc: Global) -> Reply
-    ensures { result ≡ reply.Bytes size [] needed code }
-{
-    Reply::Bytes {
-        size,
-        bytes: Items::new(alloc),
-        needed,
-        code,
-    }
-}
-
 /// What `RQueryServiceStatusEx` is answered.
 pub fn query_status_ex(
     tables: &Tables,
@@ -51,16 +39,16 @@ pub fn query_status_ex(
         ≡ query_ex_reply tables.now.flat caller handle level size) }
 {
     let Some(opened) = tables.opened(caller, handle) else {
-        return Ok(refused(size, 0, ERROR_INVALID_HANDLE, alloc));
+        return Ok(no_bytes(size, 0, ERROR_INVALID_HANDLE, alloc));
     };
     if mask_lacks(opened.granted, SERVICE_QUERY_STATUS) {
-        return Ok(refused(size, 0, ERROR_ACCESS_DENIED, alloc));
+        return Ok(no_bytes(size, 0, ERROR_ACCESS_DENIED, alloc));
     }
     if level != SC_STATUS_PROCESS_INFO {
-        return Ok(refused(size, 0, ERROR_INVALID_LEVEL, alloc));
+        return Ok(no_bytes(size, 0, ERROR_INVALID_LEVEL, alloc));
     }
     if size < 36 {
-        return Ok(refused(size, 36, ERROR_INSUFFICIENT_BUFFER, alloc));
+        return Ok(no_bytes(size, 36, ERROR_INSUFFICIENT_BUFFER, alloc));
     }
     let status = process_status_in(tables, tables.held_service(caller, handle));
     Ok(Reply::Bytes {
