@@ -22,6 +22,7 @@ use Rattle.scm_rules.specs.EnumServices.{enum_services_done, enum_services_told,
 use Rattle.scm_rules.specs.QueryStatusEx.{query_ex_done, query_ex_told, query_ex_verdict}
 use Rattle.scm_rules.specs.QueryConfig.{query_config_done, query_config_told, query_config_verdict}
 use Rattle.scm_rules.specs.QueryConfig2.{query_config2_done, query_config2_told, query_config2_verdict}
+use Rattle.scm_rules.specs.Security.{query_security_done, query_security_told, query_security_verdict}
 use Rattle.scm_rules.specs.Steps.{at_moment, keeps_right}
 use Rattle.scm_rules.specs.Verdicts.{change_of, change_of_call, tells_right}
 use Rattle.scm_core.specs.Inside.{KeepsMade}
@@ -68,7 +69,10 @@ made_at l f moment caller (request.Control handle control) = refl
 made_at l f moment caller (request.Delete handle) = refl
 made_at l f moment caller (request.Lock handle) = refl
 made_at l f moment caller (request.QueryStatus handle) = refl
-made_at l f moment caller (request.QuerySecurity handle parts size) = refl
+made_at l f moment caller (request.QuerySecurity handle parts size) =
+    let code = query_security_verdict f caller handle parts size in
+    ap replying (told_at code (query_security_told f caller handle parts size code) (query_security_done f caller handle parts size).reply
+    (with_moment f moment) f)
 made_at l f moment caller (request.SetSecurity handle parts bytes) = refl
 made_at l f moment caller (request.SetStatus handle status) = refl
 made_at l f moment caller (request.Unlock handle) = refl

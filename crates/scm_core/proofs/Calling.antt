@@ -22,6 +22,7 @@ use Rattle.scm_rules.specs.QueryConfig.{query_config_done, query_config_told, qu
 use Rattle.scm_rules.specs.QueryConfig2.{query_config2_done, query_config2_told, query_config2_verdict}
 use Rattle.scm_rules.specs.QueryStatusEx.{query_ex_done, query_ex_told, query_ex_verdict}
 use Rattle.scm_rules.specs.Locks.{query_lock_done, query_lock_told, query_lock_verdict}
+use Rattle.scm_rules.specs.Security.{query_security_done, query_security_told, query_security_verdict}
 use Rattle.scm_rules.specs.Steps.{effect_of}
 use Rattle.scm_core.specs.Room.{uses_made}
 
@@ -39,8 +40,6 @@ pub record IsNoPlain (asked : Request) : Type 0 where
   pub notify : (handle : ℕ) (mask : ℕ) → asked ≢ request.Notify handle mask
   pub get_notify : (handle : ℕ) → asked ≢ request.GetNotify handle
   pub close_notify : (handle : ℕ) → asked ≢ request.CloseNotify handle
-  pub query_security : (handle : ℕ) (parts : ℕ) (size : ℕ) → asked ≢ request.QuerySecurity handle parts size
-  pub set_security : (handle : ℕ) (parts : ℕ) (bytes : List ℕ) → asked ≢ request.SetSecurity handle parts bytes
 
 pub uses : (asked : Request) → IsNoPlain asked → IsTrue (uses_made asked)
 uses (request.Close handle) other = absurd (other.close handle refl)
@@ -55,8 +54,6 @@ uses (request.OpenService handle name access) other = absurd (other.open_service
 uses (request.Notify handle mask) other = absurd (other.notify handle mask refl)
 uses (request.GetNotify handle) other = absurd (other.get_notify handle refl)
 uses (request.CloseNotify handle) other = absurd (other.close_notify handle refl)
-uses (request.QuerySecurity handle parts size) other = absurd (other.query_security handle parts size refl)
-uses (request.SetSecurity handle parts bytes) other = absurd (other.set_security handle parts bytes refl)
 uses asked other = refl
 
 -- it is none of the calls that go by what was made for them
@@ -74,6 +71,8 @@ pub record IsNoMade (asked : Request) : Type 0 where
       → asked ≢ request.EnumServices handle kinds states size resume
   pub query_config2 : (handle : ℕ) (level : ℕ) (size : ℕ) → asked ≢ request.QueryConfig2 handle level size
   pub query_status_ex : (handle : ℕ) (level : ℕ) (size : ℕ) → asked ≢ request.QueryStatusEx handle level size
+  pub query_security : (handle : ℕ) (parts : ℕ) (size : ℕ) → asked ≢ request.QuerySecurity handle parts size
+  pub set_security : (handle : ℕ) (parts : ℕ) (bytes : List ℕ) → asked ≢ request.SetSecurity handle parts bytes
 
 pub no_other : (asked : Request) → IsTrue (uses_made asked) → IsNoMade asked → ⊥
 no_other (request.Change change) made other = other.change change refl
@@ -88,6 +87,8 @@ no_other (request.EnumDependents handle states size) made other = other.enum_dep
 no_other (request.EnumServices handle kinds states size resume) made other = other.enum_services handle kinds states size resume refl
 no_other (request.QueryConfig2 handle level size) made other = other.query_config2 handle level size refl
 no_other (request.QueryStatusEx handle level size) made other = other.query_status_ex handle level size refl
+no_other (request.QuerySecurity handle parts size) made other = other.query_security handle parts size refl
+no_other (request.SetSecurity handle parts bytes) made other = other.set_security handle parts bytes refl
 no_other asked made other = false≢true made
 
 -- ## The calls that only read
@@ -109,6 +110,7 @@ only_reads (request.EnumDependents handle states size) = true
 only_reads (request.EnumServices handle kinds states size resume) = true
 only_reads (request.QueryConfig2 handle level size) = true
 only_reads (request.QueryStatusEx handle level size) = true
+only_reads (request.QuerySecurity handle parts size) = true
 only_reads asked = false
 
 pub read_flat : (l : Limits) (f : Flat) (caller : ℕ) (asked : Request) (append : Kept) → IsTrue (only_reads asked)
@@ -134,6 +136,9 @@ read_flat l f caller (request.QueryConfig2 handle level size) append reads =
 read_flat l f caller (request.QueryStatusEx handle level size) append reads =
     let code = query_ex_verdict f caller handle level size in
     stays code (query_ex_told size code) (query_ex_done f caller handle size).reply f
+read_flat l f caller (request.QuerySecurity handle parts size) append reads =
+    let code = query_security_verdict f caller handle parts size in
+    stays code (query_security_told f caller handle parts size code) (query_security_done f caller handle parts size).reply f
 read_flat l f caller asked append reads = absurd (false≢true reads)
 
 pub lock_flat : (l : Limits) (f : Flat) (caller handle size : ℕ) (append : Kept)

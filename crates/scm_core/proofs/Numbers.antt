@@ -47,9 +47,10 @@ use Rattle.scm_rules.specs.Failures.{all_failed, counted_if, failed_by, moment_a
 use Rattle.scm_rules.specs.Change2.{level_config}
 use Rattle.scm_rules.specs.Launches.{currents, fallen_if, is_by, with_fallen}
 use Rattle.scm_rules.specs.Notify.{registered, watched}
-use Rattle.scm_rules.specs.OpenService.{service_granted, with_opened}
+use Rattle.scm_rules.specs.OpenService.{open_service_rights, with_opened}
 use Rattle.scm_rules.specs.Raise.{all_triggered, gets_stop, raised, raise_verdict, triggered, with_stop}
 use Rattle.scm_rules.specs.Reports.{reported_if, reporting}
+use Rattle.scm_rules.specs.Security.{asked_security, descriptor_in, secured_if, secured_in}
 use Rattle.scm_rules.specs.Start.{deadline_at, ended, with_start}
 use Rattle.scm_rules.specs.Steps.{at_moment, effect_of, finished, left_by, step_of}
 use Rattle.scm_rules.specs.Ticks.{can_run, can_start, fire, fired, ticked, with_command, with_restart, with_wanted_command, without_due}
@@ -245,6 +246,11 @@ found_length : (change : Service → Service → Service) (found : Option Servic
 found_length change None rows = refl
 found_length change (Some row) rows = length-map rows (change row)
 
+secured_length : (found : Option Service) (asked : Option (List ℕ)) (rows : List Service)
+    → length (if_found (secured_in found) asked rows) ≡ length rows
+secured_length found None rows = refl
+secured_length found (Some security) rows = found_length (λ row. secured_if row.number security) found rows
+
 of_done : (l : Limits) (f : Flat) (caller : ℕ) (asked : Request) (append : Kept) → (verdict l f caller asked append == 0) ≡ true
     → Rise l f (done_of l f caller asked).flat
 of_done l f caller (request.Close handle) append ok = same l f (done_of l f caller (request.Close handle)).flat refl refl refl
@@ -279,9 +285,9 @@ of_done l f caller (request.Create new) append ok =
 of_done l f caller (request.OpenManager database access) append ok = one l f (done_of l f caller (request.OpenManager database access)).flat
     (omega arith, omega arith, omega arith, omega arith) refl refl refl refl (λ few. few)
 of_done l f caller (request.OpenService handle name access) append ok =
-    found_keeps (Rise l f) (with_opened caller (unwrap_or (service_granted f caller access) 0)) (named f name) f
+    found_keeps (Rise l f) (with_opened caller (open_service_rights f caller name access)) (named f name) f
     (same l f f refl refl refl)
-    (λ row is. one l f (with_opened caller (unwrap_or (service_granted f caller access) 0) row f)
+    (λ row is. one l f (with_opened caller (open_service_rights f caller name access) row f)
     (omega arith, omega arith, omega arith, omega arith) refl refl refl refl (λ few. few))
 of_done l f caller (request.QueryConfig handle size) append ok = same l f f refl refl refl
 of_done l f caller (request.QueryLock handle size) append ok = same l f f refl refl refl
@@ -310,7 +316,9 @@ of_done l f caller (request.EnumServices handle kinds states size resume) append
 of_done l f caller (request.QueryConfig2 handle level size) append ok = same l f f refl refl refl
 of_done l f caller (request.QueryStatusEx handle level size) append ok = same l f f refl refl refl
 of_done l f caller (request.QuerySecurity handle parts size) append ok = same l f f refl refl refl
-of_done l f caller (request.SetSecurity handle parts bytes) append ok = same l f f refl refl refl
+of_done l f caller (request.SetSecurity handle parts bytes) append ok =
+    same l f (done_of l f caller (request.SetSecurity handle parts bytes)).flat refl refl
+    (secured_length (held_service f caller handle) (asked_security f caller handle parts (descriptor_in bytes)) f.services)
 of_done l f caller (request.Notify handle mask) append ok =
     elim (watched f caller handle) as (λ of. Rise l f (with_handle (registered f caller handle mask of) caller
     (kinds.Notify f.next.registration) 0)) [

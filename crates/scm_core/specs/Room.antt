@@ -18,6 +18,7 @@ use Rattle.scm_rules.specs.QueryConfig.{query_config_reply}
 use Rattle.scm_rules.specs.QueryConfig2.{query_config2_reply}
 use Rattle.scm_rules.specs.QueryStatusEx.{query_ex_reply}
 use Rattle.scm_rules.specs.Locks.{lock_owner}
+use Rattle.scm_rules.specs.Security.{asked_security, descriptor_in, query_security_reply, set_security_verdict}
 use Rattle.scm_rules.specs.Verdicts.{change_of_call}
 use Rattle.scm_rules.specs.OtherName.{display_by_name, name_by_display, other_name_reply}
 use Rattle.scm_arms_start.specs.Entries.{start_entries}
@@ -57,9 +58,7 @@ call_needs_memory (request.Close handle) = false
 call_needs_memory (request.CloseNotify handle) = false
 call_needs_memory (request.Control handle control) = false
 call_needs_memory (request.GetNotify handle) = false
-call_needs_memory (request.QuerySecurity handle parts size) = false
 call_needs_memory (request.QueryStatus handle) = false
-call_needs_memory (request.SetSecurity handle parts bytes) = false
 call_needs_memory (request.SetStatus handle status) = false
 call_needs_memory (request.Unlock handle) = false
 call_needs_memory asked = true
@@ -75,7 +74,7 @@ needs_memory f step = false
 -- ## What is made beforehand, so that the step takes no memory
 
 abbrev pub nothing_made : Prepared
-nothing_made = record { name = None; config = None; code = 0; change = None; entries = None; reply = None }
+nothing_made = record { name = None; config = None; code = 0; change = None; entries = None; reply = None; security = None }
 
 -- what is made of a value, if there was memory for it
 abbrev pub made_with : {T : Type 0} → (T → Prepared) → Result T OutOfMemory → Result Prepared OutOfMemory
@@ -83,8 +82,9 @@ made_with make (Ok value) = Ok (make value)
 made_with make (Err fault) = Err fault
 
 -- for a creation and a change the new configuration, and what they are refused with if they are kept; for what may change the
--- configurations the change; for a start the services that it goes by; for a query of the lock the owner's name; for another call that only
--- reads, and has texts or bytes in its reply, the reply
+-- configurations the change; for a start the services that it goes by; for a query of the lock the owner's name; for a call that sets a
+-- security descriptor the new one, and what it is refused with; for another call that only reads, and has texts or bytes in its reply, the
+-- reply
 abbrev pub prepared_for : Limits → Flat → ℕ → Request → Prepared
 prepared_for l f caller (request.Change change) = record nothing_made {
   config = asked_config f caller change;
@@ -102,6 +102,14 @@ prepared_for l f caller (request.Create new) = record nothing_made {
   change = change_of_call l f caller (request.Create new);
 }
 prepared_for l f caller (request.Delete handle) = record nothing_made { change = change_of_call l f caller (request.Delete handle) }
+prepared_for l f caller (request.QuerySecurity handle parts size) = record nothing_made {
+  reply =
+      Some (query_security_reply f caller handle parts size);
+}
+prepared_for l f caller (request.SetSecurity handle parts bytes) = record nothing_made {
+  code = set_security_verdict f caller handle parts (descriptor_in bytes);
+  security = asked_security f caller handle parts (descriptor_in bytes);
+}
 prepared_for l f caller (request.QueryConfig handle size) = record nothing_made { reply = Some (query_config_reply f caller handle size) }
 prepared_for l f caller (request.QueryLock handle size) = record nothing_made { name = Some (lock_owner f) }
 prepared_for l f caller (request.Start handle words) = record nothing_made { entries = Some (start_entries f caller handle words) }
@@ -135,6 +143,8 @@ uses_made (request.Change change) = true
 uses_made (request.Change2 handle asked) = true
 uses_made (request.Create new) = true
 uses_made (request.QueryLock handle size) = true
+uses_made (request.QuerySecurity handle parts size) = true
+uses_made (request.SetSecurity handle parts bytes) = true
 uses_made (request.Start handle words) = true
 uses_made (request.QueryConfig handle size) = true
 uses_made (request.DisplayName handle name size) = true

@@ -11,12 +11,12 @@ use super::room::Prepared;
 use scm_arms_handle::{close, join, leave, lock, open_manager, open_service, query_lock, unlock};
 use scm_arms_notify::{close_notify, get_notify, notify};
 use scm_arms_process::{control, end, raise, report, set_status, take_control};
+use scm_arms_secure::set_security;
 use scm_arms_service::{
     change, change2, changed, changed2, create, created, delete, query, removed,
 };
 use scm_arms_start::{end_start, fail_launch, finish, launched, start, take_launch, tick};
-use scm_model::codes::ERROR_CALL_NOT_IMPLEMENTED;
-use scm_model::{Answer, Change, Kept, NewService, Request, Step, refused};
+use scm_model::{Answer, Change, Kept, NewService, Request, Step};
 use scm_tables::Tables;
 use scm_text::OutOfMemory;
 use std::alloc::Global;
@@ -181,7 +181,17 @@ fn call_made(
             let words = words.take();
             start(tables, alloc, caller, *handle, words, made.entries.take())
         }
+        Request::SetSecurity {
+            handle,
+            parts,
+            bytes,
+        } => {
+            let security = made.security.take();
+            let (handle, parts) = (*handle, *parts);
+            Answer::Reply(set_security(tables, caller, handle, parts, bytes, code, security))
+        }
         Request::QueryConfig { .. }
+        | Request::QuerySecurity { .. }
         | Request::DisplayName { .. }
         | Request::KeyName { .. }
         | Request::EnumDependents { .. }
@@ -238,9 +248,6 @@ fn call(
         }
         Request::GetNotify { handle } => Answer::Reply(get_notify(tables, caller, *handle)),
         Request::CloseNotify { handle } => Answer::Reply(close_notify(tables, caller, *handle)),
-        Request::QuerySecurity { .. } | Request::SetSecurity { .. } => {
-            Answer::Reply(refused(alloc, request, ERROR_CALL_NOT_IMPLEMENTED))
-        }
         _ => call_made(tables, alloc, caller, request, kept, made),
     }
 }

@@ -13,6 +13,7 @@ ghost use Rattle.scm_tables.specs.Tabled.{HasNeedRoom};
 use scm_arms_enum::{enum_dependents, enum_services, query_config2, query_status_ex};
 use scm_arms_handle::lock_owner;
 use scm_arms_process::raise_starts;
+use scm_arms_secure::{asked_security, descriptor_in, query_security, set_security_verdict};
 use scm_arms_service::{
     asked_config, asked_level, change_verdict, change2_verdict, config_of, create_verdict,
     display_name, judged, judged2, key_name, query_config, removed,
@@ -30,7 +31,8 @@ pub struct Prepared {
     pub name: Option<WText>,
     /// The configuration that a service gets.
     pub config: Option<Config>,
-    /// What a creation or a change is refused with if it is kept, or 0.
+    /// What a creation or a change is refused with if it is kept, or what a call that sets a
+    /// security descriptor is refused with, or 0.
     pub code: u32,
     /// The change of the configurations that the call makes if it is kept.
     pub change: Option<Change>,
@@ -38,6 +40,8 @@ pub struct Prepared {
     pub entries: Option<Items<u64>>,
     /// The reply to a call that only reads.
     pub reply: Option<Reply>,
+    /// The security descriptor that a service gets, in its written form.
+    pub security: Option<Items<u8>>,
 }
 
 /// A drop of its own: a function that owns one drops it by a call, which is proved once.
@@ -50,12 +54,14 @@ impl Drop for Prepared {
             change,
             entries,
             reply,
+            security,
         } = self;
         drop(name);
         drop(config);
         drop(change);
         drop(entries);
         drop(reply);
+        drop(security);
     }
 }
 
@@ -71,6 +77,7 @@ fn made_of(name: Option<WText>, entries: Option<Items<u64>>, reply: Option<Reply
         change: None,
         entries,
         reply,
+        security: None,
     }
 }
 
@@ -101,6 +108,7 @@ fn made_of_config(config: Option<Config>, code: u32, change: Option<Change>) -> 
         change,
         entries: None,
         reply: None,
+        security: None,
     }
 }
 
@@ -130,6 +138,28 @@ fn made_of_reply(reply: Result<Reply, OutOfMemory>) -> Result<Prepared, OutOfMem
 {
     match reply {
         Ok(reply) => Ok(made_of(None, None, Some(reply))),
+        Err(fault) => Err(fault),
+    }
+}
+
+/// What is made of the security descriptor that a service gets.
+fn made_of_security(
+    code: u32,
+    security: Result<Option<Items<u8>>, OutOfMemory>,
+) -> Result<Prepared, OutOfMemory>
+    ensures { result ≡ made_with
+        (λ kept. record nothing_made { code = code; security = kept }) security }
+{
+    match security {
+        Ok(security) => Ok(Prepared {
+            name: None,
+            config: None,
+            code,
+            change: None,
+            entries: None,
+            reply: None,
+            security,
+        }),
         Err(fault) => Err(fault),
     }
 }
@@ -193,6 +223,25 @@ fn make_for_change2(
     Ok(made_of_config(config, code, told))
 }
 
+/// Makes what a call that sets a security descriptor needs. All that is read is read here.
+fn make_for_security(
+    tables: &Tables,
+    caller: u64,
+    handle: u64,
+    parts: u32,
+    bytes: &Items<u8>,
+    alloc: Global,
+) -> Result<Prepared, OutOfMemory>
+    ensures { IfOk result (λ made. made ≡ prepared_for tables.now.limits tables.now.flat caller
+        (request.SetSecurity handle parts bytes.now)) }
+{
+    let mut given = descriptor_in(bytes.as_slice(), alloc)?;
+    let code = set_security_verdict(tables, caller, handle, parts, &given);
+    let security = asked_security(tables, caller, handle, parts, &mut given, alloc);
+    drop(given);
+    made_of_security(code, security)
+}
+
 /// Makes what a call needs.
 pub fn make_for_call(
     tables: &Tables,
@@ -247,6 +296,16 @@ pub fn make_for_call(
         Request::KeyName { handle, name, size } => {
             made_of_reply(key_name(tables, caller, *handle, name, *size, alloc))
         }
+        Request::QuerySecurity {
+            handle,
+            parts,
+            size,
+        } => made_of_reply(query_security(tables, caller, *handle, *parts, *size, alloc)),
+        Request::SetSecurity {
+            handle,
+            parts,
+            bytes,
+        } => make_for_security(tables, caller, *handle, *parts, bytes, alloc),
         _ => Ok(nothing_made()),
     }
 }
@@ -272,6 +331,7 @@ fn is_nothing(made: &Prepared) -> bool
             change: None,
             entries: None,
             reply: None,
+            security: None,
         }
     )
 }
@@ -482,9 +542,7 @@ fn prepare_call(
         | Request::CloseNotify { .. }
         | Request::Control { .. }
         | Request::GetNotify { .. }
-        | Request::QuerySecurity { .. }
         | Request::QueryStatus { .. }
-        | Request::SetSecurity { .. }
         | Request::SetStatus { .. }
         | Request::Unlock { .. } => {
             clear(made);

@@ -106,6 +106,4 @@ call_made-requires-clause-uses c =
       notify = w.not-Notify;
       get_notify = w.not-GetNotify;
       close_notify = w.not-CloseNotify;
-      query_security = w.not-QuerySecurity;
-      set_security = w.not-SetSecurity;
     })

@@ -28,6 +28,17 @@ returns-in-Change2-clause-answer c = rw c.in-Change2.is (ap answer.Reply c.chang
 pub returns-in-Change2-clause-flat : goal.returns-in-Change2-clause-flat
 returns-in-Change2-clause-flat c = rw c.in-Change2.is c.change2.ensures.flat
 
+pub set_security-requires-clause-verdict : goal.set_security-requires-clause-verdict
+set_security-requires-clause-verdict c =
+    ap (λ (p : Prepared). p.code)
+    (c.requires.made ∙ ap (prepared_for c.args.tables.now.limits c.args.tables.now.flat c.args.caller) c.in-SetSecurity.is)
+
+pub returns-in-SetSecurity-clause-answer : goal.returns-in-SetSecurity-clause-answer
+returns-in-SetSecurity-clause-answer c = rw c.in-SetSecurity.is (ap answer.Reply c.set_security.ensures.reply)
+
+pub returns-in-SetSecurity-clause-flat : goal.returns-in-SetSecurity-clause-flat
+returns-in-SetSecurity-clause-flat c = rw c.in-SetSecurity.is c.set_security.ensures.flat
+
 pub taken-new-requires : goal.taken-new-requires
 taken-new-requires c = (_, c.in-Create.is)
 
@@ -71,4 +82,6 @@ unreachable-requires c =
       enum_services = w.not-EnumServices;
       query_config2 = w.not-QueryConfig2;
       query_status_ex = w.not-QueryStatusEx;
+      query_security = w.not-QuerySecurity;
+      set_security = w.not-SetSecurity;
     })

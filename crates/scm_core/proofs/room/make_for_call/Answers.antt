@@ -69,3 +69,9 @@ returns-in-KeyName c =
     made_right replying c.key_name.result c.made_of_reply-in-KeyName.result _ _
     c.made_of_reply-in-KeyName.ensures c.key_name.ensures
     (ap (prepared_for c.args.tables.now.limits c.args.tables.now.flat c.args.caller) c.in-KeyName.is)
+
+pub returns-in-QuerySecurity : goal.returns-in-QuerySecurity
+returns-in-QuerySecurity c =
+    made_right replying c.query_security.result c.made_of_reply-in-QuerySecurity.result _ _
+    c.made_of_reply-in-QuerySecurity.ensures c.query_security.ensures
+    (ap (prepared_for c.args.tables.now.limits c.args.tables.now.flat c.args.caller) c.in-QuerySecurity.is)
