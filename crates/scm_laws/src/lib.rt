@@ -13,11 +13,13 @@ ghost use Rattle.scm_runs.specs.Handles.{LawOfHandles};
 ghost use Rattle.scm_runs.specs.Leaving.{LawOfLeaving};
 ghost use Rattle.scm_runs.specs.Plans.{LawOfPlans};
 ghost use Rattle.scm_runs.specs.Starts.{LawOfStarts};
+ghost use Rattle.scm_secured.specs.Opened.{LawOfSecurity};
 
 use scm_model::{Flat, Limits, Step};
 use scm_moves::{law_of_controls, law_of_moves};
 use scm_replies::law_of_replies;
 use scm_runs::{law_of_handles, law_of_leaving, law_of_plans, law_of_starts};
+use scm_secured::law_of_security;
 use scm_text::Items;
 
 /// Of moves: a service's state changes only as its current process reports or ends, or as it is
@@ -86,4 +88,14 @@ pub fn law_7(limits: &Limits, steps: &Items<(u64, Step)>, opening: &Flat)
     ensures entered { EachStep (LawOfEntering limits.now) limits.now opening.now steps.now }
 {
     law_of_plans(limits, steps, opening)
+}
+
+/// Of security: each right of a service's handle that is opened is one that the rules grant and
+/// that the service's security descriptor allows.
+pub fn law_8(limits: &Limits, steps: &Items<(u64, Step)>, opening: &Flat)
+    requires begins { IsOpening limits.now opening.now }
+    requires legal { IsLegal limits.now opening.now steps.now }
+    ensures { EachStep LawOfSecurity limits.now opening.now steps.now }
+{
+    law_of_security(limits, steps, opening)
 }

@@ -41,13 +41,15 @@ use Rattle.scm_moves.proofs.Found.{found_mapped, found_more, found_too}
 use Rattle.scm_moves.proofs.Own.{fallen_number, reported_number}
 use Rattle.scm_runs.proofs.Configured.{number_kept}
 use Rattle.scm_model.proofs.Found.{found_keeps}
-use Rattle.scm_runs.proofs.Founds.{opened_keeps, started_keeps, notify_apart}
+use Rattle.scm_runs.proofs.Founds.{notify_apart, opened_keeps, secured_keeps, started_keeps}
 use Rattle.scm_rules.specs.Change.{new_config}
 use Rattle.scm_rules.specs.Change2.{level_config}
 use Rattle.scm_model.specs.Found.{if_found}
 use Rattle.scm_rules.specs.Failures.{counted_if, failed_by, with_failure}
 use Rattle.scm_runs.proofs.Failing.{any_failing_keeps, counted_or, failing_keeps}
 use Rattle.scm_runs.proofs.Unasked.{raised_by, ticked_by}
+use Rattle.scm_rules.specs.Security.{asked_security, descriptor_in, secured_if}
+use Rattle.scm_rules.proofs.Secured.{secured_or}
 
 -- a handle of a service is of one that is there
 abbrev pub IsOfOne : List Service → HandleKind → Type 0
@@ -171,6 +173,11 @@ known_done l f caller (request.Change2 handle level) append h e =
     found_keeps (λ (rows : List Service). Known (record f { services = rows }))
     (λ (one : Service). map (configured_if one.number (level_config level one))) (held_service f caller handle) f.services h
     (λ one is. known_mapped f (configured_if one.number (level_config level one)) (number_kept one.number (level_config level one)) h)
+known_done l f caller (request.SetSecurity handle parts bytes) append h e =
+    secured_keeps (λ (rows : List Service). Known (record f { services = rows })) (held_service f caller handle)
+    (asked_security f caller handle parts (descriptor_in bytes)) f.services h
+    (λ one security is. known_mapped f (secured_if one.number security)
+    (λ row. secured_or (λ new. new.number ≡ row.number) one.number security row refl refl) h)
 known_done l f caller (request.Start handle words) append h e = started_keeps Known f caller handle words h
     (λ row is. record { opened = h.opened })
 known_done l f caller (request.Notify handle mask) append h e =

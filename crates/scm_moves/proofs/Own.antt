@@ -29,7 +29,7 @@ use Rattle.scm_runs.proofs.Lists.{found_has, found_passes, alone}
 use Rattle.scm_moves.specs.Moves.{MovesItself, code_of_end, reported_status}
 use Rattle.scm_runs.proofs.Configured.{number_kept}
 use Rattle.scm_model.proofs.Found.{found_keeps}
-use Rattle.scm_runs.proofs.Founds.{opened_keeps, started_keeps, notify_apart}
+use Rattle.scm_runs.proofs.Founds.{notify_apart, opened_keeps, secured_keeps, started_keeps}
 use Rattle.scm_model.specs.Rows.{held_service}
 use Rattle.scm_rules.specs.Change.{new_config}
 use Rattle.scm_rules.specs.Change2.{level_config}
@@ -40,6 +40,8 @@ use Rattle.scm_runs.proofs.Sound.{reporting_by}
 use Rattle.scm_rules.proofs.Held.{held_is}
 use Rattle.std.proofs.lemmas.Bool.Decides.{nat_tests}
 use Rattle.scm_runs.proofs.Unasked.{raised_apart, ticked_apart}
+use Rattle.scm_rules.specs.Security.{asked_security, descriptor_in, secured_if}
+use Rattle.scm_rules.proofs.Secured.{secured_or}
 
 -- ## Rows
 
@@ -207,6 +209,15 @@ own_done l f moment caller (request.Change2 handle level) append v e =
     found_keeps (All (HasOwn f step)) (λ (row : Service). map (configured_if row.number (level_config level row)))
     (held_service f caller handle) f.services (own_same f step v.services.rising)
     (λ one is. own_change f step one.number (level_config level one) v.services.rising)
+own_done l f moment caller (request.SetSecurity handle parts bytes) append v e =
+    let step = Call caller (request.SetSecurity handle parts bytes) append in
+    secured_keeps (All (HasOwn f step)) (held_service f caller handle)
+    (asked_security f caller handle parts (descriptor_in bytes)) f.services
+    (own_same f step v.services.rising)
+    (λ one security is. own_mapped f step (secured_if one.number security) v.services.rising
+    (λ row. secured_or (λ new. new.number ≡ row.number) one.number security row refl refl)
+    (λ k d lt. let row = get_or f.services k d in
+    secured_or (λ new. MovesItself f step row new.status) one.number security row (inl refl) (inl refl)))
 own_done l f moment caller (request.OpenService handle name access) append v e =
     let step = Call caller (request.OpenService handle name access) append in
     opened_keeps (λ (g : Flat). All (HasOwn f step) g.services) (with_moment f moment) caller name access

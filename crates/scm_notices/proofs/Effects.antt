@@ -26,7 +26,7 @@ use Rattle.scm_rules.specs.Change2.{level_config}
 use Rattle.scm_rules.specs.Create.{create_done, created_config, new_status}
 use Rattle.scm_rules.specs.Delete.{delete_refusals, is_marked, marked_in, told_of_mark}
 use Rattle.scm_rules.specs.Failures.{all_failed, counted_if, failed_by, with_failure}
-use Rattle.scm_rules.specs.OpenService.{service_granted, with_opened}
+use Rattle.scm_rules.specs.OpenService.{open_service_rights, with_opened}
 use Rattle.scm_rules.specs.Start.{with_start}
 use Rattle.scm_rules.specs.Controls.{dequeued_if, dequeued_in, first_asked, unasked_if, unasked_in}
 use Rattle.scm_rules.specs.Launches.{currents, fallen, fallen_if, launch_failed, notified_of_falls, with_fallen}
@@ -40,7 +40,7 @@ use Rattle.scm_rules.proofs.Held.{held_is}
 use Rattle.scm_runs.proofs.Calls.{all_pass, by_verdict}
 use Rattle.scm_runs.proofs.Configured.{number_kept}
 use Rattle.scm_runs.proofs.Failing.{all_failing_as, counted_as, failing_as, failure_keeps}
-use Rattle.scm_runs.proofs.Founds.{found_all, opened_keeps, started_keeps}
+use Rattle.scm_runs.proofs.Founds.{found_all, opened_keeps, secured_keeps, started_keeps}
 use Rattle.scm_runs.proofs.Lists.{map_both}
 use Rattle.scm_runs.proofs.Rows.{reported_or, unasked_or}
 use Rattle.scm_runs.proofs.Sound.{Sound, moved}
@@ -56,6 +56,8 @@ use Rattle.scm_notices.proofs.Falls.{FallsBy, notified_fall, notified_of_fallen,
 use Rattle.scm_notices.proofs.Firsts.{maps_nothing, maps_same, one_by_one}
 use Rattle.scm_notices.proofs.Between.{IsQuiet, OneChanges, notified_of_none, notified_of_nothing, notified_of_one, unmoved}
 use Rattle.scm_notices.proofs.Coming.{notified_of_arrival}
+use Rattle.scm_rules.specs.Security.{asked_security, descriptor_in, secured_if}
+use Rattle.scm_rules.proofs.Secured.{secured_or}
 
 -- ## A failure is counted behind a change
 
@@ -311,6 +313,14 @@ configures_one f row config =
       ap (λ m. not other.marked && m) (mark_kept row.number config other) ∙ (unmoved other).1,
     ))) refl
 
+secures_one : (f : Flat) (number : ℕ) (security : List ℕ)
+    → Notifies f (record f { services = map (secured_if number security) f.services })
+secures_one f number security =
+    notified_of_none f (record f { services = map (secured_if number security) f.services }) (secured_if number security)
+    (λ other. secured_or (λ new. new.number ≡ other.number) number security other refl refl) refl
+    (λ k d lt. secured_or (IsQuiet (get_or f.services k d)) number security (get_or f.services k d) (unmoved (get_or f.services k d))
+    (unmoved (get_or f.services k d))) refl
+
 -- ## Creations
 
 -- the next number is nobody's
@@ -348,12 +358,16 @@ of_done l f caller (request.Change2 handle level) append s quiet e =
     found_all (λ found. Notifies f (record f { services = configured_in (level_config level) found f.services }))
     (held_service f caller handle)
     (notified_of_nothing f f refl refl) (λ row is. configures_one f row (level_config level row))
+of_done l f caller (request.SetSecurity handle parts bytes) append s quiet e =
+    secured_keeps (λ rows. Notifies f (record f { services = rows })) (held_service f caller handle)
+    (asked_security f caller handle parts (descriptor_in bytes)) f.services (notified_of_nothing f f refl refl)
+    (λ row security is. secures_one f row.number security)
 of_done l f caller (request.Create new) append s quiet e =
     notified_of_arrival f (create_done f caller new).flat (new_service f.next.service (created_config f new) (new_status new.kind)) refl
     (not_there f f.next.service (next_fresh f s)) refl
 of_done l f caller (request.OpenService handle name access) append s quiet e =
     opened_keeps (Notifies f) f caller name access (notified_of_nothing f f refl refl)
-    (λ row is. notified_of_nothing f (with_opened caller (unwrap_or (service_granted f caller access) 0) row f) refl refl)
+    (λ row is. notified_of_nothing f (with_opened caller (open_service_rights f caller name access) row f) refl refl)
 of_done l f caller (request.Start handle words) append s quiet e =
     started_keeps (Notifies f) f caller handle words (notified_of_nothing f f refl refl)
     (λ row is. notified_of_nothing f (with_start caller (unwrap_or words []) row f) refl refl)

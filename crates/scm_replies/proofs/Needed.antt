@@ -25,8 +25,10 @@ use Rattle.scm_replies.specs.Sizes.{AreSmall, HasUuids, config_size, greatest_si
 use Rattle.scm_replies.proofs.Counted.{IsFew}
 use Rattle.scm_replies.proofs.Levels.{HasShortLevels, level_fits, levels_short}
 use Rattle.scm_replies.proofs.Listings.{IsLow, IsShort, dependents_least, found_some, held_some}
+use Rattle.scm_rules.specs.Security.{IsSecured}
+use Rattle.scm_rules.proofs.Written.{security_least}
 
--- few services, with short texts and low numbers
+-- few services, with short texts, low numbers and written security descriptors
 pub record IsWithinLimits (f : Flat) : Type 0 where
   pub few : length f.services ≤ 1024
   pub short : All IsShort f.services
@@ -34,6 +36,7 @@ pub record IsWithinLimits (f : Flat) : Type 0 where
   pub levels : All (λ (row : Service). HasShortLevels row.config) f.services
   pub low : All IsLow f.services
   pub uuids : All HasUuids f.services
+  pub secured : All IsSecured f.services
 
 pub within_limits : (l : Limits) → AreSmall l → (f : Flat) → IsFew l f → f.next.service ≤ 2 ^ 32 → All HasUuids f.services
     → IsWithinLimits f
@@ -48,6 +51,7 @@ within_limits l small f is next uuids =
       low = All-weaker (λ (row : Service). row.number < f.next.service) IsLow (λ row less. omega (arith, less, next)) f.services
           services.numbered.below;
       uuids = uuids;
+      secured = services.secured;
     }
 
 -- ## How great the sizes are
@@ -107,6 +111,8 @@ greatest f caller (request.QueryConfig2 handle level size) within =
     (held_some (λ (row : Service). HasShortLevels row.config) f caller handle within.levels)
     (held_some HasUuids f caller handle within.uuids)
 greatest f caller (request.QueryStatusEx handle level size) within = omega arith
+greatest f caller (request.QuerySecurity handle parts size) within =
+    security_least parts (held_service f caller handle) (held_some IsSecured f caller handle within.secured)
 greatest f caller asked within = omega arith
 
 pub fits : (asked : Request) → greatest_size asked < 2 ^ 32
@@ -121,6 +127,7 @@ fits (request.DisplayName handle name size) = omega arith
 fits (request.KeyName handle display size) = omega arith
 fits (request.QueryConfig2 handle level size) = omega arith
 fits (request.QueryStatusEx handle level size) = omega arith
+fits (request.QuerySecurity handle parts size) = omega arith
 fits asked = omega arith
 
 pub held : (f : Flat) (caller : ℕ) (asked : Request) → IsWithinLimits f → needed_size f caller asked < 2 ^ 32

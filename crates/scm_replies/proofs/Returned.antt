@@ -45,6 +45,7 @@ use Rattle.scm_replies.proofs.Counted.{IsFew, next_begun, next_run}
 use Rattle.scm_replies.proofs.Listings.{IsLow, all_paged, listing_least, resume_whole}
 use Rattle.scm_replies.proofs.Needed.{IsWithinLimits, config_returned, display_returned, fits, greatest, held, held_whole, name_returned}
 use Rattle.scm_replies.proofs.Needed.{within_limits}
+use Rattle.scm_rules.specs.Security.{security_by}
 
 abbrev ReturnsSize : Flat → ℕ → Request → Reply → Type 0
 ReturnsSize f caller asked told = reply_size told ≡ cond (returns_size asked (reply_code told)) (needed_size f caller asked) 0
@@ -106,6 +107,9 @@ size_refused f caller (request.QueryConfig2 handle level size) code within some 
     let bytes = level_by f caller handle level in
     ap (λ n. cond (code == 122) n 0) (held_whole (length bytes) (held f caller (request.QueryConfig2 handle level size) within))
 size_refused f caller (request.QueryStatusEx handle level size) code within some = refl
+size_refused f caller (request.QuerySecurity handle parts size) code within some =
+    let bytes = security_by f caller handle parts in
+    ap (λ n. cond (code == 122) n 0) (held_whole (length bytes) (held f caller (request.QuerySecurity handle parts size) within))
 size_refused f caller asked code within some = no_size (code == 0 || code == 122)
 
 index_refused : (f : Flat) (caller : ℕ) (asked : Request) (code : ℕ) → IsWithinLimits f → (code == 0) ≡ false
@@ -186,7 +190,7 @@ of_start f g caller handle words false plan told within is = is
 
 moved : (f : Flat) (moment : ℕ) → IsWithinLimits f → IsWithinLimits (with_moment f moment)
 moved f moment is =
-    record { few = is.few; short = is.short; whole = is.whole; levels = is.levels; low = is.low; uuids = is.uuids }
+    record { few = is.few; short = is.short; whole = is.whole; levels = is.levels; low = is.low; uuids = is.uuids; secured = is.secured }
 
 returned_then : (f : Flat) (moment caller : ℕ) (asked : Request) (told : Reply) → ReturnsSizes (with_moment f moment) caller asked told
     → ReturnsSizes f caller asked told

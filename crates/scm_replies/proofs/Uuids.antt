@@ -41,13 +41,14 @@ use Rattle.scm_rules.specs.Steps.{at_moment, effect_of, finished, step_of}
 use Rattle.scm_rules.specs.Verdicts.{call_of, done_of, told_refused, verdict}
 use Rattle.scm_runs.proofs.Calls.{by_verdict}
 use Rattle.scm_runs.proofs.Failing.{all_failing_rows, failing_rows}
-use Rattle.scm_runs.proofs.Founds.{notify_apart, opened_keeps, started_keeps}
+use Rattle.scm_runs.proofs.Founds.{notify_apart, opened_keeps, secured_rows, started_keeps}
 use Rattle.scm_runs.proofs.Frames.{finished_keeps}
 use Rattle.scm_runs.proofs.Histories.{state_is}
 use Rattle.scm_runs.proofs.Rows.{IsMild, falls_mildly, reports_mildly, starts_mildly, unasks_mildly}
 use Rattle.scm_runs.proofs.Unasked.{raised_apart, ticked_apart}
 use Rattle.scm_replies.specs.Sizes.{AsksWithUuids, GivesUuids, HasUuids, HaveUuids, IsWithUuid, IsWithUuids}
 use Rattle.scm_replies.proofs.Listings.{held_some}
+use Rattle.scm_rules.specs.Security.{asked_security, descriptor_in}
 
 -- ## Configurations
 
@@ -83,7 +84,7 @@ mild_have : (change : Service → Service) (rows : List Service) → IsMild chan
 mild_have change rows mild all = All-map HasUuids change rows (λ k d lt. subst OfUuids (sym (mild.config (get_or rows k d))) (all k d lt))
 
 marks_mildly : (number : ℕ) → IsMild (marked_if number)
-marks_mildly number = record { number = λ row. refl; config = λ row. refl; kind = λ row. refl }
+marks_mildly number = record { number = λ row. refl; config = λ row. refl; kind = λ row. refl; security = λ row. refl }
 
 configured_have : (number : ℕ) (config : Config) (rows : List Service) → OfUuids config → All HasUuids rows
     → All HasUuids (map (configured_if number config) rows)
@@ -121,6 +122,9 @@ done_have l f caller (request.SetStatus handle status) given all =
     failing_rows HasUuids (λ row failures last has. has) (failed_by status (held_service f caller handle)) _
     (found_keeps (All HasUuids) (λ row. map (reported_if row.number status)) (held_service f caller handle) f.services all
     (λ row is. mild_have (reported_if row.number status) f.services (reports_mildly row.number status) all))
+done_have l f caller (request.SetSecurity handle parts bytes) given all =
+    secured_rows HasUuids (λ row security has. has) (held_service f caller handle)
+    (asked_security f caller handle parts (descriptor_in bytes)) f.services all
 done_have l f caller (request.OpenService handle name access) given all = opened_keeps AllHave f caller name access all (λ row is. all)
 done_have l f caller (request.Start handle words) given all = started_keeps AllHave f caller handle words all (λ row is. all)
 done_have l f caller (request.Notify handle mask) given all = notify_apart AllHave f caller handle mask (λ rows next. all)

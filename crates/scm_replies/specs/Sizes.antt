@@ -27,6 +27,7 @@ use Rattle.scm_rules.specs.EnumServices.{services_asked}
 use Rattle.scm_rules.specs.Locks.{lock_owner, lock_size}
 use Rattle.scm_rules.specs.OtherName.{display_by_name, name_by_display, name_or_empty}
 use Rattle.scm_rules.specs.QueryConfig2.{level_by}
+use Rattle.scm_rules.specs.Security.{security_by}
 use Rattle.scm_runs.specs.Sizes.{config_bytes}
 use Rattle.scm_replies.specs.Replies.{reply_code}
 
@@ -53,6 +54,7 @@ returns_size (request.EnumDependents handle states size) code = code == ERROR_MO
 returns_size (request.EnumServices handle kinds states size resume) code = code == ERROR_MORE_DATA
 returns_size (request.QueryConfig2 handle level size) code = code == ERROR_INSUFFICIENT_BUFFER
 returns_size (request.QueryStatusEx handle level size) code = code == ERROR_INSUFFICIENT_BUFFER
+returns_size (request.QuerySecurity handle parts size) code = code == ERROR_INSUFFICIENT_BUFFER
 returns_size asked code = code == 0 || code == ERROR_INSUFFICIENT_BUFFER
 
 -- ## What is needed
@@ -82,11 +84,12 @@ needed_size f caller (request.DisplayName handle name size) = name_units (displa
 needed_size f caller (request.KeyName handle display size) = name_units (name_by_display f display)
 needed_size f caller (request.QueryConfig2 handle level size) = length (level_by f caller handle level)
 needed_size f caller (request.QueryStatusEx handle level size) = 36
+needed_size f caller (request.QuerySecurity handle parts size) = length (security_by f caller handle parts)
 needed_size f caller asked = 0
 
 -- the greatest size of what each call may ask for. Of 1,024 services: a record of 36 bytes and two names of 256 units, each with a zero. Of
 -- a configuration: a path, a group, 512 needs, each a name after + and before /, the account and a display name. Of its levels: the actions
--- after a failure, with their command
+-- after a failure, with their command. Of a security descriptor: its header, owner and group of 15 parts each, and a list
 abbrev pub greatest_size : Request → ℕ
 greatest_size (request.EnumDependents handle states size) = 1024 * (36 + 2 * 257 + 2 * 257)
 greatest_size (request.EnumServices handle kinds states size resume) = MAX_ENUM_SIZE
@@ -96,6 +99,7 @@ greatest_size (request.DisplayName handle name size) = 256
 greatest_size (request.KeyName handle display size) = 256
 greatest_size (request.QueryConfig2 handle level size) = 20 + 8 * 64 + 2 * 2049
 greatest_size (request.QueryStatusEx handle level size) = 36
+greatest_size (request.QuerySecurity handle parts size) = 20 + 2 * (8 + 4 * 15) + 65535
 greatest_size asked = 0
 
 -- the number of the last of some services, or another if there is none

@@ -43,6 +43,9 @@ use Rattle.scm_rules.specs.Create.{created_config, create_refusals, create_verdi
 use Rattle.scm_rules.specs.OpenManager.{open_manager_refusals}
 use Rattle.scm_rules.specs.OpenService.{open_service_refusals, service_granted}
 use Rattle.scm_rules.specs.Rights.{manager_lacks}
+use Rattle.scm_rules.specs.Security.{asked_security, descriptor_in, service_allowed}
+use Rattle.scm_rules.proofs.Secured.{asked_written}
+use Rattle.access_mask.specs.Granted.{rights_of}
 use Rattle.scm_rules.specs.Steps.{at_moment, effect_of, finished, finished_step, left_by, may}
 use Rattle.scm_rules.specs.Verdicts.{call_of, done_of, verdict}
 use Rattle.scm_runs.proofs.Along.{Keeps}
@@ -50,13 +53,13 @@ use Rattle.scm_runs.proofs.Configured.{configured}
 use Rattle.scm_runs.proofs.Levels.{display_left, name_left, needs_left}
 use Rattle.scm_runs.proofs.Lists.{found_has, none_found, none_any}
 use Rattle.scm_runs.proofs.Locked.{not_unlocked, closes_another, notify_another}
-use Rattle.scm_runs.proofs.Masks.{granted_within}
+use Rattle.scm_runs.proofs.Masks.{granted_within, narrowed_within}
 use Rattle.scm_rules.proofs.Needed.{rows_added, rows_configured, tested}
 use Rattle.scm_runs.proofs.Ordered.{order_below}
 use Rattle.scm_runs.proofs.Settling.{settles}
 use Rattle.scm_runs.proofs.Sound.{Sound, moved, joined, left, handed, taken, given_back, closed, added, marked, cleared, planned, over, due}
 use Rattle.scm_runs.proofs.Sound.{in_hand, running, not_running, reported, no_more, control_waits, control_sent, are_named, retold}
-use Rattle.scm_runs.proofs.Sound.{watching, reported_by, told, failing, found_alone, triggers}
+use Rattle.scm_runs.proofs.Sound.{watching, reported_by, secured_found, told, failing, found_alone, triggers}
 use Rattle.std.proofs.lemmas.Bool.{or_parts, or_right, not-false, and_parts}
 use Rattle.scm_model.specs.Found.{if_found}
 use Rattle.scm_model.proofs.Found.{found_keeps}
@@ -304,9 +307,13 @@ of_done l f caller (request.OpenManager database access) append s there e =
     handed f caller kinds.Manager _ s there (granted_within (principal_of f caller) true access p.1.1.0) refl
 of_done l f caller (request.Start handle words) append s there e = started f caller handle words s there
 of_done l f caller (request.OpenService handle name access) append s there e =
-    let p = all_pass (open_service_refusals l f caller handle name access) (refl, (refl, (refl, (refl, (refl, tt))))) e in
+    let p = all_pass (open_service_refusals l f caller handle name access) (refl, (refl, (refl, (refl, (refl, (refl, tt)))))) e in
     opened_keeps Sound f caller name access s (λ row is. handed f caller (kinds.Service row.number) _ s there
-    (granted_within (principal_of f caller) false access p.1.1.1.0) refl)
+    (narrowed_within (rights_of (principal_of f caller) false) (unwrap_or (service_granted f caller access) 0)
+    (unwrap_or (service_allowed f caller name access) 0) (granted_within (principal_of f caller) false access p.1.1.1.0)) refl)
+of_done l f caller (request.SetSecurity handle parts bytes) append s there e =
+    secured_found f (held_service f caller handle) (asked_security f caller handle parts (descriptor_in bytes))
+    (asked_written f caller handle parts bytes s.services.secured) s
 of_done l f caller (request.Notify handle mask) append s there e =
     notify_keeps Sound f caller handle mask (handed f caller (kinds.Notify f.next.registration) 0 s there refl refl)
     (λ of is. handed (with_registration f (watching_row f caller handle mask of)) caller (kinds.Notify f.next.registration) 0

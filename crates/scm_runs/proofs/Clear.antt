@@ -156,6 +156,7 @@ is_valid_clear l f c = record {
   wanted = c.sound.processes.wanted;
   starting = c.sound.processes.starting;
   asked = c.sound.processes.asked;
+  secured = c.sound.services.secured;
   acyclic = c.sound.services.acyclic;
   tried = tried_once f.next.plan f.next.service f.callers f.plans c.sound.plans;
   known = All-weaker (IsPlan f.next.plan f.next.service f.callers) (IsKnown f.callers) (λ plan is. is.known) f.plans

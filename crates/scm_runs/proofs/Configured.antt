@@ -16,6 +16,7 @@ use Rattle.scm_rules.specs.Change.{display_or}
 use Rattle.scm_rules.specs.Valid.{HasListed, IsAskedRight}
 use Rattle.scm_runs.proofs.Lists.{found_only, found_passes, none_any, pairs_map}
 use Rattle.scm_rules.proofs.Needed.{HasNoCycle, replaced}
+use Rattle.scm_rules.proofs.Secured.{secured_map}
 use Rattle.scm_runs.proofs.Numbers.{numbered_map}
 use Rattle.scm_runs.proofs.Processes.{StartsStill, beside, starts_kept, still_same}
 use Rattle.scm_runs.proofs.Rows.{AreServices, HasKind, IsChecked, IsStoppedWithout}
@@ -79,6 +80,10 @@ stopped_kept number config row old =
     elim (row.number == number) as (λ b. ((cond b (replaced config row) row).status.state == 1) ≡
     ((cond b (replaced config row) row).process == 0))
     [ true ↦ old | false ↦ old ]
+
+security_kept : (number : ℕ) (config : Config) (row : Service) → (configured_if number config row).security ≡ row.security
+security_kept number config row =
+    elim (row.number == number) as (λ b. (cond b (replaced config row) row).security ≡ row.security) [ true ↦ refl | false ↦ refl ]
 
 -- ## Pairs
 
@@ -196,6 +201,7 @@ configured_rows f number row config asked s found name_same display_same free ch
   configs = All-map IsChecked (configured_if number config) f.services (λ k d lt. check_kept number config _ checked (s.configs k d lt));
   kinds = All-map HasKind (configured_if number config) f.services (λ k d lt. kind_kept number config _ (s.kinds k d lt));
   stopped = All-map IsStoppedWithout (configured_if number config) f.services (λ k d lt. stopped_kept number config _ (s.stopped k d lt));
+  secured = secured_map (configured_if number config) (security_kept number config) f.services s.secured;
   current = All-map (λ (r : Service). r.process < f.next.process) (configured_if number config) f.services
       (λ k d lt. process_kept number config f.next.process _ (s.current k d lt));
   acyclic = acyclic;

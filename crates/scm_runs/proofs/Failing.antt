@@ -154,6 +154,7 @@ counts_mildly number moment = record {
   number = λ row. counted_or (λ new. new.number ≡ row.number) number moment row (λ failures last. refl);
   config = λ row. counted_or (λ new. new.config ≡ row.config) number moment row (λ failures last. refl);
   kind = λ row. counted_or (λ new. new.status.kind ≡ row.status.kind) number moment row (λ failures last. refl);
+  security = λ row. counted_or (λ new. new.security ≡ row.security) number moment row (λ failures last. refl);
 }
 
 pub counted : (next process number moment : ℕ) (rows : List Service) → AreServices next process rows

@@ -1,14 +1,18 @@
 -- What holds of the effects of calls on services that were found.
-use Rattle.std.proofs.Common.{ℕ, ◌≡◌, List, [], Option, None, Some, eqb-true, sym, ap, refl, true, ◌==◌, ◌+◌}
-use Rattle.std.specs.Prelude.{unwrap_or, IfSome}
+use Rattle.std.proofs.Common.{ℕ, ◌≡◌, List, [], Option, None, Some, eqb-true, get_or, map, sym, ap, refl, true, ◌==◌, ◌+◌}
+use Rattle.std.specs.Prelude.{All, unwrap_or, IfSome}
+use Rattle.std.proofs.lemmas.List.Elements.{All-map}
 use Rattle.scm_model.specs.declared.flat.Order.{Order}
 use Rattle.scm_model.specs.declared.flat.Flat.{Flat}
 use Rattle.scm_model.specs.declared.flat.Registration.{Registration}
 use Rattle.scm_model.specs.declared.flat.Service.{Service}
 use Rattle.scm_model.specs.Rows.{held_service, named}
+use Rattle.scm_model.specs.Found.{if_found}
 use Rattle.scm_model.proofs.Found.{found_keeps}
-use Rattle.scm_rules.specs.OpenService.{open_service_done, service_granted, with_opened}
+use Rattle.scm_rules.specs.OpenService.{open_service_done, open_service_rights, with_opened}
+use Rattle.scm_rules.specs.Security.{secured_if, secured_in}
 use Rattle.scm_rules.specs.Start.{start_done, with_start}
+use Rattle.scm_rules.proofs.Secured.{secured_or}
 use Rattle.scm_rules.specs.Named.{is_it, plan_made}
 use Rattle.scm_rules.specs.Launches.{launch_told}
 use Rattle.scm_rules.specs.Controls.{control_sent}
@@ -27,10 +31,27 @@ found_all P (Some one) none some = some one refl
 
 -- of an OpenService what holds as it was, and with a handle of a service of that name
 pub opened_keeps : (P : Flat → Type 0) (f : Flat) (caller : ℕ) (name : List ℕ) (access : ℕ) → P f
-    → ((row : Service) → named f name ≡ Some row → P (with_opened caller (unwrap_or (service_granted f caller access) 0) row f))
+    → ((row : Service) → named f name ≡ Some row → P (with_opened caller (open_service_rights f caller name access) row f))
     → P (open_service_done f caller name access).flat
-opened_keeps P f caller name access was by = found_keeps P (with_opened caller (unwrap_or (service_granted f caller access) 0))
+opened_keeps P f caller name access was by = found_keeps P (with_opened caller (open_service_rights f caller name access))
     (named f name) f was by
+
+-- of a SetSecurity what holds of the services as they were, and with a security descriptor for the one that the handle is of
+pub secured_keeps : (P : List Service → Type 0) (found : Option Service) (asked : Option (List ℕ)) (rows : List Service) → P rows
+    → ((row : Service) (security : List ℕ) → found ≡ Some row → P (map (secured_if row.number security) rows))
+    → P (if_found (secured_in found) asked rows)
+secured_keeps P found None rows was by = was
+secured_keeps P found (Some security) rows was by =
+    found_keeps P (λ (row : Service). map (secured_if row.number security)) found rows was (λ row is. by row security is)
+
+-- what holds of each service, and says nothing of its security descriptor
+pub secured_rows : (P : Service → Type 0) → ((row : Service) (security : List ℕ) → P row → P (record row { security = security }))
+    → (found : Option Service) (asked : Option (List ℕ)) (rows : List Service) → All P rows
+    → All P (if_found (secured_in found) asked rows)
+secured_rows P aside found asked rows all =
+    secured_keeps (All P) found asked rows all
+    (λ row security is. All-map P (secured_if row.number security) rows
+    (λ k d lt. secured_or P row.number security (get_or rows k d) (aside (get_or rows k d) security (all k d lt)) (all k d lt)))
 
 -- of a Start what holds as it was, and with a plan to start the service that the handle is of
 pub started_keeps : (P : Flat → Type 0) (f : Flat) (caller handle : ℕ) (words : Option (List (List ℕ))) → P f

@@ -65,6 +65,7 @@ of_done l f caller (request.SetStatus handle status) =
 of_done l f caller (request.Unlock handle) = record { rows = All-filter _ (StoodOrIsNew f) f.handles (all_stood f); rising = omega arith }
 of_done l f caller (request.Change change) = record { rows = all_stood f; rising = omega arith }
 of_done l f caller (request.Change2 handle asked) = record { rows = all_stood f; rising = omega arith }
+of_done l f caller (request.SetSecurity handle parts bytes) = record { rows = all_stood f; rising = omega arith }
 of_done l f caller (request.Create new) = record {
   rows = All-push (StoodOrIsNew f) f.handles _ (all_stood f) (inr (omega arith));
   rising = omega arith;

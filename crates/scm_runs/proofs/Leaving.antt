@@ -39,7 +39,7 @@ use Rattle.scm_rules.specs.Steps.{at_moment, effect_of, may, step_of}
 use Rattle.scm_rules.specs.Valid.{has_process}
 use Rattle.scm_rules.specs.Verdicts.{call_of, done_of, told_refused, verdict}
 use Rattle.scm_runs.specs.Leaving.{IsFresh, IsSameService, LawOfLeaving, before_leaving, configures, created, fails, marks, numbers}
-use Rattle.scm_runs.specs.Leaving.{is_report, is_handle_of, is_number_of}
+use Rattle.scm_runs.specs.Leaving.{is_report, is_handle_of, is_number_of, secures}
 use Rattle.scm_runs.proofs.Along.{Gives}
 use Rattle.scm_runs.proofs.Calls.{by_verdict, of_effect}
 use Rattle.scm_runs.proofs.Configured.{HasText, name, name_kept, names_found, number_kept}
@@ -52,7 +52,9 @@ use Rattle.scm_runs.proofs.Settling.{AreSettled, IsSettled}
 use Rattle.scm_runs.proofs.Sound.{Sound, found_alone}
 use Rattle.scm_rules.proofs.Needed.{replaced}
 use Rattle.scm_model.proofs.Found.{found_keeps, found_either}
-use Rattle.scm_runs.proofs.Founds.{opened_keeps, started_keeps, notify_apart}
+use Rattle.scm_runs.proofs.Founds.{opened_keeps, secured_keeps, started_keeps, notify_apart}
+use Rattle.scm_rules.specs.Security.{asked_security, descriptor_in, secured_if, secured_in}
+use Rattle.scm_rules.proofs.Secured.{secured_or}
 use Rattle.scm_model.specs.Rows.{held_service}
 use Rattle.scm_rules.proofs.Held.{held_is}
 use Rattle.failure_actions.specs.Failing.{on_failure}
@@ -102,6 +104,7 @@ same_row f step told row unmarked = record {
     row = ap (λ (marked : Bool). record row { marked = marked }) (or_false row.marked ∙ ap (λ marked. row.marked || marked) (sym unmarked));
     state = λ same quiet. refl;
     config = λ other. (refl, refl);
+    security = λ other. refl;
     name = refl;
     failures = λ fine. (refl, refl);
   };
@@ -171,6 +174,7 @@ configured_same f step told caller handle config one row does is has =
         failures = (cond b (replaced config row) row).failures;
         last_failure = (cond b (replaced config row) row).last_failure;
         asked = (cond b (replaced config row) row).asked;
+        security = (cond b (replaced config row) row).security;
         marked = row.marked || marks f step told row.number;
       }) [
         | true ↦ ap (λ (marked : Bool). record (replaced config row) { marked = marked }) stays
@@ -186,6 +190,8 @@ configured_same f step told caller handle config one row does is has =
           × ((cond b (replaced config row) row).status.kind ≡ row.status.kind))
           [ true ↦ λ e. absurd (cc) | false ↦ λ e. (refl, refl) ] (ap (λ found. is_number_of found row.number) (sym is)
           ∙ sym (does.which row.number) ∙ other);
+      security = λ other. elim (row.number == number) as (λ b. (cond b (replaced config row) row).security ≡ row.security)
+          [ true ↦ refl | false ↦ refl ];
       name = name_kept number config row has;
       failures = λ fine. elim (row.number == number) as (λ b. ((cond b (replaced config row) row).failures ≡ row.failures)
           × ((cond b (replaced config row) row).last_failure ≡ row.last_failure))
@@ -210,6 +216,45 @@ stood_configured f step told caller handle new does named s =
     (λ row is. stood_mapped f step told (configured_if row.number (new row)) (number_kept row.number (new row)) does.none
     (λ k d lt. configured_row f step told caller handle (new row) row _ does is
     (names_found f row.number row (new row) s.services (held_is f caller handle row is) (named row) k d lt)))
+
+-- ## Security descriptors
+
+-- a step that does nothing to services but to give one of them a security descriptor
+record Secures (f : Flat) (step : Step) (told : Answer) (caller handle : ℕ) : Type 0 where
+  none : created f step told ≡ []
+  unmarked : (number : ℕ) → marks f step told number ≡ false
+  which : (number : ℕ) → secures f step told number ≡ is_handle_of f caller handle number
+
+secured_row : (f : Flat) (step : Step) (told : Answer) (caller handle : ℕ) (security : List ℕ) (one row : Service)
+    → Secures f step told caller handle → held_service f caller handle ≡ Some one
+    → Remains f step told row (secured_if one.number security row)
+secured_row f step told caller handle security one row does is =
+    elim (row.number == one.number) as (λ b. (row.number == one.number) ≡ b
+    → Remains f step told row (cond b (record row { security = security }) row)) [
+      | true ↦ λ here. record {
+        same = record {
+          row = ap (λ (marked : Bool). record row { security = security; marked = marked })
+              (or_false row.marked ∙ ap (λ marked. row.marked || marked) (sym (does.unmarked row.number)));
+          state = λ same quiet. refl;
+          config = λ other. (refl, refl);
+          security = λ other. absurd (
+              let wrong : true ≡ false = sym here ∙ ap (λ found. is_number_of found row.number) (sym is)
+              ∙ sym (does.which row.number) ∙ other in cc);
+          name = refl;
+          failures = λ fine. (refl, refl);
+        };
+        process = λ quiet. inl refl;
+      }
+      | false ↦ λ apart. same_row f step told row (does.unmarked row.number)
+    ] refl
+
+stood_secured : (f : Flat) (step : Step) (told : Answer) (caller handle : ℕ) (asked : Option (List ℕ)) → Secures f step told caller handle
+    → Stood f step told (if_found (secured_in (held_service f caller handle)) asked f.services)
+stood_secured f step told caller handle asked does =
+    secured_keeps (Stood f step told) (held_service f caller handle) asked f.services (stood_same f step told does.none does.unmarked)
+    (λ one security is. stood_mapped f step told (secured_if one.number security)
+    (λ row. secured_or (λ new. new.number ≡ row.number) one.number security row refl refl) does.none
+    (λ k d lt. secured_row f step told caller handle security one (get_or f.services k d) does is))
 
 -- ## Reports
 
@@ -238,6 +283,7 @@ reported_row f step told number report row unmarked other =
         }) (or_false row.marked ∙ ap (λ marked. row.marked || marked) (sym (unmarked row.number)));
         state = λ same quiet. absurd (let isnt = other quiet in cc);
         config = λ kept. (refl, kind_taken row.status report taken);
+        security = λ other. refl;
         name = refl;
         failures = λ fine. (refl, refl);
       };
@@ -281,6 +327,7 @@ counted_row f step told number moment old mid spared same is =
           }) is.same.row;
           state = is.same.state;
           config = is.same.config;
+          security = is.same.security;
           name = is.same.name;
           failures = λ fine. absurd (let other = spared fine in let here : (old.number == number) ≡ true = ap (λ n. n == number) (sym same)
               ∙ e in cc);
@@ -340,6 +387,7 @@ marked_row f caller handle append one row is = record {
     row = ap (λ found. record row { marked = row.marked || is_number_of found row.number }) (sym is);
     state = λ same quiet. refl;
     config = λ other. (refl, refl);
+    security = λ other. refl;
     name = refl;
     failures = λ fine. (refl, refl);
   };
@@ -407,6 +455,18 @@ stood_call l f moment caller (request.Change2 handle level) append s =
       which = λ number. refl;
     }) (name_left level) s)
     (λ e. stood_same f _ _ refl (λ number. refl))
+stood_call l f moment caller (request.SetSecurity handle parts bytes) append s =
+    let g = with_moment f moment in
+    let asked = request.SetSecurity handle parts bytes in
+    let code = verdict l g caller asked append in
+    by_verdict (λ r. Stood f (Call caller asked append) (answer.Reply r.reply) r.flat.services) code (told_refused g caller asked code) g
+    (done_of l g caller asked)
+    (λ e. stood_secured f _ _ caller handle (asked_security g caller handle parts (descriptor_in bytes)) (record {
+      none = refl;
+      unmarked = λ number. refl;
+      which = λ number. refl;
+    }))
+    (λ e. stood_same f _ _ refl (λ number. refl))
 stood_call l f moment caller (request.Create new) append s =
     let g = with_moment f moment in
     let asked = request.Create new in
@@ -472,6 +532,7 @@ fallen_row f step told process code row unmarked ends =
         state = λ none quiet. absurd (let by = by_parts process row is in let zero = eq-eqb process 0 (sym by.1 ∙ sym none) in
             let some = by.0 in cc);
         config = λ other. (refl, refl);
+        security = λ other. refl;
         name = refl;
         failures = λ fine. (refl, refl);
       };
@@ -563,6 +624,7 @@ unasked_row f step told number row unmarked =
             (or_false row.marked ∙ ap (λ marked. row.marked || marked) (sym (unmarked row.number)));
         state = λ same quiet. refl;
         config = λ other. (refl, refl);
+        security = λ other. refl;
         name = refl;
         failures = λ fine. (refl, refl);
       };
@@ -688,11 +750,13 @@ settled_row f step told next bound listed gone old mid new small is (inr entered
             failures = r.failures;
             last_failure = r.last_failure;
             asked = r.asked;
+            security = r.security;
             marked = old.marked || marks f step told old.number;
           }) (sym e);
       state = λ same quiet.
           absurd (not_back f step told next listed old mid new gone small quiet is entered.none entered.process same);
       config = λ other. (let was = is.same.config other in (config ∙ was.0, kind ∙ was.1));
+      security = λ other. ap (λ (r : Service). r.security) e ∙ is.same.security other;
       name = ap (λ (c : Config). c.name) config ∙ is.same.name;
       failures = λ fine. (let was = is.same.failures fine in (
         ap (λ (r : Service). r.failures) e ∙ was.0,

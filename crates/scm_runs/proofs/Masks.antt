@@ -83,3 +83,13 @@ granted_within User true desired given = of_granted (map_generic true desired) (
     (λ e. refl) given
 granted_within User false desired given = of_granted (map_generic false desired) (rights_of User false) false
     (mask_small false desired) refl (λ e. refl) given
+
+-- a part of such a mask too
+pub narrowed_within : (rights mask other : ℕ) → has_bits rights mask ≡ true → has_bits rights (bit_and mask other) ≡ true
+narrowed_within rights mask other within =
+    eq-eqb (bit_and rights (bit_and mask other)) (bit_and mask other) (same_from_bits _ _ (λ i.
+    let x = bit_at_and rights (bit_and mask other) i in
+    let y = bit_at_and mask other i in
+    let u = bit_at_and rights mask i in
+    let p : bit_at (bit_and rights mask) i ≡ bit_at mask i = ap (λ n. bit_at n i) (eqb-true (bit_and rights mask) mask within) in
+    omega arith))

@@ -11,6 +11,7 @@ use Rattle.scm_model.specs.Purge.{leaves}
 use Rattle.scm_rules.specs.Create.{new_status}
 use Rattle.scm_rules.specs.Opening.{CanOpen, services_from}
 use Rattle.scm_rules.specs.Valid.{HasListed, IsAskedRight}
+use Rattle.scm_rules.proofs.Secured.{opened_secured}
 use Rattle.scm_runs.proofs.Rows.{AreOtherDisplays, AreOtherNames, AreServices, HasKind, IsChecked, IsStoppedWithout}
 
 -- a service that never ran
@@ -62,6 +63,7 @@ opened_services l configs can = record {
   configs = each_opened IsChecked 1 configs can.checked;
   kinds = each_opened HasKind 1 configs (λ k d lt. refl);
   stopped = each_opened IsStoppedWithout 1 configs (λ k d lt. refl);
+  secured = opened_secured 1 configs;
   current = each_opened (λ (row : Service). row.process < 1) 1 configs (λ k d lt. omega arith);
   acyclic = can.acyclic;
 }

@@ -18,7 +18,10 @@ use Rattle.scm_rules.specs.Launches.{fallen as fallen_by, fallen_if, is_by}
 use Rattle.scm_rules.specs.Controls.{unasked_if}
 use Rattle.scm_rules.specs.Needs.{need_row}
 use Rattle.scm_rules.specs.Reports.{moved_by, process_in_state, reported_if}
+use Rattle.scm_rules.specs.Security.{IsSecured, secured_if}
 use Rattle.scm_rules.specs.Valid.{AreNumbered}
+use Rattle.scm_rules.proofs.Secured.{all_secured, secured_map, secured_or}
+use Rattle.sec_desc.specs.Writing.{IsWritten}
 use Rattle.scm_runs.proofs.Lists.{pairs_map}
 use Rattle.scm_rules.proofs.Needed.{HasNoCycle, fewer, same_graph}
 use Rattle.scm_runs.proofs.Numbers.{numbered_filter, numbered_map, numbered_push}
@@ -50,16 +53,18 @@ pub record AreServices (next process : ℕ) (rows : List Service) : Type 0 where
   pub configs : All IsChecked rows
   pub kinds : All HasKind rows
   pub stopped : All IsStoppedWithout rows
+  pub secured : All IsSecured rows
   pub current : All (λ (row : Service). row.process < process) rows
   pub acyclic : HasNoCycle rows
 
 -- ## A change of each row
 
--- a change that leaves number, configuration and type, and with the process the state
+-- a change that leaves number, configuration, security descriptor and type, and with the process the state
 pub record IsMild (change : Service → Service) : Type 0 where
   pub number : (row : Service) → (change row).number ≡ row.number
   pub config : (row : Service) → (change row).config ≡ row.config
   pub kind : (row : Service) → (change row).status.kind ≡ row.status.kind
+  pub security : (row : Service) → (change row).security ≡ row.security
 
 mild_row : (change : Service → Service) → IsMild change → (row : Service) → need_row (change row) ≡ need_row row
 mild_row change mild row = rw (mild.number row, mild.config row) refl
@@ -80,6 +85,7 @@ mildly next process later change rows mild s up stopped current = record {
   kinds = All-map HasKind change rows (λ k d lt. mild.kind (get_or rows k d) ∙ s.kinds k d lt
       ∙ ap (λ (c : Config). c.kind) (sym (mild.config (get_or rows k d))));
   stopped = stopped;
+  secured = secured_map change mild.security rows s.secured;
   current = current;
   acyclic = same_graph change (mild_row change mild) rows s.acyclic;
 }
@@ -87,7 +93,12 @@ mildly next process later change rows mild s up stopped current = record {
 pub marked : (next process number : ℕ) (rows : List Service) → AreServices next process rows
     → AreServices next process (map (marked_if number) rows)
 marked next process number rows s =
-    mildly next process process (marked_if number) rows (record { number = λ row. refl; config = λ row. refl; kind = λ row. refl }) s
+    mildly next process process (marked_if number) rows (record {
+      number = λ row. refl;
+      config = λ row. refl;
+      kind = λ row. refl;
+      security = λ row. refl;
+    }) s
     (omega arith)
     (All-map IsStoppedWithout (marked_if number) rows s.stopped)
     (All-map (λ (row : Service). row.process < process) (marked_if number) rows s.current)
@@ -98,6 +109,7 @@ starts_mildly number process = record {
   number = same_number number process;
   config = λ row. started_or (λ new. new.config ≡ row.config) number process row (λ e. refl) refl;
   kind = λ row. started_or (λ new. new.status.kind ≡ row.status.kind) number process row (λ e. refl) refl;
+  security = λ row. started_or (λ new. new.security ≡ row.security) number process row (λ e. refl) refl;
 }
 
 positive_other : (n : ℕ) → 1 ≤ n → false ≡ (n == 0)
@@ -143,6 +155,7 @@ falls_mildly process code = record {
   number = λ row. fallen_or (λ new. new.number ≡ row.number) process code row (λ e. refl) refl;
   config = λ row. fallen_or (λ new. new.config ≡ row.config) process code row (λ e. refl) refl;
   kind = λ row. fallen_or (λ new. new.status.kind ≡ row.status.kind) process code row (λ e. refl) refl;
+  security = λ row. fallen_or (λ new. new.security ≡ row.security) process code row (λ e. refl) refl;
 }
 
 pub fallen : (next process number code : ℕ) (rows : List Service) → AreServices next process rows
@@ -175,6 +188,7 @@ reports_mildly number report = record {
   number = λ row. reported_or (λ new. new.number ≡ row.number) number report row (λ e t. refl) refl;
   config = λ row. reported_or (λ new. new.config ≡ row.config) number report row (λ e t. refl) refl;
   kind = λ row. reported_or (λ new. new.status.kind ≡ row.status.kind) number report row (λ e t. kind_taken row.status report t) refl;
+  security = λ row. reported_or (λ new. new.security ≡ row.security) number report row (λ e t. refl) refl;
 }
 
 -- the service with a number has this process
@@ -213,6 +227,7 @@ unasks_mildly number = record {
   number = λ row. unasked_or (λ new. new.number ≡ row.number) number row refl refl;
   config = λ row. unasked_or (λ new. new.config ≡ row.config) number row refl refl;
   kind = λ row. unasked_or (λ new. new.status.kind ≡ row.status.kind) number row refl refl;
+  security = λ row. unasked_or (λ new. new.security ≡ row.security) number row refl refl;
 }
 
 pub unasked : (next process number : ℕ) (rows : List Service) → AreServices next process rows
@@ -223,6 +238,35 @@ unasked next process number rows s =
     (s.stopped k d lt) (s.stopped k d lt)))
     (All-map (λ (row : Service). row.process < process) (unasked_if number) rows
     (λ k d lt. unasked_or (λ (row : Service). row.process < process) number (get_or rows k d) (s.current k d lt) (s.current k d lt)))
+
+-- a service gets a security descriptor
+pub secured : (next process number : ℕ) (security : List ℕ) (rows : List Service) → IsWritten security → AreServices next process rows
+    → AreServices next process (map (secured_if number security) rows)
+secured next process number security rows written s =
+    let change = secured_if number security in
+    let config : (row : Service) → (change row).config ≡ row.config =
+    λ row. secured_or (λ new. new.config ≡ row.config) number security row refl refl in
+    record {
+      numbered = numbered_map (λ (row : Service). row.number) next change
+          (λ row. secured_or (λ new. new.number ≡ row.number) number security row refl refl) rows s.numbered;
+      first = s.first;
+      first_process = s.first_process;
+      names = pairs_map (λ row. Unit {0}) AreOtherNames AreOtherNames change
+          (λ a b p q h. rw (config a, config b) h) rows (λ k d lt. tt) s.names;
+      displays = pairs_map (λ row. Unit {0}) AreOtherDisplays AreOtherDisplays change
+          (λ a b p q h. rw (config a, config b) h) rows (λ k d lt. tt) s.displays;
+      configs = All-map IsChecked change rows
+          (λ k d lt. secured_or IsChecked number security (get_or rows k d) (s.configs k d lt) (s.configs k d lt));
+      kinds = All-map HasKind change rows
+          (λ k d lt. secured_or HasKind number security (get_or rows k d) (s.kinds k d lt) (s.kinds k d lt));
+      stopped = All-map IsStoppedWithout change rows
+          (λ k d lt. secured_or IsStoppedWithout number security (get_or rows k d) (s.stopped k d lt) (s.stopped k d lt));
+      secured = all_secured number security rows written s.secured;
+      current = All-map (λ (row : Service). row.process < process) change rows
+          (λ k d lt. secured_or (λ (row : Service). row.process < process) number security (get_or rows k d) (s.current k d lt)
+          (s.current k d lt));
+      acyclic = same_graph change (λ row. secured_or (λ new. need_row new ≡ need_row row) number security row refl refl) rows s.acyclic;
+    }
 
 -- with a number of a process given to no service
 pub later : (next process : ℕ) (rows : List Service) → AreServices next process rows → AreServices next (process + 1) rows
@@ -235,6 +279,7 @@ later next process rows s = record {
   configs = s.configs;
   kinds = s.kinds;
   stopped = s.stopped;
+  secured = s.secured;
   current = All-weaker (λ (row : Service). row.process < process) (λ (row : Service). row.process < process + 1)
       (λ row below. omega (arith, below)) rows s.current;
   acyclic = s.acyclic;
@@ -245,9 +290,9 @@ later next process rows s = record {
 pub added : (next process : ℕ) (rows : List Service) (row : Service) → AreServices next process rows → row.number ≡ next
     → All (λ (old : Service). same_text old.config.name row.config.name ≡ false) rows
     → All (λ (old : Service). same_text old.config.display row.config.display ≡ false) rows
-    → IsChecked row → HasKind row → IsStoppedWithout row → row.process ≡ 0 → HasNoCycle (rows ++ row ∷ [])
+    → IsChecked row → HasKind row → IsStoppedWithout row → IsSecured row → row.process ≡ 0 → HasNoCycle (rows ++ row ∷ [])
     → AreServices (next + 1) process (rows ++ row ∷ [])
-added next process rows row s number names displays checked kind stopped none free = record {
+added next process rows row s number names displays checked kind stopped secured none free = record {
   numbered = numbered_push (λ (row : Service). row.number) next rows row s.numbered s.first number;
   first = (let first = s.first in omega arith);
   first_process = s.first_process;
@@ -256,6 +301,7 @@ added next process rows row s number names displays checked kind stopped none fr
   configs = All-push IsChecked rows row s.configs checked;
   kinds = All-push HasKind rows row s.kinds kind;
   stopped = All-push IsStoppedWithout rows row s.stopped stopped;
+  secured = All-push IsSecured rows row s.secured secured;
   current = All-push (λ (row : Service). row.process < process) rows row s.current
       (let first = s.first_process in omega (arith, none, first));
   acyclic = free;
@@ -272,6 +318,7 @@ cleared next process p rows s = record {
   configs = All-filter p IsChecked rows s.configs;
   kinds = All-filter p HasKind rows s.kinds;
   stopped = All-filter p IsStoppedWithout rows s.stopped;
+  secured = All-filter p IsSecured rows s.secured;
   current = All-filter p (λ (row : Service). row.process < process) rows s.current;
   acyclic = fewer p rows s.numbered.rising s.acyclic;
 }

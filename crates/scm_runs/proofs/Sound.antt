@@ -1,7 +1,7 @@
 -- What is true of every state, before and after services leave, and that each change keeps it.
 use Rattle.std.proofs.Common.{ℕ, zero, suc, get_or, ◌≡◌, ◌<◌, ◌≤◌, ◌==◌, ◌&&◌, true, false, not, cond, List, [], ◌∷◌, ◌++◌, Option, None}
-use Rattle.std.proofs.Common.{drop, length, map, ap, sym, refl, subst, arith, eqb, ◌+◌, filter, find, eqb-true, Some, Bool, ◌∙◌}
-use Rattle.std.specs.Prelude.{All, Contains, is_some, nat_lt}
+use Rattle.std.proofs.Common.{drop, inl, length, map, ap, sym, refl, subst, arith, eqb, ◌+◌, filter, find, eqb-true, Some, Bool, ◌∙◌}
+use Rattle.std.specs.Prelude.{All, Contains, IfSome, is_some, nat_lt}
 use Rattle.std.proofs.lemmas.List.Elements.{All-contains, All-filter, All-map, All-push, recursion_from_All}
 use Rattle.std.specs.List.{AllByRecursion, IsDistinct}
 use Rattle.scm_text.specs.Fold.{same_text}
@@ -52,7 +52,10 @@ use Rattle.start_triggers.specs.Order.{auto_rows}
 use Rattle.scm_rules.specs.Start.{ended, new_plan, with_plan, with_start}
 use Rattle.scm_rules.specs.Needs.{start_order}
 use Rattle.scm_runs.proofs.Ordered.{order_below}
+use Rattle.scm_rules.specs.Security.{secured_if, secured_in, with_security}
 use Rattle.scm_rules.specs.Steps.{gone, wants_launch}
+use Rattle.scm_rules.proofs.Secured.{secured_or}
+use Rattle.sec_desc.specs.Writing.{IsWritten}
 use Rattle.scm_rules.specs.Valid.{AreNumbered, HasListed, IsAskedRight}
 use Rattle.scm_runs.specs.Handles.{AreRights}
 use Rattle.scm_runs.proofs.Deadlines.{AreDeadlines, IsBelow, no_plans_yet, plan_more, plans_decided, plans_fewer, fired as deadlines_fired}
@@ -71,7 +74,7 @@ use Rattle.scm_runs.proofs.Processes.{AreProcesses, IsOfControls, beside as proc
 use Rattle.scm_runs.proofs.Processes.{no_processes, one_launched, reported as processes_reported, running_first, running_launched}
 use Rattle.scm_runs.proofs.Processes.{starts_kept, starts_more, starts_stay, still_same, unasked as processes_unasked}
 use Rattle.scm_runs.proofs.Rows.{AreServices, added as row_added, cleared as rows_cleared, fallen, later, marked as rows_marked}
-use Rattle.scm_runs.proofs.Rows.{LivesIn, by_parts, reported as rows_reported, unasked as rows_unasked}
+use Rattle.scm_runs.proofs.Rows.{LivesIn, by_parts, reported as rows_reported, secured as rows_secured, unasked as rows_unasked}
 use Rattle.scm_model.specs.Found.{if_found}
 use Rattle.scm_rules.proofs.Dues.{next_has}
 use Rattle.scm_runs.proofs.Unasked.{raised_by, spent, ticked_by}
@@ -252,7 +255,7 @@ pub added : (f : Flat) (config : Config) (status : Status) → Sound f
     → check_new config None ≡ 0 → status.kind ≡ config.kind → (status.state == 1) ≡ true
     → HasNoCycle (with_service f config status).services → Sound (with_service f config status)
 added f config status s names displays checked kind state free = record {
-  services = row_added f.next.service f.next.process f.services _ s.services refl names displays checked kind state refl free;
+  services = row_added f.next.service f.next.process f.services _ s.services refl names displays checked kind state (inl refl) refl free;
   handles = s.handles;
   processes = processes_beside f.next.process f.processes f.wanted f.services _ s.processes
       (All-push (HasListed f.processes) f.services _ s.processes.listed refl)
@@ -278,6 +281,35 @@ marked f number s = record {
   deadlines = s.deadlines;
   registrations = s.registrations;
 }
+
+-- a service gets a security descriptor
+pub secured : (f : Flat) (number : ℕ) (security : List ℕ) → IsWritten security → Sound f → Sound (with_security f number security)
+secured f number security written s =
+    let change = secured_if number security in
+    record {
+      services = rows_secured f.next.service f.next.process number security f.services written s.services;
+      handles = s.handles;
+      processes = processes_beside f.next.process f.processes f.wanted f.services _ s.processes
+          (All-map (HasListed f.processes) change f.services (λ k d lt. secured_or (HasListed f.processes) number security
+          (get_or f.services k d) (s.processes.listed k d lt) (s.processes.listed k d lt)))
+          (starts_kept f.processes change f.services (λ process row. still_same process change row
+          (secured_or (λ new. new.number ≡ row.number) number security row refl refl)
+          (secured_or (λ new. new.process ≡ row.process) number security row refl refl)
+          (secured_or (λ new. new.status.state ≡ row.status.state) number security row refl refl)) s.processes.starting)
+          (All-map (IsAskedRight f.processes) change f.services (λ k d lt. secured_or (IsAskedRight f.processes) number security
+          (get_or f.services k d) (s.processes.asked k d lt) (s.processes.asked k d lt)));
+      plans = s.plans;
+      dues = s.dues;
+      deadlines = s.deadlines;
+      registrations = s.registrations;
+    }
+
+-- one that is found, where a descriptor is made for it
+pub secured_found : (f : Flat) (found : Option Service) (asked : Option (List ℕ)) → IfSome asked IsWritten → Sound f
+    → Sound (record f { services = if_found (secured_in found) asked f.services })
+secured_found f found None written s = s
+secured_found f None (Some security) written s = s
+secured_found f (Some row) (Some security) written s = secured f row.number security written s
 
 pub cleared : (f : Flat) → Sound f → Sound (purged f)
 cleared f s =

@@ -43,7 +43,8 @@ use Rattle.scm_runs.proofs.Rows.{fallen_or, unasked_or}
 use Rattle.scm_runs.proofs.Sound.{Sound}
 use Rattle.std.proofs.lemmas.Bool.{and_parts, not-true, or_right}
 use Rattle.scm_model.proofs.Found.{found_either, found_keeps}
-use Rattle.scm_runs.proofs.Founds.{opened_keeps, started_keeps, notify_apart}
+use Rattle.scm_rules.specs.Security.{asked_security, descriptor_in}
+use Rattle.scm_runs.proofs.Founds.{opened_keeps, secured_rows, started_keeps, notify_apart}
 use Rattle.scm_model.specs.Rows.{held_service}
 use Rattle.scm_rules.specs.Change.{new_config}
 use Rattle.scm_rules.specs.Failures.{failed_by}
@@ -259,6 +260,10 @@ old_done l f moment caller (request.Change2 handle asked) append =
     found_keeps (All (IsOld f step)) (λ (row : Service). map (configured_if row.number (level_config asked row)))
     (held_service f caller handle) f.services (all_old f step (λ k d lt. refl))
     (λ row is. old_change f step row.number (level_config asked row) (λ k d lt. refl))
+old_done l f moment caller (request.SetSecurity handle parts bytes) append =
+    let step = Call caller (request.SetSecurity handle parts bytes) append in
+    secured_rows (IsOld f step) (λ row security is. is) (held_service f caller handle)
+    (asked_security f caller handle parts (descriptor_in bytes)) f.services (all_old f step (λ k d lt. refl))
 old_done l f moment caller (request.OpenService handle name access) append =
     let stood = all_old f (Call caller (request.OpenService handle name access) append) (λ k d lt. refl) in
     opened_keeps (λ (g : Flat). All (IsOld f (Call caller (request.OpenService handle name access) append)) g.services)

@@ -81,6 +81,12 @@ configures f (Call caller (request.Change change) append) told number = succeeds
 configures f (Call caller (request.Change2 handle asked) append) told number = succeeds told && is_handle_of f caller handle number
 configures f step told number = false
 
+-- whether a step gives the service a security descriptor with code 0
+abbrev pub secures : Flat → Step → Answer → ℕ → Bool
+secures f (Call caller (request.SetSecurity handle parts bytes) append) told number =
+    succeeds told && is_handle_of f caller handle number
+secures f step told number = false
+
 -- whether a step is a report of the service's current process, its own or by a call
 abbrev pub is_report : Flat → Step → Service → Bool
 is_report f (Report process service status) row = is_reporter f process service row
@@ -95,8 +101,9 @@ fails f (Call caller (request.SetStatus handle status) append) row = is_handle_o
 fails f step row = false
 
 -- a service after a step is the one before it: only its Delete marks it, and only its changes give it another configuration, with another
--- type in its status, under the same name; as long as its current process is the same and reports nothing, so is its status but for the
--- type; only its failures are counted; and whether it is asked to start may change
+-- type in its status, under the same name; only its SetSecurity gives it another security descriptor; as long as its current process is
+-- the same and reports nothing, so is its status but for the type; only its failures are counted; and whether it is asked to start may
+-- change
 pub record IsSameService (f : Flat) (step : Step) (told : Answer) (old new : Service) : Type 0 where
   pub row : new ≡ record old {
     config = new.config;
@@ -105,10 +112,12 @@ pub record IsSameService (f : Flat) (step : Step) (told : Answer) (old new : Ser
     failures = new.failures;
     last_failure = new.last_failure;
     asked = new.asked;
+    security = new.security;
     marked = old.marked || marks f step told old.number;
   }
   pub state : new.process ≡ old.process → is_report f step old ≡ false → new.status ≡ record old.status { kind = new.status.kind }
   pub config : configures f step told old.number ≡ false → (new.config ≡ old.config) × (new.status.kind ≡ old.status.kind)
+  pub security : secures f step told old.number ≡ false → new.security ≡ old.security
   pub name : new.config.name ≡ old.config.name
   pub failures : fails f step old ≡ false → (new.failures ≡ old.failures) × (new.last_failure ≡ old.last_failure)
 
