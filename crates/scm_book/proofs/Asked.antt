@@ -43,7 +43,7 @@ use Rattle.scm_rules.specs.Verdicts.{call_of, done_of, told_refused, verdict}
 use Rattle.scm_runs.proofs.Calls.{by_verdict}
 use Rattle.scm_runs.proofs.Effects.{process_up}
 use Rattle.scm_runs.proofs.Failing.{any_failing_keeps, counted_or, failing_keeps}
-use Rattle.scm_runs.proofs.Founds.{notify_apart, opened_keeps, started_keeps}
+use Rattle.scm_runs.proofs.Founds.{notify_apart, opened_keeps, secured_keeps, started_keeps}
 use Rattle.scm_runs.proofs.Frames.{finished_keeps}
 use Rattle.scm_runs.proofs.Lists.{alone, found_has, found_passes}
 use Rattle.scm_runs.proofs.Processes.{no_current, not_in}
@@ -59,6 +59,8 @@ use Rattle.scm_book.specs.Ringing.{may_host, rings_common, shared_or_nobody}
 use Rattle.scm_book.proofs.Hosting.{decided_still, stays_alone, why_none}
 use Rattle.scm_book.proofs.Stirring.{effect_leaves, still}
 use Rattle.scm_book.proofs.Unstirred.{IsAside, aside_by, rung_kept, stops_another}
+use Rattle.scm_rules.specs.Security.{asked_security, descriptor_in, secured_if}
+use Rattle.scm_rules.proofs.Secured.{secured_or}
 
 -- ## Services in order
 
@@ -168,6 +170,12 @@ marked : (process : ℕ) (numbers : List ℕ) (number : ℕ) (rows : List Servic
     → Asks process numbers (map (marked_if number) rows)
 marked process numbers number rows asks = changed process numbers (marked_if number) rows
     (λ k d lt. record { number = refl; asked = refl; up = λ up. up }) asks
+
+secured : (process : ℕ) (numbers : List ℕ) (number : ℕ) (security : List ℕ) (rows : List Service) → Asks process numbers rows
+    → Asks process numbers (map (secured_if number security) rows)
+secured process numbers number security rows asks = changed process numbers (secured_if number security) rows
+    (λ k d lt. (let row = get_or rows k d in secured_or (IsAlike process row) number security row
+    (record { number = refl; asked = refl; up = λ up. up }) (same process row))) asks
 
 -- services of another process fall
 fell : (process : ℕ) (numbers : List ℕ) (one code : ℕ) (rows : List Service) → (process == one) ≡ false → Asks process numbers rows
@@ -318,6 +326,9 @@ done_asks l f caller (request.Change2 handle asked) process numbers rising right
     found_keeps (Asks process numbers) (λ (row : Service). map (configured_if row.number (level_config asked row)))
     (held_service f caller handle) f.services asks
     (λ row is. configured process numbers row.number (level_config asked row) f.services asks)
+done_asks l f caller (request.SetSecurity handle parts bytes) process numbers rising right quiet asks =
+    secured_keeps (Asks process numbers) (held_service f caller handle) (asked_security f caller handle parts (descriptor_in bytes))
+    f.services asks (λ row security is. secured process numbers row.number security f.services asks)
 done_asks l f caller (request.OpenService handle name access) process numbers rising right quiet asks =
     opened_keeps (λ (g : Flat). Asks process numbers g.services) f caller name access asks (λ row is. asks)
 done_asks l f caller (request.Start handle words) process numbers rising right quiet asks =

@@ -318,6 +318,7 @@ settled_alike l f g is settled_before =
     }
 
 done_alike : (l : Limits) (f : Flat) (caller : ℕ) (asked : Request) → not (is_quiet asked) ≡ false → Alike f (done_of l f caller asked).flat
+done_alike l f caller (request.QuerySecurity handle parts size) quiet = refl
 done_alike l f caller (request.QueryStatus handle) quiet = refl
 done_alike l f caller (request.EnumDependents handle states size) quiet = refl
 done_alike l f caller (request.EnumServices handle kinds states size resume) quiet = refl

@@ -39,6 +39,7 @@ state_after l f moment step append = (step_of l f moment (with_kept step append)
 
 -- calls that only read, that open a handle, or that look for a notification
 abbrev pub is_quiet : Request → Bool
+is_quiet (request.QuerySecurity handle parts size) = true
 is_quiet (request.QueryStatus handle) = true
 is_quiet (request.EnumDependents handle states size) = true
 is_quiet (request.EnumServices handle kinds states size resume) = true

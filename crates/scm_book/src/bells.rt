@@ -173,7 +173,8 @@ fn is_quiet(request: &Request) -> bool
     ensures { result ≡ is_quiet request.now }
 {
     match request {
-        Request::QueryStatus { .. }
+        Request::QuerySecurity { .. }
+        | Request::QueryStatus { .. }
         | Request::EnumDependents { .. }
         | Request::EnumServices { .. }
         | Request::OpenManager { .. }
