@@ -1,7 +1,7 @@
 -- What a request is told answers it.
 use Rattle.std.proofs.Common.{ℕ, ◌≡◌, ◌≤◌, ◌==◌, if◌then◌else◌, true, false, cond, IsTrue, List, [], ◌∷◌, length, Option, None, Some, find}
 use Rattle.std.proofs.Common.{refl, arith, ltb-false}
-use Rattle.std.specs.Prelude.{All, IfSome, Bool, is_some, option_and_then}
+use Rattle.std.specs.Prelude.{All, IfSome, Bool, option_and_then}
 use Rattle.std.proofs.lemmas.Bool.{leb-true}
 use Rattle.std.proofs.lemmas.List.Elements.{All-head, All-tail}
 use Rattle.scm_text.specs.Fold.{same_text}
@@ -23,9 +23,7 @@ use Rattle.scm_model.specs.Notices.{registration_of}
 use Rattle.scm_model.specs.Refused.{refused, zero_process_status}
 use Rattle.scm_model.specs.Rows.{displayed, named}
 use Rattle.scm_calls.specs.Replies.{IsWhole, bytes_needed}
-use Rattle.scm_bodies.specs.Calls.{to_call as call_in_body}
 use Rattle.scm_bodies.specs.Replies.{Answers}
-use Rattle.scm_bodies.proofs.Codecs.{has_call}
 use Rattle.scm_rules.specs.Locks.{principal_name, owner_of}
 use Rattle.scm_rules.specs.OtherName.{display_in, name_in, name_or_empty}
 use Rattle.scm_rules.specs.QueryConfig.{query_config_refusals, query_config_verdict, shown_by, size_in}
@@ -37,6 +35,7 @@ use Rattle.scm_rules.specs.EnumDependents.{dependents_by, enum_dependents_refusa
 use Rattle.scm_rules.specs.EnumServices.{enum_services_refusals, enum_services_verdict, page_of, services_asked}
 use Rattle.scm_rules.specs.Notify.{notice_in, notify_of}
 use Rattle.scm_rules.specs.QueryStatusEx.{process_status_by, query_ex_refusals, query_ex_verdict}
+use Rattle.scm_rules.specs.Security.{query_security_refusals, query_security_verdict, security_by, security_size}
 use Rattle.scm_rules.specs.Valid.{HasShortName}
 use Rattle.scm_rules.specs.Verdicts.{call_of, done_of, told_refused, verdict}
 use Rattle.scm_runs.proofs.Calls.{all_pass, by_verdict}
@@ -58,16 +57,15 @@ listing_fits size rows le = bytes_of size (listing_size rows) (listing_bytes row
 
 -- ## Refusals
 
-pub of_refused : (asked : Request) (code : ℕ) → IsTrue (is_some (call_in_body asked)) → Answers asked (refused asked code)
-of_refused (request.EnumDependents handle states size) code named = (refl, no_bytes size)
-of_refused (request.EnumServices handle kinds states size resume) code named = (refl, no_bytes size)
-of_refused (request.QueryConfig2 handle level size) code named = (refl, no_bytes size)
-of_refused (request.QueryStatusEx handle level size) code named = (refl, no_bytes size)
-of_refused (request.QuerySecurity handle parts size) code named = absurd cc
-of_refused (request.SetSecurity handle parts bytes) code named = absurd cc
-of_refused (request.DisplayName handle name size) code named = (refl, omega arith)
-of_refused (request.KeyName handle name size) code named = (refl, omega arith)
-of_refused asked code named = (refl, tt)
+pub of_refused : (asked : Request) (code : ℕ) → Answers asked (refused asked code)
+of_refused (request.EnumDependents handle states size) code = (refl, no_bytes size)
+of_refused (request.EnumServices handle kinds states size resume) code = (refl, no_bytes size)
+of_refused (request.QueryConfig2 handle level size) code = (refl, no_bytes size)
+of_refused (request.QueryStatusEx handle level size) code = (refl, no_bytes size)
+of_refused (request.QuerySecurity handle parts size) code = (refl, no_bytes size)
+of_refused (request.DisplayName handle name size) code = (refl, omega arith)
+of_refused (request.KeyName handle name size) code = (refl, omega arith)
+of_refused asked code = (refl, tt)
 
 -- a page has what fits
 page_told : (handle kinds states size : ℕ) (resume : Option ℕ) (rows : List Service) (code : ℕ) (more : Bool)
@@ -76,18 +74,16 @@ page_told : (handle kinds states size : ℕ) (resume : Option ℕ) (rows : List 
 page_told handle kinds states size resume rows code true = (refl, listing_fits size (page_in size rows) (page_fits size rows))
 page_told handle kinds states size resume rows code false = (refl, no_bytes size)
 
-of_told : (f : Flat) (caller : ℕ) (asked : Request) (code : ℕ) → IsTrue (is_some (call_in_body asked))
-    → Answers asked (told_refused f caller asked code)
-of_told f caller (request.DisplayName handle name size) code named = (refl, omega arith)
-of_told f caller (request.KeyName handle name size) code named = (refl, omega arith)
-of_told f caller (request.EnumDependents handle states size) code named = (refl, no_bytes size)
-of_told f caller (request.EnumServices handle kinds states size resume) code named =
+of_told : (f : Flat) (caller : ℕ) (asked : Request) (code : ℕ) → Answers asked (told_refused f caller asked code)
+of_told f caller (request.DisplayName handle name size) code = (refl, omega arith)
+of_told f caller (request.KeyName handle name size) code = (refl, omega arith)
+of_told f caller (request.EnumDependents handle states size) code = (refl, no_bytes size)
+of_told f caller (request.EnumServices handle kinds states size resume) code =
     page_told handle kinds states size resume (services_asked f kinds states resume) code (code == ERROR_MORE_DATA)
-of_told f caller (request.QueryConfig2 handle level size) code named = (refl, no_bytes size)
-of_told f caller (request.QueryStatusEx handle level size) code named = (refl, no_bytes size)
-of_told f caller (request.QuerySecurity handle parts size) code named = absurd cc
-of_told f caller (request.SetSecurity handle parts bytes) code named = absurd cc
-of_told f caller asked code named = (refl, tt)
+of_told f caller (request.QueryConfig2 handle level size) code = (refl, no_bytes size)
+of_told f caller (request.QueryStatusEx handle level size) code = (refl, no_bytes size)
+of_told f caller (request.QuerySecurity handle parts size) code = (refl, no_bytes size)
+of_told f caller asked code = (refl, tt)
 
 -- ## What is told whole
 
@@ -108,6 +104,14 @@ level_fits : (f : Flat) (caller handle level size : ℕ) → size ≤ 8192 → q
 level_fits f caller handle level size most e =
     let p = all_pass (query_config2_refusals f caller handle level size) (refl, (refl, (refl, (refl, tt)))) e in
     let le = ltb-false size (level_size f caller handle level) p.1.1.1.0 in
+    record { is = refl; whole = omega (arith, most, le) }
+
+-- so is a security descriptor
+security_fits : (f : Flat) (caller handle parts size : ℕ) → size ≤ 262144 → query_security_verdict f caller handle parts size ≡ 0
+    → IsWhole size size (security_by f caller handle parts)
+security_fits f caller handle parts size most e =
+    let p = all_pass (query_security_refusals f caller handle parts size) (refl, (refl, (refl, (refl, tt)))) e in
+    let le = ltb-false size (security_size f caller handle parts) p.1.1.1.0 in
     record { is = refl; whole = omega (arith, most, le) }
 
 -- so are services, and a status with its process
@@ -195,8 +199,8 @@ of_done l f caller (request.EnumServices handle kinds states size resume) append
 of_done l f caller (request.QueryStatusEx handle level size) append short told range e =
     let status = process_status_by f caller handle in
     (refl, bytes_of size 36 (process_status_bytes status) (length_status status) (status_fits f caller handle level size e))
-of_done l f caller (request.QuerySecurity handle parts size) append short told range e = absurd cc
-of_done l f caller (request.SetSecurity handle parts bytes) append short told range e = absurd cc
+of_done l f caller (request.QuerySecurity handle parts size) append short told range e =
+    (refl, security_fits f caller handle parts size (leb-true size 262144 range) e)
 of_done l f caller (request.GetNotify handle) append short told range e =
     short_notice handle (option_and_then (registration_of f) (notify_of f caller handle)) (short_found f (notify_of f caller handle) told)
 of_done l f caller asked append short told range e = (refl, tt)
@@ -207,4 +211,4 @@ of_call l f caller asked append short told range =
     by_verdict (λ r. Answers asked r.reply) (verdict l f caller asked append)
     (told_refused f caller asked (verdict l f caller asked append)) f (done_of l f caller asked)
     (of_done l f caller asked append short told range)
-    (λ e. of_told f caller asked (verdict l f caller asked append) (has_call asked range))
+    (λ e. of_told f caller asked (verdict l f caller asked append))

@@ -1,5 +1,5 @@
 -- Every reply answers its request.
-use Rattle.std.specs.Prelude.{ℕ, ◌≡◌, IsTrue, List, Option, is_some}
+use Rattle.std.specs.Prelude.{ℕ, ◌≡◌, List, Option}
 use Rattle.scm_model.specs.declared.flat.Flat.{Flat}
 use Rattle.scm_model.specs.declared.calls.Reply.{Reply}
 use Rattle.scm_model.specs.declared.calls.Reply.TheVariants as reply
@@ -11,7 +11,6 @@ use Rattle.scm_model.specs.declared.steps.Step.{Step}
 use Rattle.scm_model.specs.declared.steps.Step.TheVariants.{Call, EndStart, Raised}
 use Rattle.scm_model.specs.Entries.{Entry}
 use Rattle.scm_model.specs.Refused.{refused}
-use Rattle.scm_bodies.specs.Calls.{to_call}
 use Rattle.scm_bodies.specs.Replies.{Answers}
 
 -- a reply, if there is one, answers the request
@@ -42,6 +41,6 @@ RepliesRightly step told = HasNoReply told
 abbrev pub LawOfAnswering : Flat → Entry → Answer → Flat → Type 0
 LawOfAnswering before e told after = RepliesRightly e.1 told
 
--- if a call that is served is refused with no more than a code, this reply too answers the request
+-- if a call is refused with no more than a code, this reply too answers the request
 abbrev pub RefusalsAnswer : Type 0
-RefusalsAnswer = (asked : Request) (code : ℕ) → IsTrue (is_some (to_call asked)) → Answers asked (refused asked code)
+RefusalsAnswer = (asked : Request) (code : ℕ) → Answers asked (refused asked code)

@@ -3,7 +3,8 @@ use Rattle.std.proofs.Common.{◌≡◌, ℕ, List, map, length, IsTrue, Option,
 use Rattle.std.specs.Prelude.{IfSome, is_some}
 use Rattle.std.specs.List.{AllByRecursion}
 use Rattle.std.proofs.lemmas.Bool.{le-leb, leb-true}
-use Rattle.scm_model.specs.declared.codes.TheConstants.{MAX_CONFIG_SIZE, MAX_ENUM_SIZE, MAX_LOCK_STATUS_SIZE, SC_MAX_ARGUMENTS}
+use Rattle.scm_model.specs.declared.codes.TheConstants.{MAX_CONFIG_SIZE, MAX_ENUM_SIZE, MAX_LOCK_STATUS_SIZE, MAX_SECURITY_SIZE}
+use Rattle.scm_model.specs.declared.codes.TheConstants.{SC_MAX_ARGUMENTS}
 use Rattle.scm_model.specs.declared.calls.Request.{Request}
 use Rattle.scm_model.specs.declared.calls.Request.TheVariants as request
 use Rattle.scm_model.specs.declared.calls.Reply.{Reply}
@@ -27,6 +28,9 @@ use Rattle.scm_calls_cfg.specs.Requests.{config_shape, config_from}
 use Rattle.scm_calls_enum.specs.declared.calls.Call.{Call as EnumCall}
 use Rattle.scm_calls_enum.specs.declared.calls.Call.TheVariants as enum
 use Rattle.scm_calls_enum.specs.Requests.{enum_shape, enum_from}
+use Rattle.scm_calls_sec.specs.declared.calls.Call.{Call as SecurityCall}
+use Rattle.scm_calls_sec.specs.declared.calls.Call.TheVariants as security
+use Rattle.scm_calls_sec.specs.Requests.{security_shape, security_from}
 use Rattle.scm_bodies.specs.declared.bodies.Call.{Call}
 use Rattle.scm_bodies.specs.declared.bodies.Call.TheVariants as call
 use Rattle.scm_bodies.specs.Calls.{to_call}
@@ -55,10 +59,15 @@ enum_kept : (c : EnumCall) (vs : List Value) → values_of (enum_from c vs) ≡ 
 enum_kept enum.EnumDependents vs = refl
 enum_kept _ vs = refl
 
+security_kept : (c : SecurityCall) (vs : List Value) → values_of (security_from c vs) ≡ fitted (security_shape c) vs
+security_kept security.QuerySecurity vs = refl
+security_kept _ vs = refl
+
 request_kept : (c : Call) (vs : List Value) → values_of (request_from c vs) ≡ fitted (shape_of c) vs
 request_kept (call.Plain c) vs = plain_kept c vs
 request_kept (call.Config c) vs = config_kept c vs
 request_kept (call.Enum c) vs = enum_kept c vs
+request_kept (call.Security c) vs = security_kept c vs
 
 plain_named : (c : PlainCall) (vs : List Value) → to_call (plain_from c vs) ≡ Some (call.Plain c)
 plain_named plain.Close vs = refl
@@ -72,26 +81,30 @@ enum_named : (c : EnumCall) (vs : List Value) → to_call (enum_from c vs) ≡ S
 enum_named enum.EnumDependents vs = refl
 enum_named _ vs = refl
 
+security_named : (c : SecurityCall) (vs : List Value) → to_call (security_from c vs) ≡ Some (call.Security c)
+security_named security.QuerySecurity vs = refl
+security_named _ vs = refl
+
 request_named : (c : Call) (vs : List Value) → to_call (request_from c vs) ≡ Some c
 request_named (call.Plain c) vs = plain_named c vs
 request_named (call.Config c) vs = config_named c vs
 request_named (call.Enum c) vs = enum_named c vs
+request_named (call.Security c) vs = security_named c vs
 
 pub request_codec : Codec shape_of request_from to_call values_of
 request_codec = record { again = request_again; kept = request_kept; named = request_named }
 
--- a request that is in its ranges has a call
-pub has_call : (r : Request) → IsTrue (in_range r) → IsTrue (is_some (to_call r))
-has_call (request.QuerySecurity handle parts size) range = absurd cc
-has_call (request.SetSecurity handle parts bytes) range = absurd cc
-has_call _ range = refl
+-- every request has a call
+pub has_call : (r : Request) → IsTrue (is_some (to_call r))
+has_call (request.Close handle) = refl
+has_call _ = refl
 
 content : {A : Type 0} (o : Option A) → IsTrue (is_some o) → (x : A) × (o ≡ Some x)
 content None h = absurd cc
 content (Some x) h = (x, refl)
 
-pub of_a_call : (r : Request) → IsTrue (in_range r) → (c : Call) × (to_call r ≡ Some c)
-of_a_call r range = content (to_call r) (has_call r range)
+pub of_a_call : (r : Request) → (c : Call) × (to_call r ≡ Some c)
+of_a_call r = content (to_call r) (has_call r)
 
 -- ## A handle and numbers
 
@@ -117,12 +130,18 @@ enum_by_handle : (c : EnumCall) (vs : List Value) → IsTrue (is_handle_body (en
 enum_by_handle enum.EnumServices vs h = absurd cc
 enum_by_handle _ vs h = refl
 
+security_by_handle : (c : SecurityCall) (vs : List Value) → IsTrue (is_handle_body (security_shape c))
+    → security_from c (handle_body_values (handle_body_of vs)) ≡ security_from c vs
+security_by_handle security.QuerySecurity vs h = refl
+security_by_handle security.SetSecurity vs h = absurd cc
+
 -- a body of a handle and at most two numbers asks what these ask
 pub asked_by_handle : (c : Call) (vs : List Value) → IsTrue (is_handle_body (shape_of c))
     → request_from c (handle_body_values (handle_body_of vs)) ≡ request_from c vs
 asked_by_handle (call.Plain c) vs h = plain_by_handle c vs h
 asked_by_handle (call.Config c) vs h = config_by_handle c vs h
 asked_by_handle (call.Enum c) vs h = enum_by_handle c vs h
+asked_by_handle (call.Security c) vs h = security_by_handle c vs h
 
 -- ## Replies
 
@@ -153,19 +172,18 @@ few None h = refl
 few (Some words) h = le-leb (length words) SC_MAX_ARGUMENTS h.few
 
 -- what a body of a call can hold is in its ranges
-pub held_ranged : (r : Request) → IsTrue (is_some (to_call r)) → CanHoldAll (shape_in shape_of (to_call r)) (values_of r)
-    → IsTrue (in_range r)
-held_ranged (request.QueryLock handle size) named h = le-leb size MAX_LOCK_STATUS_SIZE h.1.0.in_range
-held_ranged (request.QueryConfig handle size) named h = le-leb size MAX_CONFIG_SIZE h.1.0.in_range
-held_ranged (request.EnumDependents handle states size) named h = le-leb size MAX_ENUM_SIZE h.1.1.0.in_range
-held_ranged (request.EnumServices handle kinds states size resume) named h = le-leb size MAX_ENUM_SIZE h.1.1.1.0.in_range
-held_ranged (request.QueryStatusEx handle level size) named h = le-leb size MAX_CONFIG_SIZE h.1.1.0.in_range
-held_ranged (request.Change2 handle asked) named h = h.1.0.in_range
-held_ranged (request.QueryConfig2 handle level size) named h = le-leb size MAX_CONFIG_SIZE h.1.1.0.in_range
-held_ranged (request.Start handle words) named h = few words h.1.0
-held_ranged (request.QuerySecurity handle parts size) named h = absurd cc
-held_ranged (request.SetSecurity handle parts bytes) named h = absurd cc
-held_ranged _ named h = refl
+pub held_ranged : (r : Request) → CanHoldAll (shape_in shape_of (to_call r)) (values_of r) → IsTrue (in_range r)
+held_ranged (request.QueryLock handle size) h = le-leb size MAX_LOCK_STATUS_SIZE h.1.0.in_range
+held_ranged (request.QueryConfig handle size) h = le-leb size MAX_CONFIG_SIZE h.1.0.in_range
+held_ranged (request.EnumDependents handle states size) h = le-leb size MAX_ENUM_SIZE h.1.1.0.in_range
+held_ranged (request.EnumServices handle kinds states size resume) h = le-leb size MAX_ENUM_SIZE h.1.1.1.0.in_range
+held_ranged (request.QueryStatusEx handle level size) h = le-leb size MAX_CONFIG_SIZE h.1.1.0.in_range
+held_ranged (request.Change2 handle asked) h = h.1.0.in_range
+held_ranged (request.QueryConfig2 handle level size) h = le-leb size MAX_CONFIG_SIZE h.1.1.0.in_range
+held_ranged (request.Start handle words) h = few words h.1.0
+held_ranged (request.QuerySecurity handle parts size) h = le-leb size MAX_SECURITY_SIZE h.1.1.0.in_range
+held_ranged (request.SetSecurity handle parts bytes) h = le-leb (length bytes) MAX_SECURITY_SIZE h.1.1.0.in_range
+held_ranged _ h = refl
 
 words_held : (words : Option (List (List ℕ))) → IsTrue (are_few words) → IfSome words (λ words. AllByRecursion IsSent words)
     → IfSome words AreSent
@@ -199,6 +217,20 @@ ranged_held (request.QueryStatusEx handle level size) range h = (
   (
     h.1.0,
     (record { in_range = leb-true size MAX_CONFIG_SIZE range; small = h.1.1.0 }, tt),
+  ),
+)
+ranged_held (request.QuerySecurity handle parts size) range h = (
+  h.0,
+  (
+    h.1.0,
+    (record { in_range = leb-true size MAX_SECURITY_SIZE range; small = h.1.1.0 }, tt),
+  ),
+)
+ranged_held (request.SetSecurity handle parts bytes) range h = (
+  h.0,
+  (
+    h.1.0,
+    (record { in_range = leb-true (length bytes) MAX_SECURITY_SIZE range; small = h.1.1.0 }, tt),
   ),
 )
 ranged_held (request.Change2 handle asked) range h = (h.0, (record { in_range = range; sent = h.1.0 }, tt))

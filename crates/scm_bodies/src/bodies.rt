@@ -31,6 +31,7 @@ pub enum Call {
     Plain(scm_calls::Call),
     Config(scm_calls_cfg::Call),
     Enum(scm_calls_enum::Call),
+    Security(scm_calls_sec::Call),
 }
 
 /// The call of an opnum, if it is served.
@@ -43,8 +44,11 @@ pub fn call_at(opnum: u16) -> Option<Call>
     if let Some(call) = scm_calls_cfg::call_at(opnum) {
         return Some(Call::Config(call));
     }
-    let call = scm_calls_enum::call_at(opnum)?;
-    Some(Call::Enum(call))
+    if let Some(call) = scm_calls_enum::call_at(opnum) {
+        return Some(Call::Enum(call));
+    }
+    let call = scm_calls_sec::call_at(opnum)?;
+    Some(Call::Security(call))
 }
 
 /// The call of a request.
@@ -57,8 +61,11 @@ pub fn call_of(request: &Request) -> Option<Call>
     if let Some(call) = scm_calls_cfg::call_of(request) {
         return Some(Call::Config(call));
     }
-    let call = scm_calls_enum::call_of(request)?;
-    Some(Call::Enum(call))
+    if let Some(call) = scm_calls_enum::call_of(request) {
+        return Some(Call::Enum(call));
+    }
+    let call = scm_calls_sec::call_of(request)?;
+    Some(Call::Security(call))
 }
 
 /// The kind of a call's replies.
@@ -69,6 +76,7 @@ pub fn reply_kind(call: Call) -> ReplyKind
         Call::Plain(call) => scm_calls::reply_kind(call),
         Call::Config(call) => scm_calls_cfg::reply_kind(call),
         Call::Enum(call) => scm_calls_enum::reply_kind(call),
+        Call::Security(call) => scm_calls_sec::reply_kind(call),
     }
 }
 
@@ -79,6 +87,7 @@ fn shape_of(call: Call) -> &'static [Item]
         Call::Plain(call) => scm_calls::request_shape(call),
         Call::Config(call) => scm_calls_cfg::request_shape(call),
         Call::Enum(call) => scm_calls_enum::request_shape(call),
+        Call::Security(call) => scm_calls_sec::request_shape(call),
     }
 }
 
@@ -89,6 +98,7 @@ fn asked_by(alloc: Global, call: Call, values: &mut Values) -> Request
         Call::Plain(call) => scm_calls::request_of(alloc, call, values),
         Call::Config(call) => scm_calls_cfg::request_of(alloc, call, values),
         Call::Enum(call) => scm_calls_enum::request_of(call, values),
+        Call::Security(call) => scm_calls_sec::request_of(alloc, call, values),
     }
 }
 
@@ -100,6 +110,7 @@ fn asked_by_handle_body(call: Call, body: HandleBody) -> Request
         Call::Plain(call) => scm_calls::request_of_handle_body(call, body),
         Call::Config(call) => scm_calls_cfg::request_of_handle_body(call, body),
         Call::Enum(call) => scm_calls_enum::request_of_handle_body(call, body),
+        Call::Security(call) => scm_calls_sec::request_of_handle_body(call, body),
     }
 }
 
@@ -192,7 +203,8 @@ fn put_request(request: &Request, out: Buffer<u8>) -> Result<Buffer<u8>, (OutOfM
     match call_of(request) {
         Some(Call::Plain(_)) => scm_calls::put_request(request, out),
         Some(Call::Config(_)) => scm_calls_cfg::put_request(request, out),
-        Some(Call::Enum(_)) | None => scm_calls_enum::put_request(request, out),
+        Some(Call::Enum(_)) => scm_calls_enum::put_request(request, out),
+        Some(Call::Security(_)) | None => scm_calls_sec::put_request(request, out),
     }
 }
 

@@ -103,6 +103,7 @@ asked_size (request.EnumDependents handle states size) = size
 asked_size (request.EnumServices handle kinds states size resume) = size
 asked_size (request.QueryStatusEx handle level size) = size
 asked_size (request.QueryConfig2 handle level size) = size
+asked_size (request.QuerySecurity handle parts size) = size
 asked_size _ = 0
 
 -- how many bytes a text takes in a caller's buffer, with its last 0

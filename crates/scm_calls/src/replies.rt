@@ -332,6 +332,7 @@ pub fn asked_size(request: &Request) -> u32
     match request {
         Request::QueryConfig { size, .. }
         | Request::QueryConfig2 { size, .. }
+        | Request::QuerySecurity { size, .. }
         | Request::EnumDependents { size, .. }
         | Request::EnumServices { size, .. }
         | Request::QueryStatusEx { size, .. } => *size,

@@ -20,7 +20,7 @@ use Rattle.scm_shapes.specs.declared.item.Item.TheVariants as item
 use Rattle.scm_shapes.specs.declared.item.Value.{Value}
 use Rattle.scm_shapes.specs.declared.item.Value.TheVariants as value
 use Rattle.scm_shapes.specs.Ranges.{within_at}
-use Rattle.scm_shapes.specs.Sized.{sized_at, put_sized}
+use Rattle.scm_shapes.specs.Sized.{sized_array_at, put_sized_array, sized_at, put_sized}
 use Rattle.scm_shapes.specs.Words.{words_at, put_words}
 use Rattle.scm_shapes.specs.Shapes.{item_at, values_at, leave_open, closed_at, body_values, put_value, put_values, body_bytes}
 use Rattle.scm_shapes.specs.Bodies.{ItemStands, ValuesStand, IsBody}
@@ -44,6 +44,20 @@ both_put : {A B C : Type 0} (first_at : List ℕ → ℕ → Result (A × ℕ) B
     → IsPutAs (λ body place. first_at body place >>= λ x. second_at body x.1 >>= λ y. finish x y) (λ d. q (p d)) c
 both_put {A = A} first_at second_at finish p q a b c law1 law2 join = joined_put first_at
     (λ (x : A). second_at) finish p q a b c law1 law2 join
+
+filled_whole : (held : List ℕ) → filled held (length held) ≡ held
+filled_whole held =
+    let none : length held - length held ≡ 0 = omega arith in
+    rw none (append-nil held)
+
+sized_array_put : (most : ℕ) (held : List ℕ) → length held ≤ most → length held < 2 ^ 32
+    → IsPutAs (sized_array_at most) (put_sized_array held) held
+unfolding sized_array_at
+sized_array_put most held le lt =
+    let bytes : IsPutAs bytes_at (put_bytes held (length held)) held =
+    subst (IsPutAs bytes_at (put_bytes held (length held))) (filled_whole held) (bytes_put held (length held) (omega arith) lt) in
+    both_put bytes_at (within_at most) _ (put_bytes held (length held)) (put_number (length held)) held (length held) held bytes
+    (within_put most (length held) le lt) (λ m n. rw (eq-eqb (length held) (length held) refl) refl)
 
 no_sized_put : IsPutAs sized_at (put_sized None) None
 unfolding sized_at put_sized
@@ -92,6 +106,8 @@ item_put item.UnkeptText value.UnkeptText h = made_put (λ text. value.UnkeptTex
 item_put item.SomeNumber (value.SomeNumber n) h = made_put value.SomeNumber some_number_at (put_some_number n) n (any_number_put n h)
 item_put item.SomeBytes (value.SomeBytes held) h = made_put value.SomeBytes sized_at (put_sized held) held (sized_put held h)
 item_put item.UnkeptBytes value.UnkeptBytes h = made_put (λ held. value.UnkeptBytes) sized_at (put_sized None) None no_sized_put
+item_put (item.SizedArray most) (value.SizedArray held) h = made_put value.SizedArray (sized_array_at most) (put_sized_array held) held
+    (sized_array_put most held h.in_range h.small)
 item_put item.Bytes (value.Bytes size held) h = bytes_item_put size held h
 item_put item.Words (value.Words words) h = made_put value.Words words_at (put_words words) words (words_put words h)
 item_put item.Lock (value.Lock held owner seconds) h =
@@ -139,6 +155,7 @@ item_ranged item.UnkeptText body place v after h = rw h.is tt
 item_ranged item.SomeNumber body place v after h = rw h.is (pointed_small h.there.item h.content h.there.is)
 item_ranged item.SomeBytes body place v after h = rw h.is (pointed_short h.there.held_stands.item h.content h.there.held_stands.is)
 item_ranged item.UnkeptBytes body place v after h = rw h.is tt
+item_ranged (item.SizedArray most) body place v after h = rw h.is (record { in_range = h.there.in_range; small = h.there.held_stands.is.small })
 item_ranged item.Bytes body place v after h = rw h.is h.there.is.small
 item_ranged item.Words body place v after h = rw h.is (words_sent body place h.content after h.there)
 item_ranged item.Lock body place v after h =
@@ -172,9 +189,7 @@ ranged_if shape body (Err e) fits gives = tt
 -- ## What a body holds is read back unchanged
 
 filled_same : (held : List ℕ) → filled (take (length held) held) (length held) ≡ held
-filled_same held =
-    let none : length held - length held ≡ 0 = omega arith in
-    rw (take-length held, none) (append-nil held)
+filled_same held = rw (take-length held) (filled_whole held)
 
 item_same : (kind : Item) (body : List ℕ) (place : ℕ) (v : Value) (after : ℕ) → ItemStands kind body place v after → as_read v ≡ v
 item_same item.Bytes body place v after h = rw (h.is, filled_same h.content) refl

@@ -23,6 +23,7 @@ value_carried item.UnkeptText value.UnkeptText h = h
 value_carried item.SomeNumber (value.SomeNumber n) h = h
 value_carried item.SomeBytes (value.SomeBytes held) h = h
 value_carried item.UnkeptBytes value.UnkeptBytes h = h
+value_carried (item.SizedArray most) (value.SizedArray held) h = h.small
 value_carried item.Bytes (value.Bytes size held) h = h
 value_carried item.Words (value.Words words) h = words_carried words h
 value_carried item.Lock (value.Lock held owner seconds) h = h

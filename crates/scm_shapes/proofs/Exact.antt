@@ -1,6 +1,6 @@
 -- A body is read exactly where it is one of its shape.
-use Rattle.std.proofs.Common.{◌≡◌, ℕ, Bool, true, false, cond, inl, inr, List, [], ◌∷◌, length, Option, Some, None, Result, Ok, Err, refl}
-use Rattle.std.proofs.Common.{subst}
+use Rattle.std.proofs.Common.{◌≡◌, ℕ, Bool, true, false, cond, eqb, inl, inr, List, [], ◌∷◌, length, Option, Some, None, Result, Ok, Err}
+use Rattle.std.proofs.Common.{refl, sym, subst, arith}
 use Rattle.std.specs.Prelude.{◌⊎◌, IfOk, IsTrue}
 use Rattle.std.proofs.lemmas.Bool.{eqb-true, eq-eqb}
 use Rattle.ndr_body.specs.declared.fault.BodyFault.{BodyFault}
@@ -18,12 +18,12 @@ use Rattle.scm_shapes.specs.declared.item.Item.TheVariants as item
 use Rattle.scm_shapes.specs.declared.item.Value.{Value}
 use Rattle.scm_shapes.specs.declared.item.Value.TheVariants as value
 use Rattle.scm_shapes.specs.Ranges.{within_at, WithinStands}
-use Rattle.scm_shapes.specs.Sized.{is_size, sized_at}
+use Rattle.scm_shapes.specs.Sized.{is_size, sized_array_at, sized_at}
 use Rattle.scm_shapes.specs.Words.{words_at}
 use Rattle.scm_shapes.specs.Shapes.{item_at, values_at, leave_open, closed_at, body_values, first_as, fitted}
-use Rattle.scm_shapes.specs.Bodies.{IsSize, SizedStands, WordsStand, ItemStands, ValuesStand, IsBody}
+use Rattle.scm_shapes.specs.Bodies.{IsSize, SizedArrayStands, SizedStands, WordsStand, ItemStands, ValuesStand, IsBody}
 use Rattle.scm_shapes.specs.Records.{RecordStands, record_at, owners, lock_of, lock_at, shown_told, shown_from, shown_at}
-use Rattle.scm_shapes.proofs.Ranges.{guard_true}
+use Rattle.scm_shapes.proofs.Ranges.{guard_true, within_found, within_read}
 use Rattle.scm_shapes.proofs.Argv.{words_found, words_read}
 use Rattle.scm_shapes.proofs.Recorded.{record_exactly}
 use Rattle.scm_shapes.specs.Levels.{info_at, InfoStands}
@@ -31,6 +31,34 @@ use Rattle.scm_shapes.proofs.Parts.{Exactly, number_exactly, within_exactly, mad
 use Rattle.scm_shapes.proofs.Asked.{info_exactly}
 
 -- ## Bytes with their size
+
+sized_array_found : (most : ℕ) (body : List ℕ) (place : ℕ) (x : List ℕ × ℕ) → IsBytes body → sized_array_at most body place ≡ Ok x
+    → SizedArrayStands most body place x.0 x.1
+unfolding sized_array_at
+sized_array_found most body place x fits e =
+    let a = bind_ok (bytes_at body place) (λ held. within_at most body held.1 >>= λ size. cond (eqb (length held.0) size.0)
+    (Ok (held.0, size.1)) (Err (BadCount (aligned held.1)))) x e in
+    let b = bind_ok (within_at most body a.0.1) (λ size. cond (eqb (length a.0.0) size.0) (Ok (a.0.0, size.1))
+    (Err (BadCount (aligned a.0.1)))) x a.2 in
+    let g = guard_true (eqb (length a.0.0) b.0.0) (BadCount (aligned a.0.1)) (a.0.0, b.0.1) x b.2 in
+    let same : length a.0.0 ≡ b.0.0 = eqb-true (length a.0.0) b.0.0 g.0 in
+    let size = within_found most body a.0.1 b.0 fits b.1 in
+    subst (λ (y : List ℕ × ℕ). SizedArrayStands most body place y.0 y.1) g.1 (record {
+      in_range = omega (arith, same, size.in_range);
+      behind_held = a.0.1;
+      held_stands = bytes_spelled body (aligned place) (aligned place) a.0 fits a.1;
+      size_stands = subst (λ (n : ℕ). Stands IsNumber body a.0.1 n b.0.1) (sym same) size.stands;
+    })
+
+sized_array_read : (most : ℕ) (body : List ℕ) (place : ℕ) (held : List ℕ) (after : ℕ) → SizedArrayStands most body place held after
+    → sized_array_at most body place ≡ Ok (held, after)
+unfolding sized_array_at
+sized_array_read most body place held after h =
+    rw (
+      bytes_read body (aligned place) (aligned place) held h.behind_held h.held_stands,
+      within_read most body h.behind_held (length held) after h.size_stands h.in_range,
+      eq-eqb (length held) (length held) refl,
+    ) refl
 
 size_is : (held : Option (List ℕ)) (size : ℕ) → is_size held size ≡ true → IsSize held size
 size_is None size e = tt
@@ -123,6 +151,12 @@ item_exactly item.UnkeptBytes body fits =
           λ place v after e. sized_found body place (v, after) fits e;
       read = λ place v after s. sized_read body place v after s;
     })
+item_exactly (item.SizedArray most) body fits =
+    made_exactly value.SizedArray (sized_array_at most) (SizedArrayStands most) body
+    (record {
+      found = λ place v after e. sized_array_found most body place (v, after) fits e;
+      read = λ place v after s. sized_array_read most body place v after s;
+    })
 item_exactly item.Bytes body fits =
     made_exactly (λ held. value.Bytes (length held) held) bytes_at (Stands IsBytesOf) body
     (record {
@@ -205,6 +239,7 @@ first_fits item.UnkeptText body place v vs after h = rw h.is refl
 first_fits item.SomeNumber body place v vs after h = rw h.is refl
 first_fits item.SomeBytes body place v vs after h = rw h.is refl
 first_fits item.UnkeptBytes body place v vs after h = rw h.is refl
+first_fits (item.SizedArray most) body place v vs after h = rw h.is refl
 first_fits item.Bytes body place v vs after h = rw h.is refl
 first_fits item.Words body place v vs after h = rw h.is refl
 first_fits item.Lock body place v vs after h = rw h.is refl

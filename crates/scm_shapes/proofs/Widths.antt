@@ -9,7 +9,7 @@ use Rattle.ndr_body.proofs.Lengths.{length_put_number, length_put_handle, length
 use Rattle.ndr_body.proofs.Lengths.{length_no_text, length_some_text, length_no_number, length_some_number}
 use Rattle.scm_shapes.specs.declared.item.Value.{Value}
 use Rattle.scm_shapes.specs.declared.item.Value.TheVariants as value
-use Rattle.scm_shapes.specs.Sized.{put_sized}
+use Rattle.scm_shapes.specs.Sized.{put_sized_array, put_sized}
 use Rattle.scm_shapes.specs.Each.{put_each}
 use Rattle.scm_shapes.specs.Words.{put_referents, put_list, put_words}
 use Rattle.scm_shapes.specs.Records.{put_mark, put_marks, put_record, shown_texts}
@@ -17,14 +17,19 @@ use Rattle.scm_shapes.specs.Shapes.{put_value, put_values, body_bytes}
 use Rattle.scm_shapes.proofs.Grown.{length_info}
 use Rattle.scm_shapes.specs.Widths.{text_width, end_of, record_width, width_of}
 
+length_sized_array : (held : List ℕ) (d : Draft) → length (put_sized_array held d).bytes ≡ aligned (length d.bytes)
+    + width_of (value.SizedArray held)
+length_sized_array held d = omega (
+  arith,
+  length_put_bytes held (length held) d (omega arith),
+  length_put_number (length held) (put_bytes held (length held) d),
+)
+
 length_sized : (held : Option (List ℕ)) (d : Draft) → length (put_sized held d).bytes ≡ aligned (length d.bytes)
     + width_of (value.SomeBytes held)
 unfolding put_sized
 length_sized None d = omega (arith, length_put_number 0 d, length_put_number 0 (put_number 0 d))
-length_sized (Some held) d =
-    let d1 = put_referent d in
-    let d2 = put_bytes held (length held) d1 in
-    omega (arith, length_put_referent d, length_put_bytes held (length held) d1 (omega arith), length_put_number (length held) d2)
+length_sized (Some held) d = omega (arith, length_put_referent d, length_sized_array held (put_referent d))
 
 -- texts behind a place that 4 divides
 length_each : (texts : List (List ℕ)) (d : Draft) (base k : ℕ) → length d.bytes ≡ aligned base + k
@@ -89,6 +94,7 @@ length_value (value.SomeNumber None) d = length_no_number d
 length_value (value.SomeNumber (Some number)) d = length_some_number number d
 length_value (value.SomeBytes held) d = length_sized held d
 length_value value.UnkeptBytes d = length_sized None d
+length_value (value.SizedArray held) d = length_sized_array held d
 length_value (value.Bytes size held) d = length_put_bytes (take size held) size d (omega (arith, length-take size held))
 length_value (value.Words words) d = length_words words d
 length_value (value.Info asked) d = length_info asked d
@@ -135,6 +141,9 @@ grows_each (text ∷ texts) d = omega (arith, grows_text text d, grows_each text
 pub grows_counted : (held : List ℕ) (d : Draft) → length d.bytes ≤ length (put_bytes held (length held) d).bytes
 grows_counted held d = omega (arith, length_put_bytes held (length held) d (omega arith))
 
+pub grows_sized_array : (held : List ℕ) (d : Draft) → length d.bytes ≤ length (put_sized_array held d).bytes
+grows_sized_array held d = omega (arith, length_sized_array held d)
+
 pub grows_sized : (held : Option (List ℕ)) (d : Draft) → length d.bytes ≤ length (put_sized held d).bytes
 grows_sized held d = omega (arith, length_sized held d)
 
@@ -159,6 +168,7 @@ pub ruleset grows = (
   grows_value,
   grows_values,
   grows_words,
+  grows_sized_array,
   grows_sized,
   grows_counted,
 )

@@ -15,6 +15,13 @@ use Rattle.scm_shapes.specs.Shapes.{leave_open}
 
 -- ## Bytes with their size, and words
 
+-- bytes, and their length of at most so much after them
+pub record SizedArrayStands (most : ℕ) (bytes : List ℕ) (place : ℕ) (held : List ℕ) (after : ℕ) : Type 0 where
+  pub in_range : length held ≤ most
+  pub behind_held : ℕ
+  pub held_stands : Stands IsBytesOf bytes place held behind_held
+  pub size_stands : Stands IsNumber bytes behind_held (length held) after
+
 -- a size that follows bytes is their length, or any number if there are none
 abbrev pub IsSize : Option (List ℕ) → ℕ → Type 0
 IsSize None size = Unit {0}
@@ -64,6 +71,7 @@ ItemStands item.UnkeptText = Holds (λ text. value.UnkeptText) (Stands (IsPointe
 ItemStands item.SomeNumber = Holds value.SomeNumber (Stands (IsPointed IsNumber))
 ItemStands item.SomeBytes = Holds value.SomeBytes SizedStands
 ItemStands item.UnkeptBytes = Holds (λ held. value.UnkeptBytes) SizedStands
+ItemStands (item.SizedArray most) = Holds value.SizedArray (SizedArrayStands most)
 ItemStands item.Bytes = Holds (λ held. value.Bytes (length held) held) (Stands IsBytesOf)
 ItemStands item.Words = Holds value.Words WordsStand
 ItemStands item.Lock = Holds (λ l. value.Lock l.0 l.1 l.2) (RecordStands 3 owners lock_of)

@@ -14,7 +14,7 @@ use Rattle.scm_shapes.specs.declared.item.Value.TheVariants as value
 use Rattle.scm_shapes.specs.declared.item.Piece.{Piece}
 use Rattle.scm_shapes.specs.declared.item.Piece.TheVariants as piece
 use Rattle.scm_shapes.specs.Ranges.{within_at}
-use Rattle.scm_shapes.specs.Sized.{sized_at, put_sized}
+use Rattle.scm_shapes.specs.Sized.{sized_array_at, put_sized_array, sized_at, put_sized}
 use Rattle.scm_shapes.specs.Words.{words_at, put_words}
 use Rattle.scm_shapes.specs.Records.{lock_at, lock_marks, lock_texts, shown_at, shown_marks, shown_texts, put_record}
 use Rattle.scm_shapes.specs.Parts.{made}
@@ -32,6 +32,7 @@ item_at item.UnkeptText body place = made (λ text. value.UnkeptText) (some_text
 item_at item.SomeNumber body place = made value.SomeNumber (some_number_at body place)
 item_at item.SomeBytes body place = made value.SomeBytes (sized_at body place)
 item_at item.UnkeptBytes body place = made (λ held. value.UnkeptBytes) (sized_at body place)
+item_at (item.SizedArray most) body place = made value.SizedArray (sized_array_at most body place)
 item_at item.Bytes body place = made (λ held. value.Bytes (length held) held) (bytes_at body place)
 item_at item.Words body place = made value.Words (words_at body place)
 item_at item.Lock body place = made (λ l. value.Lock l.0 l.1 l.2) (lock_at body place)
@@ -100,6 +101,10 @@ abbrev pub first_some_bytes : List Value → Option (List ℕ)
 first_some_bytes (value.SomeBytes held ∷ vs) = held
 first_some_bytes _ = None
 
+abbrev pub first_sized_array : List Value → List ℕ
+first_sized_array (value.SizedArray held ∷ vs) = held
+first_sized_array _ = []
+
 abbrev pub first_size : List Value → ℕ
 first_size (value.Bytes size held ∷ vs) = size
 first_size _ = 0
@@ -135,6 +140,7 @@ first_as item.UnkeptText vs = value.UnkeptText
 first_as item.SomeNumber vs = value.SomeNumber (first_some_number vs)
 first_as item.SomeBytes vs = value.SomeBytes (first_some_bytes vs)
 first_as item.UnkeptBytes vs = value.UnkeptBytes
+first_as (item.SizedArray most) vs = value.SizedArray (first_sized_array vs)
 first_as item.Bytes vs = value.Bytes (first_size vs) (first_bytes vs)
 first_as item.Words vs = value.Words (first_words vs)
 first_as item.Lock vs = value.Lock (first_lock vs).0 (first_lock vs).1 (first_lock vs).2
@@ -157,6 +163,7 @@ put_value value.UnkeptText d = put_some_text None d
 put_value (value.SomeNumber number) d = put_some_number number d
 put_value (value.SomeBytes held) d = put_sized held d
 put_value value.UnkeptBytes d = put_sized None d
+put_value (value.SizedArray held) d = put_sized_array held d
 put_value (value.Bytes size held) d = put_bytes (take size held) size d
 put_value (value.Words words) d = put_words words d
 put_value (value.Lock held owner seconds) d = put_record (lock_marks held owner seconds) (lock_texts owner) d
@@ -180,6 +187,7 @@ value_of piece.UnkeptText = value.UnkeptText
 value_of (piece.SomeNumber number) = value.SomeNumber number
 value_of (piece.SomeBytes held) = value.SomeBytes held.now
 value_of piece.UnkeptBytes = value.UnkeptBytes
+value_of (piece.SizedArray held) = value.SizedArray held.now
 value_of (piece.Bytes size held) = value.Bytes size held.now
 value_of (piece.Words words) = value.Words words.now
 value_of (piece.Lock held owner seconds) = value.Lock held owner.now seconds

@@ -33,6 +33,7 @@ width_of (value.SomeNumber (Some number)) = 8
 width_of (value.SomeBytes None) = 8
 width_of (value.SomeBytes (Some held)) = aligned (8 + length held) + 4
 width_of value.UnkeptBytes = 8
+width_of (value.SizedArray held) = aligned (4 + length held) + 4
 width_of (value.Bytes size held) = 4 + size
 width_of (value.Lock held owner seconds) = record_width (lock_marks held owner seconds) (lock_texts owner)
 width_of (value.Shown shown) = record_width (shown_marks shown) (shown_texts shown)

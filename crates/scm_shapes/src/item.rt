@@ -23,6 +23,8 @@ pub enum Item {
     SomeBytes,
     /// The same, which isn't kept.
     UnkeptBytes,
+    /// Bytes, and their size after them, which is at most so much.
+    SizedArray(u32),
     /// A size, as many bytes, and zeros up to it.
     Bytes,
     /// A count of words, a pointer to them, and the words.
@@ -48,6 +50,7 @@ pub enum Value {
     SomeNumber(Option<u32>),
     SomeBytes(Option<Items<u8>>),
     UnkeptBytes,
+    SizedArray(Items<u8>),
     /// The size, and the bytes.
     Bytes(u32, Items<u8>),
     Words(Option<Items<WText>>),
@@ -68,6 +71,7 @@ pub enum Piece<'a> {
     SomeNumber(Option<u32>),
     SomeBytes(&'a Option<Items<u8>>),
     UnkeptBytes,
+    SizedArray(&'a Items<u8>),
     /// The size, and the bytes.
     Bytes(u32, &'a Items<u8>),
     Words(&'a Option<Items<WText>>),

@@ -1,6 +1,6 @@
 ghost use Rattle.std.specs.Prelude.{◌≡◌, ◌==◌, List, [], Ok, IfOk};
 ghost use Rattle.ndr_body.specs.Reading.{FindsMemory, Gives};
-ghost use Rattle.scm_shapes.specs.Sized.{is_size, sized_at};
+ghost use Rattle.scm_shapes.specs.Sized.{is_size, sized_array_at, sized_at};
 ghost use Rattle.scm_shapes.specs.declared.item.Value.{Value as AValue};
 ghost use Rattle.scm_shapes.specs.Shapes.{item_at, values_at, closed_at, body_values};
 ghost use Rattle.scm_shapes.specs.Plain.{IsPlain, ArePlain};
@@ -45,6 +45,28 @@ fn read_sized(reader: &mut NdrReader, alloc: Global) -> Result<Option<Items<u8>>
     }
 }
 
+/// A conformant array of bytes, and its size after it. A size that is greater than `most`, or that
+/// isn't the count of the bytes, is `BadCount` where it begins.
+#[tactic(auto, unfolding(crate::specs::Sized::sized_array_at))]
+fn read_sized_array(
+    reader: &mut NdrReader,
+    alloc: Global,
+    most: u32,
+) -> Result<Items<u8>, BodyFault>
+    ensures value { Gives (λ v. (v, reader.new.place)) result
+        (sized_array_at most reader.old.body reader.old.place) }
+    ensures body { reader.new.body ≡ reader.old.body }
+{
+    let held = reader.bytes(alloc)?;
+    let start = next_place(reader);
+    let size = read_within(reader, most)?;
+    if held.len() == size as usize {
+        Ok(held)
+    } else {
+        Err(BodyFault::BadCount(start))
+    }
+}
+
 #[tactic(auto, unfolding(crate::specs::Shapes::item_at))]
 fn read_item(reader: &mut NdrReader, alloc: Global, item: Item) -> Result<Value, BodyFault>
     ensures value { Gives (λ v. (v, reader.new.place)) result
@@ -68,6 +90,7 @@ fn read_item(reader: &mut NdrReader, alloc: Global, item: Item) -> Result<Value,
             drop(read_sized(reader, alloc)?);
             Ok(Value::UnkeptBytes)
         }
+        Item::SizedArray(most) => Ok(Value::SizedArray(read_sized_array(reader, alloc, most)?)),
         Item::Bytes => {
             let held = reader.bytes(alloc)?;
             let Ok(size) = u32::try_from(held.len()) else {

@@ -2,7 +2,8 @@ ghost use Rattle.std.specs.Prelude.{◌≡◌, ◌++◌, ◌∷◌, ◌<◌, ◌
 ghost use Rattle.std.specs.Prelude.{OnOk, OnErr, option_to_list};
 ghost use Rattle.scm_shapes.specs.Shapes.{rest, first_handle, first_number, first_text};
 ghost use Rattle.scm_shapes.specs.Shapes.{first_some_text, first_some_number, first_some_bytes};
-ghost use Rattle.scm_shapes.specs.Shapes.{first_size, first_bytes, first_words, first_lock};
+ghost use Rattle.scm_shapes.specs.Shapes.{first_sized_array, first_size, first_bytes, first_words};
+ghost use Rattle.scm_shapes.specs.Shapes.{first_lock};
 ghost use Rattle.scm_shapes.specs.Shapes.{first_shown, first_info, leaves_open, leave_open};
 ghost use Rattle.scm_shapes.specs.HandleBodies.{handle_body_of};
 
@@ -206,6 +207,19 @@ impl Values {
             other => {
                 let_go(other);
                 None
+            }
+        }
+    }
+
+    pub fn sized_array(&mut self, alloc: Global) -> Items<u8>
+        ensures value { result ≡ first_sized_array self.old }
+        ensures rest { self.new ≡ rest self.old }
+    {
+        match self.take() {
+            Some(Value::SizedArray(held)) => held,
+            other => {
+                let_go(other);
+                Items::new(alloc)
             }
         }
     }

@@ -1,5 +1,5 @@
 ghost use Rattle.std.specs.Prelude.{◌≡◌, ◌≤◌, map, length, take, IsOk, OnOk, List, Ok};
-ghost use Rattle.scm_shapes.specs.Sized.{put_sized};
+ghost use Rattle.scm_shapes.specs.Sized.{put_sized, put_sized_array};
 ghost use Rattle.scm_shapes.specs.declared.item.Item.{Item as AnItem};
 ghost use Rattle.scm_shapes.specs.Written.{IsWritten};
 ghost use Rattle.scm_shapes.specs.Laws.{CanHoldAll, as_read};
@@ -11,6 +11,20 @@ use crate::records::{put_lock, put_shown};
 use crate::words::put_words;
 use ndr_body::NdrWriter;
 use scm_text::{Buffer, Items, OutOfMemory};
+
+/// Bytes with their count, and the count again.
+#[tactic(auto, using(crate::proofs::Widths::grows))]
+fn put_sized_array(writer: &mut NdrWriter, held: &Items<u8>) -> Result<(), OutOfMemory>
+    ensures front { writer.new.front ≡ writer.old.front }
+    ensures ok { OnOk result (writer.new.draft ≡ put_sized_array held.now writer.old.draft) }
+    ensures space { writer.old.space ≤ writer.new.space }
+    ensures enough { length (put_sized_array held.now writer.old.draft).bytes ≤ writer.old.space
+        → IsOk result }
+{
+    let bytes = held.as_slice();
+    writer.bytes(bytes, bytes.len())?;
+    writer.count(bytes.len())
+}
 
 /// A unique pointer to bytes, and the size of these.
 #[tactic(auto, using(crate::proofs::Widths::grows), unfolding(crate::specs::Sized::put_sized))]
@@ -27,10 +41,8 @@ fn put_sized(writer: &mut NdrWriter, held: &Option<Items<u8>>) -> Result<(), Out
             writer.number(0)
         }
         Some(held) => {
-            let bytes = held.as_slice();
             writer.referent()?;
-            writer.bytes(bytes, bytes.len())?;
-            writer.count(bytes.len())
+            put_sized_array(writer, held)
         }
     }
 }
@@ -53,6 +65,7 @@ fn put_piece(writer: &mut NdrWriter, piece: Piece) -> Result<(), OutOfMemory>
         Piece::SomeNumber(number) => writer.some_number(number),
         Piece::SomeBytes(held) => put_sized(writer, held),
         Piece::UnkeptBytes => put_sized(writer, &None),
+        Piece::SizedArray(held) => put_sized_array(writer, held),
         Piece::Bytes(size, held) => writer.bytes(first(held.as_slice(), size), size as usize),
         Piece::Words(words) => put_words(writer, words),
         Piece::Lock(held, owner, seconds) => put_lock(writer, held, owner, seconds),

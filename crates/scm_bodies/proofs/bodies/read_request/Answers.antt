@@ -1,4 +1,4 @@
-use Rattle.std.proofs.Common.{IsTrue, ap, arith, is_some}
+use Rattle.std.proofs.Common.{IsTrue, arith}
 use Rattle.scm_model.specs.declared.calls.Request.{Request}
 use Rattle.scm_model.specs.Ranges.{in_range}
 use Rattle.scm_shapes.specs.Calls.{shape_in}
@@ -22,7 +22,7 @@ returns-clause-ranged c =
     let found = calls_found shape_of request_from to_call values_of request_codec c.args.call c.args.body.now c.read.result
     (λ i. omega (arith, c.type_inv.body i)) c.read.ensures.exact in
     calls_ranged shape_of request_from to_call values_of request_codec (λ (r : Request). IsTrue (in_range r)) c.args.call c.args.body.now
-    c.read.result (λ r e h. held_ranged r (ap is_some e) h) found
+    c.read.result (λ r e h. held_ranged r h) found
 
 pub returns-clause-carried : goal.returns-clause-carried
 returns-clause-carried c =

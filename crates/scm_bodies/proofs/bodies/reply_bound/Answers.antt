@@ -15,7 +15,7 @@ returns-clause-bound c = λ told answers.
 pub returns-clause-reached : goal.returns-clause-reached
 returns-clause-reached c =
     let r = c.args.request.now in
-    let asked = of_a_call r c.requires in
+    let asked = of_a_call r in
     let told = reached (reply_kind asked.0) (asked_size r) in
     let named = ap (λ (o : Option Call). option_map reply_kind o) asked.1 ∙ ap (λ k. Some k) (sym told.1) in
     let is = bound_is (to_call r) (kind_of told.0) (asked_size r) named in

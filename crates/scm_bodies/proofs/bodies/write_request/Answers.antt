@@ -1,4 +1,4 @@
-use Rattle.std.proofs.Common.{ap, is_some, subst, sym}
+use Rattle.std.proofs.Common.{subst, sym}
 use Rattle.scm_shapes.proofs.Calls.{held_same, spelled_held, spelled_again}
 use Rattle.scm_shapes.proofs.Carried.{all_carried}
 use Rattle.scm_shapes.specs.Calls.{shape_in}
@@ -12,7 +12,7 @@ pub returns-clause-back : goal.returns-clause-back
 returns-clause-back c = λ call bytes h.
     let r = c.args.request.now in
     let held = spelled_held shape_of request_from to_call values_of request_codec call bytes r h in (
-      held_ranged r (ap is_some h.named) (subst (λ o. CanHoldAll (shape_in shape_of o) (values_of r)) (sym h.named) held),
+      held_ranged r (subst (λ o. CanHoldAll (shape_in shape_of o) (values_of r)) (sym h.named) held),
       all_carried (shape_of call) (values_of r) held,
       spelled_again shape_of request_from to_call values_of request_codec call bytes r h,
     )
@@ -20,6 +20,6 @@ returns-clause-back c = λ call bytes h.
 pub returns-clause-ranged : goal.returns-clause-ranged
 returns-clause-ranged c = λ range h.
     let r = c.args.request.now in
-    let asked = of_a_call r range in
+    let asked = of_a_call r in
     let held = subst (λ o. CanHoldAll (shape_in shape_of o) (values_of r)) asked.1 (ranged_held r range h) in
     (asked.0, held_same shape_of request_from to_call values_of request_codec asked.0 r asked.1 (request_same r) held)
