@@ -1,7 +1,6 @@
 -- What a pass's requests are told answers them.
-use Rattle.std.proofs.Common.{◌≡◌, ◌∙◌, ◌⊎◌, ℕ, Bool, Err, IsTrue, List, [], Option, None, Some, true, false, inl, inr, refl, sym, subst}
+use Rattle.std.proofs.Common.{◌≡◌, ◌∙◌, ◌⊎◌, ℕ, Bool, Err, List, [], Option, None, Some, true, false, inl, inr, refl, sym, subst}
 use Rattle.std.specs.Prelude.{IsErrOf}
-use Rattle.scm_model.specs.Ranges.{in_range}
 use Rattle.scm_model.specs.declared.calls.Reply.{Reply}
 use Rattle.scm_model.specs.declared.calls.Reply.TheVariants as replies
 use Rattle.scm_model.specs.declared.calls.Request.{Request}
@@ -12,7 +11,6 @@ use Rattle.scm_model.specs.declared.steps.Kept.TheVariants as appended
 use Rattle.scm_model.specs.declared.steps.Step.{Step}
 use Rattle.scm_model.specs.declared.steps.Step.TheVariants.{Call, EndStart, Raised}
 use Rattle.scm_bodies.specs.Replies.{Answers}
-use Rattle.scm_bodies.proofs.Codecs.{has_call}
 use Rattle.scm_runs.proofs.Along.{along}
 use Rattle.scm_runs.proofs.Calls.{keeps}
 use Rattle.scm_runs.proofs.Histories.{at_entry, legal_made}
@@ -59,19 +57,19 @@ module _ (o : Opening) (opens : Opens o) where
 
   module _ (silent : Bool) (tells : ℕ → Type 0) (k : Known) (moment : ℕ) (told : tells moment) (asked : Request) where
     -- a request that was answered at once
-    pub at_once : IsTrue (in_range asked) → (k' : Known) (reply : Reply) → AnsweredSo o k moment asked reply k'
+    pub at_once : (k' : Known) (reply : Reply) → AnsweredSo o k moment asked reply k'
         → CallAnswered (IsServed silent tells o) k k' (asks.Call asked) reply
-    at_once range k' reply (inl made) = record {
+    at_once k' reply (inl made) = record {
       heard = Some reply;
       made = inl (record { moment = moment; told = told; made = made });
       told = refl;
       answers = of_reply k k' moment asked reply made;
     }
-    at_once range k' reply (inr wants) = record {
+    at_once k' reply (inr wants) = record {
       heard = None;
       made = record { moment = moment; told = told; wants = subst (λ (r : Reply). WantsMemory o k moment asked r k') wants.refused wants };
       told = sym wants.refused;
-      answers = subst (Answers asked) (sym wants.refused) (of_refused asked 8 (has_call asked range));
+      answers = subst (Answers asked) (sym wants.refused) (of_refused asked 8);
     }
 
     -- a start that waited

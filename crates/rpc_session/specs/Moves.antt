@@ -78,8 +78,8 @@ alter_move s b = alter_by s.terms (is_some s.unfinished) s b
 
 -- the calls that are served
 abbrev pub is_served : Interface → ℕ → Bool
-is_served Svcctl opnum = nat_le opnum 3 || (nat_le 6 opnum && nat_le opnum 8) || (nat_le 11 opnum && nat_le opnum 21) || opnum == 37
-    || opnum == 39 || opnum == 40 || (nat_le 47 opnum && nat_le opnum 49)
+is_served Svcctl opnum = nat_le opnum 8 || (nat_le 11 opnum && nat_le opnum 21) || opnum == 37 || opnum == 39 || opnum == 40
+    || (nat_le 47 opnum && nat_le opnum 49)
 is_served Trigger opnum = opnum == 0
 
 abbrev pub by_interface : Option Interface → ℕ → Result Interface ℕ

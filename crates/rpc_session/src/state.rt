@@ -113,8 +113,7 @@ fn is_listed(interface: Interface, opnum: u16) -> bool
 {
     match interface {
         Interface::Svcctl => {
-            opnum <= 3
-                || (6 <= opnum && opnum <= 8)
+            opnum <= 8
                 || (11 <= opnum && opnum <= 21)
                 || opnum == 37
                 || opnum == 39

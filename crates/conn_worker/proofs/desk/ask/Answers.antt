@@ -10,7 +10,7 @@ returns-in-Answered-clause-caller g c =
 pub returns-in-Answered-clause-answered : goal.returns-in-Answered-clause-answered
 returns-in-Answered-clause-answered g c =
     at_once c.args.book.now.opening c.opens.ensures g.W.Waiter.silent (g.C.Clock.tells c.args.clock.now) c.args.pass.now c.now-moment.result
-    c.now-moment.ensures c.args.request c.requires.ranged
+    c.now-moment.ensures c.args.request
     c.begin_start.new.pass c.in-Answered.reply c.in-Answered.ensures.starts
 
 pub returns-in-Waiting-clause-caller : goal.returns-in-Waiting-clause-caller
@@ -34,5 +34,5 @@ returns-in-Unmade-clause-full g c = λ full.
 pub returns-in-Answered-call-clause-answered : goal.returns-in-Answered-call-clause-answered
 returns-in-Answered-call-clause-answered g c =
     at_once c.args.book.now.opening c.opens.ensures g.W.Waiter.silent (g.C.Clock.tells c.args.clock.now) c.args.pass.now c.now-moment.result
-    c.now-moment.ensures c.args.request c.requires.ranged
+    c.now-moment.ensures c.args.request
     c.call.new.pass c.in-Answered-call.reply c.in-Answered-call.ensures.calls
