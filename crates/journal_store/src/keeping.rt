@@ -26,7 +26,8 @@ pub trait Compactor: Keeper {
         ensures bytes { Replaces bytes.now (Self.held self.old) (Self.held self.new) result }
         ensures untold { IsUntold (Self.held self.old) (Self.held self.new) }
         ensures only { OnOk result (IsOnly (Self.held self.new) (leaves self.new)) }
-        ensures cause { HasCause (Self.faults self.old) (Self.faults self.new) result };
+        ensures cause { HasCause (Self.faults self.old) (Self.faults self.new) result }
+        ensures settled { OnOk result (Self.settled self.new) };
 }
 
 impl<D: Disk> Keeper for JournalStore<D> {
@@ -112,6 +113,7 @@ impl<D: Disk> Compactor for JournalStore<D> {
         ensures only { OnOk result (IsOnly (content_of (D.state self.new).seen)
             (CanLeave (D.state self.new))) }
         ensures cause { HasCause (D.faults self.old) (D.faults self.new) result }
+        ensures settled { OnOk result (IsDiskSettled (D.state self.new)) }
         ensures changes { Changes (λ x. bytes.now) (D.state self.old) (D.state self.new) result }
     {
         self.replace_all(bytes)

@@ -57,7 +57,8 @@ pub fn move_to_store<K: Keeper, Q: Compactor>(
     ensures ran { result ≢ 5 }
     ensures moved { HasBeenMoved (side K.held K.faults keeper.old keeper.new)
         (side Q.held Q.faults store.old store.new) result }
-    ensures keeper_settled { SettledSince (K.faults keeper.old) (K.faults keeper.new) (K.settled keeper.new) }
+    ensures keeper_settled { SettledSince (K.faults keeper.old) (K.faults keeper.new)
+        (K.settled keeper.new) }
     ensures only { result ≡ 0 → IsOnly (Q.held store.new) (Q.leaves store.new) }
     ensures settled { result ≢ 0 → Q.settled store.old →
         SettledSince (Q.faults store.old) (Q.faults store.new) (Q.settled store.new) }
