@@ -7,3 +7,4 @@ pub mod Levels
 pub mod Listings
 pub mod Locks
 pub mod Triggers
+pub mod Security

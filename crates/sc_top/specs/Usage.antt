@@ -32,6 +32,8 @@ usage verb.EnumDepend = codes "enumdepend NAME"
 usage verb.GetDisplayName = codes "getdisplayname NAME"
 usage verb.GetKeyName = codes "getkeyname DISPLAYNAME"
 usage verb.QueryLock = codes "querylock"
+usage verb.ShowSecurity = codes "sdshow NAME"
+usage verb.SetSecurity = codes "sdset NAME SDDL"
 
 abbrev pub some_usage : Option Verb → List ℕ
 some_usage (Some v) = usage v
@@ -46,7 +48,7 @@ verbs =
     verb.Create ∷ verb.Config ∷ verb.Description ∷ verb.Failure ∷ verb.Start ∷ verb.Stop ∷ verb.Pause ∷ verb.Continue
     ∷ verb.Interrogate ∷ verb.Control ∷ verb.Query ∷ verb.Delete ∷ verb.QueryConfig ∷ verb.QueryEx ∷ verb.QueryDescription
     ∷ verb.QueryFailure ∷ verb.QueryFailureFlag ∷ verb.FailureFlag ∷ verb.QueryTriggerInfo ∷ verb.TriggerInfo
-    ∷ verb.EnumDepend ∷ verb.GetDisplayName ∷ verb.GetKeyName ∷ verb.QueryLock ∷ []
+    ∷ verb.EnumDepend ∷ verb.GetDisplayName ∷ verb.GetKeyName ∷ verb.QueryLock ∷ verb.ShowSecurity ∷ verb.SetSecurity ∷ []
 
 abbrev pub usage_line : Verb → List ℕ
 usage_line v = codes "sc ADDRESS " ++ (usage v ++ codes "\n")

@@ -46,11 +46,13 @@ pub fn usage(verb: Verb) -> &'static str
         Verb::GetDisplayName => "getdisplayname NAME",
         Verb::GetKeyName => "getkeyname DISPLAYNAME",
         Verb::QueryLock => "querylock",
+        Verb::ShowSecurity => "sdshow NAME",
+        Verb::SetSecurity => "sdset NAME SDDL",
     }
 }
 
 /// Every verb, in the order of the manual.
-pub static VERBS: [Verb; 24] = [
+pub static VERBS: [Verb; 26] = [
     Verb::Create,
     Verb::Config,
     Verb::Description,
@@ -75,6 +77,8 @@ pub static VERBS: [Verb; 24] = [
     Verb::GetDisplayName,
     Verb::GetKeyName,
     Verb::QueryLock,
+    Verb::ShowSecurity,
+    Verb::SetSecurity,
 ];
 
 /// The usage of a verb, or of any.

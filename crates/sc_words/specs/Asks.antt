@@ -21,6 +21,7 @@ use Rattle.scm_model.specs.declared.codes.TheConstants.{SERVICE_CONTROL_STOP, SE
 use Rattle.scm_model.specs.declared.codes.TheConstants.{SERVICE_INTERROGATE, SERVICE_NO_CHANGE, SERVICE_PAUSE_CONTINUE}
 use Rattle.scm_model.specs.declared.codes.TheConstants.{SERVICE_QUERY_STATUS, SERVICE_START, SERVICE_STOP, SERVICE_USER_DEFINED_CONTROL}
 use Rattle.scm_model.specs.declared.codes.TheConstants.{SERVICE_WIN32_OWN_PROCESS}
+use Rattle.sec_desc.specs.declared.codes.TheConstants.{DACL_SECURITY_INFORMATION, READ_CONTROL}
 use Rattle.sc_words.specs.declared.calls.Heard.{Heard}
 use Rattle.sc_words.specs.declared.calls.Heard.TheVariants as heard
 use Rattle.sc_words.specs.declared.calls.Method.{Method}
@@ -33,6 +34,7 @@ use Rattle.sc_words.specs.declared.command.Task.TheVariants as task
 use Rattle.sc_words.specs.declared.settings.Settings.{Settings}
 use Rattle.sc_words.specs.declared.values.StartType.{StartType}
 use Rattle.sc_words.specs.declared.values.StartType.TheVariants.{Auto, Demand, Disabled, DelayedAuto}
+use Rattle.sc_words.specs.Security.{right_of_parts}
 use Rattle.sc_words.specs.Calls.{Standing, Asks, Failed, Done, stage_of, given, handle_before, closed}
 
 -- ## Rights
@@ -68,6 +70,8 @@ service_right task.QueryEx = SERVICE_QUERY_STATUS
 service_right (task.FailureFlag on) = SERVICE_CHANGE_CONFIG
 service_right (task.Triggers triggers) = SERVICE_CHANGE_CONFIG
 service_right task.EnumDepend = SERVICE_ENUMERATE_DEPENDENTS
+service_right task.QuerySecurity = READ_CONTROL
+service_right (task.SetSecurity new) = right_of_parts new.parts
 service_right _ = 0
 
 -- ## Configurations
@@ -146,6 +150,10 @@ name_size = 4096
 abbrev pub page_size : ℕ
 page_size = 65536
 
+-- how many bytes a descriptor of a list has at most
+abbrev pub security_size : ℕ
+security_size = 65555
+
 abbrev pub every_kind : ℕ
 every_kind = SERVICE_WIN32_OWN_PROCESS + SERVICE_WIN32_SHARE_PROCESS
 
@@ -162,6 +170,7 @@ query_asks c task.QueryEx m handle = request.QueryStatusEx handle SC_STATUS_PROC
 query_asks c task.EnumDepend m handle = request.EnumDependents handle SERVICE_STATE_ALL MAX_ENUM_SIZE
 query_asks c task.DisplayName m handle = request.DisplayName handle c.name name_size
 query_asks c task.KeyName m handle = request.KeyName handle c.name name_size
+query_asks c task.QuerySecurity m handle = request.QuerySecurity handle DACL_SECURITY_INFORMATION security_size
 query_asks c _ m handle = request.QueryLock handle MAX_LOCK_STATUS_SIZE
 
 -- what a task asks that writes a configuration
@@ -174,6 +183,7 @@ write_asks c (task.Description text) m handle = request.Change2 handle (info.Des
 write_asks c (task.Failure s) m handle = request.Change2 handle (info.Failure (unwrap_or s.reset 0) s.command s.actions)
 write_asks c (task.FailureFlag on) m handle = request.Change2 handle (info.OnExit on)
 write_asks c (task.Triggers triggers) m handle = request.Change2 handle (info.Triggers triggers)
+write_asks c (task.SetSecurity new) m handle = request.SetSecurity handle new.parts new.bytes
 write_asks c t m handle = query_asks c t m handle
 
 -- what a task asks of its service, or of the manager

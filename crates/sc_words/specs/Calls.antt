@@ -53,6 +53,8 @@ methods_of task.DisplayName = method.GetServiceDisplayName ∷ []
 methods_of task.KeyName = method.GetServiceKeyName ∷ []
 methods_of task.QueryAll = method.EnumServicesStatus ∷ []
 methods_of task.QueryLock = method.QueryServiceLockStatus ∷ []
+methods_of task.QuerySecurity = method.OpenService ∷ method.QueryServiceObjectSecurity ∷ []
+methods_of (task.SetSecurity new) = method.OpenService ∷ method.SetServiceObjectSecurity ∷ []
 
 abbrev pub methods_called : Task → List Method
 methods_called t = method.OpenSCManager ∷ methods_of t

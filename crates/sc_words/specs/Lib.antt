@@ -2,6 +2,7 @@ pub mod Places
 pub mod Texts
 pub mod Values
 pub mod Triggers
+pub mod Security
 pub mod Settings
 pub mod Words
 pub mod Along

@@ -8,6 +8,7 @@ use Rattle.sc_lines.specs.Levels.{description_text, failure_text, flag_text, is_
 use Rattle.sc_lines.specs.Lines.{Text, lines}
 use Rattle.sc_lines.specs.Listings.{listing_text}
 use Rattle.sc_lines.specs.Locks.{lock_text}
+use Rattle.sc_lines.specs.Security.{security_text}
 use Rattle.sc_lines.specs.Statuses.{process_text, status_text}
 use Rattle.sc_lines.specs.Triggers.{triggers_text}
 use Rattle.sc_words.specs.declared.calls.Failure.{Failure}
@@ -40,6 +41,8 @@ method_name method.GetServiceDisplayName = codes "GetServiceDisplayName"
 method_name method.GetServiceKeyName = codes "GetServiceKeyName"
 method_name method.EnumServicesStatus = codes "EnumServicesStatus"
 method_name method.QueryServiceLockStatus = codes "QueryServiceLockStatus"
+method_name method.QueryServiceObjectSecurity = codes "QueryServiceObjectSecurity"
+method_name method.SetServiceObjectSecurity = codes "SetServiceObjectSecurity"
 
 -- `[SC] CALL` and what became of it
 abbrev pub call_line : Method → List ℕ → List ℕ
@@ -115,6 +118,7 @@ read_text name task.EnumDepend hs = dependents_at (slice_get hs 2)
 read_text name task.DisplayName hs = success method.GetServiceDisplayName ++ name_line_at (slice_get hs 1)
 read_text name task.KeyName hs = success method.GetServiceKeyName ++ name_line_at (slice_get hs 1)
 read_text name task.QueryAll hs = pages_text hs
+read_text name task.QuerySecurity hs = security_text (told_bytes (slice_get hs 2))
 read_text name _ hs = success method.QueryServiceLockStatus ++ lock_lines (slice_get hs 1)
 
 -- what is printed where all calls succeeded
@@ -129,6 +133,7 @@ done_text name task.Query hs = status_lines name (slice_get hs 2)
 done_text name task.Delete hs = success method.DeleteService
 done_text name (task.FailureFlag on) hs = success method.ChangeServiceConfig2
 done_text name (task.Triggers triggers) hs = success method.ChangeServiceConfig2
+done_text name (task.SetSecurity new) hs = success method.SetServiceObjectSecurity
 done_text name t hs = read_text name t hs
 
 abbrev pub told_at : Standing → Command → List Heard → List ℕ

@@ -8,10 +8,12 @@ use Rattle.sc_words.specs.declared.command.Command.{Command}
 use Rattle.sc_words.specs.declared.command.Level.TheVariants as level
 use Rattle.sc_words.specs.declared.command.Task.{Task}
 use Rattle.sc_words.specs.declared.command.Task.TheVariants as task
+use Rattle.sc_words.specs.declared.security.NewSecurity.{NewSecurity}
 use Rattle.sc_words.specs.declared.settings.Settings.{Settings}
 use Rattle.sc_words.specs.declared.verb.Verb.{Verb}
 use Rattle.sc_words.specs.declared.verb.Verb.TheVariants as verb
 use Rattle.sc_words.specs.Places.{◌>>=◌, each_from, fits, word_at, no_word_at}
+use Rattle.sc_words.specs.Security.{security_named}
 use Rattle.sc_words.specs.Settings.{no_settings, settings_from}
 use Rattle.sc_words.specs.Texts.{word_text}
 use Rattle.sc_words.specs.Triggers.{trigger_named}
@@ -43,6 +45,8 @@ verb_named word =
     else if bytes_eq word (codes "getdisplayname") then Some verb.GetDisplayName
     else if bytes_eq word (codes "getkeyname") then Some verb.GetKeyName
     else if bytes_eq word (codes "querylock") then Some verb.QueryLock
+    else if bytes_eq word (codes "sdshow") then Some verb.ShowSecurity
+    else if bytes_eq word (codes "sdset") then Some verb.SetSecurity
     else None
 
 -- REST begins at this place
@@ -119,6 +123,14 @@ triggers_in words = do
   word ← word_at rest_place words
   if bytes_eq word (codes "delete") then no_more words else each_from trigger_named rest_place (drop rest_place words)
 
+-- the one descriptor of REST
+unfoldable pub security_in : List (List ℕ) → Result NewSecurity ℕ
+security_in words = do
+  word ← word_at rest_place words
+  new ← fits rest_place (security_named word)
+  none ← no_word_at (rest_place + 1) words
+  Ok new
+
 -- a task that goes by no further word
 abbrev pub without_rest : Task → List (List ℕ) → Result Task ℕ
 without_rest t words = no_word_at rest_place words >>= λ none. Ok t
@@ -148,6 +160,8 @@ task_of verb.EnumDepend words = without_rest task.EnumDepend words
 task_of verb.GetDisplayName words = without_rest task.DisplayName words
 task_of verb.GetKeyName words = without_rest task.KeyName words
 task_of verb.QueryLock words = Err 2
+task_of verb.ShowSecurity words = without_rest task.QuerySecurity words
+task_of verb.SetSecurity words = security_in words >>= λ new. Ok (task.SetSecurity new)
 
 -- what a verb does that stands alone
 abbrev pub lone_task : Verb → Option Task

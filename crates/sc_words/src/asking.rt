@@ -10,6 +10,7 @@ ghost use Rattle.scm_model.specs.declared.calls.Request.TheVariants as request;
 
 use super::calls::{Heard, Method, Stage, closed, given, handle_before, stage_of};
 use super::command::{Command, Level, Task};
+use super::security::right_of_parts;
 use super::settings::Settings;
 use super::values::StartType;
 use scm_model::codes::{
@@ -27,10 +28,14 @@ use scm_model::codes::{
 };
 use scm_model::{Action, ChangeService, Info, NewService, Reply, Request, TriggerIn, copy_texts};
 use scm_text::{Items, OutOfMemory, WText};
+use sec_desc::codes::{DACL_SECURITY_INFORMATION, READ_CONTROL};
 use std::alloc::Global;
 
 /// How many units a name may have that is asked for, with its zero.
 const NAME_SIZE: u32 = 4096;
+
+/// How many bytes a descriptor of a list has at most: 20, and those of the list.
+const SECURITY_SIZE: u32 = 65555;
 
 /// How many bytes a page of services has.
 const PAGE_SIZE: u32 = 65536;
@@ -82,6 +87,8 @@ fn service_right(task: &Task) -> u32
         Task::QueryEx => SERVICE_QUERY_STATUS,
         Task::FailureFlag(_) | Task::Triggers(_) => SERVICE_CHANGE_CONFIG,
         Task::EnumDepend => SERVICE_ENUMERATE_DEPENDENTS,
+        Task::QuerySecurity => READ_CONTROL,
+        Task::SetSecurity(new) => right_of_parts(new.parts),
         _ => 0,
     }
 }
@@ -362,6 +369,11 @@ impl Command {
                 name: self.name.copy(alloc)?,
                 size: NAME_SIZE,
             }),
+            Task::QuerySecurity => Ok(Request::QuerySecurity {
+                handle,
+                parts: DACL_SECURITY_INFORMATION,
+                size: SECURITY_SIZE,
+            }),
             _ => Ok(Request::QueryLock {
                 handle,
                 size: MAX_LOCK_STATUS_SIZE,
@@ -403,6 +415,11 @@ impl Command {
             Task::Triggers(triggers) => Ok(Request::Change2 {
                 handle,
                 info: Info::Triggers(copy_of_triggers(alloc, triggers.as_slice())?),
+            }),
+            Task::SetSecurity(new) => Ok(Request::SetSecurity {
+                handle,
+                parts: new.parts,
+                bytes: Items::from_slice(alloc, new.bytes.as_slice())?,
             }),
             _ => self.query_asks(alloc, method, handle),
         }

@@ -33,6 +33,8 @@ pub enum Method {
     GetServiceKeyName,
     EnumServicesStatus,
     QueryServiceLockStatus,
+    QueryServiceObjectSecurity,
+    SetServiceObjectSecurity,
 }
 
 /// What the peer answered a request.
@@ -155,6 +157,18 @@ static QUERY_ALL: [Method; 2] = [Method::OpenSCManager, Method::EnumServicesStat
 
 static QUERY_LOCK: [Method; 2] = [Method::OpenSCManager, Method::QueryServiceLockStatus];
 
+static QUERY_SECURITY: [Method; 3] = [
+    Method::OpenSCManager,
+    Method::OpenService,
+    Method::QueryServiceObjectSecurity,
+];
+
+static SET_SECURITY: [Method; 3] = [
+    Method::OpenSCManager,
+    Method::OpenService,
+    Method::SetServiceObjectSecurity,
+];
+
 /// The calls of a creation.
 fn creation_calls(start: Option<StartType>) -> &'static [Method]
     ensures { result.now ≡ OpenSCManager ∷ CreateService ∷ and_delay (delay_of_creation start) }
@@ -197,6 +211,8 @@ fn calls_of(task: &Task) -> &'static [Method]
         Task::KeyName => &KEY_NAME,
         Task::QueryAll => &QUERY_ALL,
         Task::QueryLock => &QUERY_LOCK,
+        Task::QuerySecurity => &QUERY_SECURITY,
+        Task::SetSecurity(_) => &SET_SECURITY,
     }
 }
 

@@ -1,3 +1,4 @@
+use super::security::NewSecurity;
 use super::settings::Settings;
 use scm_model::TriggerIn;
 use scm_text::{Items, Text, WText};
@@ -44,6 +45,9 @@ pub enum Task {
     QueryAll,
     /// Who holds the lock of the database.
     QueryLock,
+    /// Who may do what with the service.
+    QuerySecurity,
+    SetSecurity(NewSecurity),
 }
 
 impl Drop for Task {
@@ -55,9 +59,11 @@ impl Drop for Task {
             Task::Description(text) => drop(text),
             Task::Start(words) => drop(words),
             Task::Triggers(triggers) => drop(triggers),
+            Task::SetSecurity(new) => drop(new),
             Task::Control(_) | Task::QueryLevel(_) | Task::FailureFlag(_) => {}
             Task::Query | Task::Delete | Task::QueryConfig | Task::QueryEx | Task::EnumDepend => {}
             Task::DisplayName | Task::KeyName | Task::QueryAll | Task::QueryLock => {}
+            Task::QuerySecurity => {}
         }
     }
 }

@@ -3,10 +3,11 @@ ghost use Rattle.sc_words.specs.Places.{AnswersAs, fits, no_word_at, seen_word, 
 ghost use Rattle.sc_words.specs.Words.{without_rest, bit_in, bit_named, command_of, creation_in};
 ghost use Rattle.sc_words.specs.Words.{failure_in, lone_command, lone_task, named_command};
 ghost use Rattle.sc_words.specs.Words.{number_in, task_of, one_text, text_in_place, texts_from};
-ghost use Rattle.sc_words.specs.Words.{triggers_in};
+ghost use Rattle.sc_words.specs.Words.{security_in, triggers_in};
 
 use super::command::{Command, Level, Task};
 use super::fault::WordsFault;
+use super::security::{NewSecurity, security_named};
 use super::settings::{Settings, settings_from};
 use super::texts::word_text;
 use super::triggers::triggers_from;
@@ -137,6 +138,23 @@ fn triggers_in(alloc: Global, words: &[Text]) -> Result<Items<TriggerIn>, WordsF
     triggers_from(alloc, words, REST)
 }
 
+/// The one descriptor of the rest.
+#[tactic(auto, unfolding(crate::specs::Words::security_in, crate::specs::Places::no_word_at))]
+fn security_in(alloc: Global, words: &[Text]) -> Result<NewSecurity, WordsFault>
+    ensures { AnswersAs result (security_in words.now) }
+{
+    let word = word_at(words, REST)?;
+    let Some(new) = security_named(alloc, word)? else {
+        return Err(WordsFault::BadWord(REST));
+    };
+    if words.len() <= REST + 1 {
+        Ok(new)
+    } else {
+        drop(new);
+        Err(WordsFault::BadWord(REST + 1))
+    }
+}
+
 /// The settings of a creation, which has a path.
 #[tactic(auto, unfolding(crate::specs::Words::creation_in, crate::specs::Words::settings_in))]
 fn creation(alloc: Global, words: &[Text]) -> Result<Settings, WordsFault>
@@ -201,6 +219,8 @@ fn task_of(alloc: Global, verb: Verb, words: &[Text]) -> Result<Task, WordsFault
         Verb::GetDisplayName => without_rest(Task::DisplayName, words),
         Verb::GetKeyName => without_rest(Task::KeyName, words),
         Verb::QueryLock => Err(WordsFault::BadWord(2)),
+        Verb::ShowSecurity => without_rest(Task::QuerySecurity, words),
+        Verb::SetSecurity => Ok(Task::SetSecurity(security_in(alloc, words)?)),
     }
 }
 

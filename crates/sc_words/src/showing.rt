@@ -13,7 +13,7 @@ use super::calls::{Failure, Heard, Method, Stage, code_heard, stage_of};
 use super::command::{Command, Level, Task};
 use sc_lines::{
     Appended, Line, add_config, add_description, add_failure, add_flag, add_lines, add_listing,
-    add_lock, add_process, add_status, add_triggers, is_on,
+    add_lock, add_process, add_security, add_status, add_triggers, is_on,
 };
 use scm_model::{Reply, Shown};
 use scm_text::{Items, OutOfMemory, WText};
@@ -41,6 +41,8 @@ fn method_name(method: Method) -> &'static str
         Method::GetServiceKeyName => "GetServiceKeyName",
         Method::EnumServicesStatus => "EnumServicesStatus",
         Method::QueryServiceLockStatus => "QueryServiceLockStatus",
+        Method::QueryServiceObjectSecurity => "QueryServiceObjectSecurity",
+        Method::SetServiceObjectSecurity => "SetServiceObjectSecurity",
     }
 }
 
@@ -281,6 +283,7 @@ fn add_read(text: &mut Items<u8>, alloc: Global, command: &Command, heard: &[Hea
         Task::DisplayName => add_name(text, alloc, Method::GetServiceDisplayName, heard),
         Task::KeyName => add_name(text, alloc, Method::GetServiceKeyName, heard),
         Task::QueryAll => add_pages(text, alloc, heard),
+        Task::QuerySecurity => add_security(text, alloc, bytes_at(heard, 2)),
         _ => add_lock_told(text, alloc, heard),
     }
 }
@@ -299,6 +302,7 @@ fn add_done(text: &mut Items<u8>, alloc: Global, command: &Command, heard: &[Hea
         Task::FailureFlag(_) | Task::Triggers(_) => {
             add_success(text, Method::ChangeServiceConfig2)
         }
+        Task::SetSecurity(_) => add_success(text, Method::SetServiceObjectSecurity),
         Task::Start(_) => add_success(text, Method::StartService),
         Task::Control(_) | Task::Query => add_told(text, alloc, &command.name, heard),
         Task::Delete => add_success(text, Method::DeleteService),

@@ -28,6 +28,8 @@ pub enum Verb {
     GetDisplayName,
     GetKeyName,
     QueryLock,
+    ShowSecurity,
+    SetSecurity,
 }
 
 /// The verb that a word is.
@@ -59,6 +61,8 @@ pub fn verb_named(word: &str) -> Option<Verb>
         "getdisplayname" => Some(Verb::GetDisplayName),
         "getkeyname" => Some(Verb::GetKeyName),
         "querylock" => Some(Verb::QueryLock),
+        "sdshow" => Some(Verb::ShowSecurity),
+        "sdset" => Some(Verb::SetSecurity),
         _ => None,
     }
 }
