@@ -19,6 +19,8 @@ pub const CALLS: Table = &[
     ("control", "1"),
     ("delete", "2"),
     ("lock", "3"),
+    ("secured", "4"),
+    ("secure", "5"),
     ("status", "6"),
     ("set", "7"),
     ("unlock", "8"),
