@@ -4,7 +4,7 @@ use ndr_body::BodyFault;
 use scm_bodies::{
     Call, call_at, read_reply, read_request, reply_bound, write_reply, write_request,
 };
-use scm_model::codes::R_CHANGE_SERVICE_CONFIG2_W;
+use scm_model::codes::{R_CHANGE_SERVICE_CONFIG2_W, R_SET_SERVICE_OBJECT_SECURITY};
 use scm_model::{Reply, Request};
 use scm_text::Buffer;
 use std::alloc::{AllocError, Global};
@@ -163,6 +163,38 @@ fn bodies_that_are_none(rt: HostRuntime) -> Result<(), Fail> {
         if fault_of_reply(rt.alloc(), opnum, hex) != Some(fault) {
             return Err(hex.into());
         }
+    }
+    Ok(())
+}
+
+/// A body that sets a service's owner by so many bytes of 0, with their padding.
+fn setting(alloc: Global, size: u32) -> Result<Vec<u8>, AllocError> {
+    let mut body = bytes_of(
+        alloc,
+        "0000 0000 0100 0000 0000 0000 0000 0000 0000 0000 0100 0000",
+    )?;
+    body.extend_from_slice(&size.to_le_bytes())?;
+    let length = 28 + size as usize;
+    body.resize((length + 3) / 4 * 4, 0)?;
+    body.extend_from_slice(&size.to_le_bytes())?;
+    Ok(body)
+}
+
+/// Why so many bytes can't be set.
+fn fault_of_setting(alloc: Global, size: u32) -> Option<BodyFault> {
+    match (call_at(R_SET_SERVICE_OBJECT_SECURITY), setting(alloc, size)) {
+        (Some(call), Ok(body)) => read_request(alloc, call, body.as_slice()).err(),
+        _ => Some(BodyFault::OutOfMemory),
+    }
+}
+
+#[test]
+fn the_most_bytes_that_can_be_set(rt: HostRuntime) -> Result<(), Fail> {
+    if fault_of_setting(rt.alloc(), 262_144).is_some() {
+        return Err("262,144 bytes".into());
+    }
+    if fault_of_setting(rt.alloc(), 262_145) != Some(BodyFault::BadCount(262_176)) {
+        return Err("262,145 bytes".into());
     }
     Ok(())
 }

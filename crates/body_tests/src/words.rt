@@ -6,8 +6,9 @@ use scm_model::codes::{
     R_ENUM_DEPENDENT_SERVICES_W, R_ENUM_SERVICES_STATUS_W, R_GET_NOTIFY_RESULTS,
     R_GET_SERVICE_DISPLAY_NAME_W, R_LOCK_SERVICE_DATABASE, R_NOTIFY_SERVICE_STATUS_CHANGE,
     R_OPEN_SC_MANAGER_W, R_OPEN_SERVICE_W, R_QUERY_SERVICE_CONFIG_W, R_QUERY_SERVICE_CONFIG2_W,
-    R_QUERY_SERVICE_LOCK_STATUS_W, R_QUERY_SERVICE_STATUS, R_QUERY_SERVICE_STATUS_EX,
-    R_SET_SERVICE_STATUS, R_START_SERVICE_W, R_UNLOCK_SERVICE_DATABASE,
+    R_QUERY_SERVICE_LOCK_STATUS_W, R_QUERY_SERVICE_OBJECT_SECURITY, R_QUERY_SERVICE_STATUS,
+    R_QUERY_SERVICE_STATUS_EX, R_SET_SERVICE_OBJECT_SECURITY, R_SET_SERVICE_STATUS,
+    R_START_SERVICE_W, R_UNLOCK_SERVICE_DATABASE,
 };
 use scm_model::{
     Action, ChangeService, Info, NewService, ProcessStatus, Reply, Request, Shown, Status,
@@ -222,10 +223,9 @@ pub fn request(alloc: Global, opnum: u16, words: Words) -> Request {
         | R_ENUM_SERVICES_STATUS_W
         | R_QUERY_SERVICE_CONFIG2_W
         | R_QUERY_SERVICE_STATUS_EX => request_for_services(opnum, words, handle),
-        R_CHANGE_SERVICE_CONFIG2_W => Request::Change2 {
-            handle,
-            info: info(alloc, behind(words)),
-        },
+        R_QUERY_SERVICE_OBJECT_SECURITY | R_SET_SERVICE_OBJECT_SECURITY => {
+            request_for_security(alloc, opnum, words, handle)
+        }
         _ => request_with_texts(alloc, opnum, words, handle),
     }
 }
@@ -257,9 +257,39 @@ fn request_for_services(opnum: u16, words: Words, handle: u64) -> Request {
     }
 }
 
+/// Bytes, a word each.
+fn each_byte(alloc: Global, words: Words) -> Items<u8> {
+    let mut bytes = Items::new(alloc);
+    for place in 0..words.len() {
+        let [.., byte] = number(words, place).to_be_bytes();
+        let _appended = bytes.append(&[byte]);
+    }
+    bytes
+}
+
+fn request_for_security(alloc: Global, opnum: u16, words: Words, handle: u64) -> Request {
+    let parts = number(words, 1);
+    match opnum {
+        R_QUERY_SERVICE_OBJECT_SECURITY => Request::QuerySecurity {
+            handle,
+            parts,
+            size: number(words, 2),
+        },
+        _ => Request::SetSecurity {
+            handle,
+            parts,
+            bytes: each_byte(alloc, behind(behind(words))),
+        },
+    }
+}
+
 fn request_with_texts(alloc: Global, opnum: u16, words: Words, handle: u64) -> Request {
     match opnum {
         R_CHANGE_SERVICE_CONFIG_W => Request::Change(change(alloc, words)),
+        R_CHANGE_SERVICE_CONFIG2_W => Request::Change2 {
+            handle,
+            info: info(alloc, behind(words)),
+        },
         R_CREATE_SERVICE_W => Request::Create(new_service(alloc, words)),
         R_OPEN_SC_MANAGER_W => Request::OpenManager {
             database: some_text(alloc, words, 0),
@@ -342,6 +372,16 @@ fn reply_with_bytes(alloc: Global, opnum: u16, words: Words) -> Reply {
     }
 }
 
+/// A security descriptor comes after its size, the size that it needs, and the code.
+fn security(alloc: Global, words: Words) -> Reply {
+    Reply::Bytes {
+        size: number(words, 0),
+        bytes: each_byte(alloc, behind(behind(behind(words)))),
+        needed: number(words, 1),
+        code: number(words, 2),
+    }
+}
+
 fn notice(alloc: Global, words: Words) -> Reply {
     let status = ProcessStatus {
         status: status(behind(words)),
@@ -398,6 +438,7 @@ pub fn reply(alloc: Global, opnum: u16, words: Words) -> Reply {
         | R_ENUM_SERVICES_STATUS_W
         | R_QUERY_SERVICE_CONFIG2_W
         | R_QUERY_SERVICE_STATUS_EX => reply_with_bytes(alloc, opnum, words),
+        R_QUERY_SERVICE_OBJECT_SECURITY => security(alloc, words),
         R_GET_NOTIFY_RESULTS => notice(alloc, words),
         _ => Reply::Code(number(words, 0)),
     }

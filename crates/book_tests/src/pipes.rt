@@ -5,9 +5,10 @@ ghost use Rattle.scm_core.specs.Managed.{AreSmall};
 use book_calls::new_manager;
 use outside::{FixedClock, MemorySink, MemorySource};
 use record_journal::{Journal, MemoryKeeper};
+use rpc_pdu::PduKind;
 use scm_model::{Limits, Principal};
 use scm_pipe::{Piped, Served, serve_alone};
-use std::alloc::Global;
+use std::alloc::{AllocError, Global};
 use std::sync::Wait;
 use std::test::Fail;
 
@@ -25,6 +26,9 @@ const SESSION: [u8; 152] = [
     0x14, 0, 0, 0, 0, 0, 0, 0, 0, 0, 0, 0, 1, 0, 0, 0, //
     0, 0, 0, 0, 0, 0, 0, 0, 0, 0, 0, 0, // the close
 ];
+
+/// Where items of the session end, and how many bytes they are answered up to there.
+const ENDS: [(usize, usize); 4] = [(0, 0), (72, 56), (108, 104), (152, 152)];
 
 /// What each of the three is answered.
 const TEXTS: [u8; 152] = [
@@ -80,9 +84,20 @@ const RAISE_TEXTS: [u8; 108] = [
     4, 0, 0, 0, 1, 0, 0, 0, 0, 0, 0, 0, // code 0
 ];
 
+/// A bind, and a request whose fragment has a byte less than a header.
+const SHORT: [u8; 88] = [
+    5, 0, 0xb, 3, 0x10, 0, 0, 0, 0x48, 0, 0, 0, 1, 0, 0, 0, //
+    0xd0, 0x16, 0xd0, 0x16, 0, 0, 0, 0, 1, 0, 0, 0, 0, 0, 1, 0, //
+    0x81, 0xbb, 0x7a, 0x36, 0x44, 0x98, 0xf1, 0x35, 0xad, 0x32, 0x98, 0xf0, 0x38, 0, 0x10, 3, //
+    2, 0, 0, 0, 4, 0x5d, 0x88, 0x8a, 0xeb, 0x1c, 0xc9, 0x11, 0x9f, 0xe8, 8, 0, //
+    0x2b, 0x10, 0x48, 0x60, 2, 0, 0, 0, // the bind
+    5, 0, 0, 3, 0x10, 0, 0, 0, 0xf, 0, 0, 0, 2, 0, 0, 0, // the request
+];
+
 /// What is sent, all that it may be answered, how many steps the limits have room for beside the
 /// caller's coming and going, for how many bytes of text, how the connection ends, and how many
 /// bytes it is answered.
+#[derive(Clone, Copy)]
 struct Row {
     session: &'static [u8],
     texts: &'static [u8],
@@ -92,7 +107,17 @@ struct Row {
     answered: usize,
 }
 
-const SESSIONS: [Row; 5] = [
+/// The whole session.
+const WHOLE: Row = Row {
+    session: &SESSION,
+    texts: &TEXTS,
+    calls: 2,
+    text: 0,
+    end: Served::Ended,
+    answered: 152,
+};
+
+const SESSIONS: [Row; 6] = [
     Row {
         session: &SESSION,
         texts: &TEXTS,
@@ -109,13 +134,14 @@ const SESSIONS: [Row; 5] = [
         end: Served::Full,
         answered: 104,
     },
+    WHOLE,
     Row {
-        session: &SESSION,
+        session: &SHORT,
         texts: &TEXTS,
-        calls: 2,
+        calls: 1,
         text: 0,
-        end: Served::Ended,
-        answered: 152,
+        end: Served::BadPdu(72, PduKind::Length),
+        answered: 56,
     },
     // The name has 14 units of two bytes each.
     Row {
@@ -205,25 +231,137 @@ fn ends_so<R: Wait>(
     }
 }
 
-/// The same of a connection that sends a byte at a time.
-fn comes_to<R: Wait>(rt: &R, alloc: Global, row: &Row) -> bool {
+/// The same of a connection that sends a byte at a time, of whose reads and writes these fail.
+fn comes_to_failing<R: Wait>(
+    rt: &R,
+    alloc: Global,
+    row: &Row,
+    reads: Vec<bool>,
+    writes: Vec<bool>,
+) -> bool {
     match Vec::from_slice(alloc, row.session) {
         Ok(bytes) => {
-            let mut input = MemorySource::in_pieces(bytes, 1, Vec::new(alloc));
-            let mut output = MemorySink::new(alloc, Vec::new(alloc));
+            let mut input = MemorySource::in_pieces(bytes, 1, reads);
+            let mut output = MemorySink::new(alloc, writes);
             let ends_so = ends_so(rt, alloc, row, &mut input, &mut output);
             drop(input);
             drop(output);
             ends_so
         }
-        Err(_) => false,
+        Err(_) => {
+            drop(reads);
+            drop(writes);
+            false
+        }
     }
+}
+
+/// The same of one whose reads and writes succeed.
+fn comes_to<R: Wait>(rt: &R, alloc: Global, row: &Row) -> bool {
+    comes_to_failing(rt, alloc, row, Vec::new(alloc), Vec::new(alloc))
 }
 
 #[test]
 fn a_session_is_answered_until_the_limits_have_no_room(rt: HostRuntime) -> Result<(), Fail> {
     for row in &SESSIONS {
         assert!(rt; comes_to(&rt, rt.alloc(), row));
+    }
+    Ok(())
+}
+
+/// The front of this length of the session, which ends where an item does or within the next one.
+fn front(length: usize) -> Option<Row> {
+    let mut row = Row {
+        session: WHOLE.session.get(..length)?,
+        end: Served::Truncated,
+        answered: 0,
+        ..WHOLE
+    };
+    for (end, answered) in ENDS {
+        if end <= length {
+            row.answered = answered;
+        }
+        if end == length {
+            row.end = Served::Ended;
+        }
+    }
+    Some(row)
+}
+
+/// Whether the front of this length comes to its end.
+fn front_comes_to<R: Wait>(rt: &R, alloc: Global, length: usize) -> bool {
+    match front(length) {
+        Some(row) => comes_to(rt, alloc, &row),
+        None => false,
+    }
+}
+
+#[test]
+fn a_session_that_is_cut_anywhere_is_answered_up_to_the_cut(rt: HostRuntime) -> Result<(), Fail> {
+    for length in 0..153 {
+        assert!(rt; front_comes_to(&rt, rt.alloc(), length), "{length}");
+    }
+    Ok(())
+}
+
+/// What becomes of calls, of which so many succeed and the next one fails.
+fn failing_after(alloc: Global, calls: usize) -> Result<Vec<bool>, AllocError> {
+    let mut fails = Vec::new(alloc);
+    fails.push(true)?;
+    for _ in 0..calls {
+        fails.push(false)?;
+    }
+    Ok(fails)
+}
+
+/// Whether the session is answered up to this length where the read after it fails.
+fn ends_at_read<R: Wait>(rt: &R, alloc: Global, length: usize) -> bool {
+    let Some(front) = front(length) else {
+        return false;
+    };
+    match failing_after(alloc, length) {
+        Ok(reads) => {
+            let row = Row {
+                session: WHOLE.session,
+                end: Served::ReadFault,
+                ..front
+            };
+            comes_to_failing(rt, alloc, &row, reads, Vec::new(alloc))
+        }
+        Err(_) => false,
+    }
+}
+
+#[test]
+fn any_read_that_fails_ends_a_session(rt: HostRuntime) -> Result<(), Fail> {
+    for length in 0..153 {
+        assert!(rt; ends_at_read(&rt, rt.alloc(), length), "{length}");
+    }
+    Ok(())
+}
+
+/// Whether the session is answered so many bytes where the write after so many others fails.
+fn ends_at_write<R: Wait>(rt: &R, alloc: Global, writes: usize, answered: usize) -> bool {
+    match failing_after(alloc, writes) {
+        Ok(writes) => {
+            let row = Row {
+                end: Served::WriteFault,
+                answered,
+                ..WHOLE
+            };
+            comes_to_failing(rt, alloc, &row, Vec::new(alloc), writes)
+        }
+        Err(_) => false,
+    }
+}
+
+#[test]
+fn any_write_that_fails_ends_a_session(rt: HostRuntime) -> Result<(), Fail> {
+    for (writes, answered) in [(0, 0), (1, 56), (2, 104)] {
+        assert!(rt;
+            ends_at_write(&rt, rt.alloc(), writes, answered),
+            "{writes}"
+        );
     }
     Ok(())
 }

@@ -32,6 +32,9 @@ pub const CREATED_B: &[u8] = &[
 /// The removal of `A`.
 pub const REMOVED_A: &[u8] = &[3, 6, 0, 0, 0, 1, 0, 0, 0, 0x41, 0];
 
+/// The removal of `B`.
+pub const REMOVED_B: &[u8] = &[3, 6, 0, 0, 0, 1, 0, 0, 0, 0x42, 0];
+
 /// What a journal of `A` and `B`, of which `A` is removed, is made of.
 pub const LONG: &[&[u8]] = &[HEADER, CREATED_A, CREATED_B, REMOVED_A];
 

@@ -1,11 +1,13 @@
-//! Tests of compactions and moves over a disk in memory: bytes that are stated outside, and what is
-//! left if a call of the disk fails.
+//! Tests of compactions and moves over a disk in memory: bytes that are stated outside, what is left
+//! if a call of the disk fails, and what the images open to that a crash may leave.
 #![tactic(auto)]
 
 #[cfg(test)]
 mod bytes;
 #[cfg(test)]
 mod compactions;
+#[cfg(test)]
+mod images;
 #[cfg(test)]
 mod moves;
 #[cfg(test)]

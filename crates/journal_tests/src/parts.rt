@@ -4,8 +4,8 @@ use crate::opening::{A, A_NEEDS_B, Answer, B, B_SHOWN, NO_A, opens};
 use std::alloc::{AllocError, Global};
 use std::test::*;
 
-/// Ten changes, the names of the services after each, and how many bytes the journal has then.
-const CHANGES: [(&[u8], &str, usize); 10] = [
+/// Twenty changes, the names of the services after each, and how many bytes the journal has then.
+const CHANGES: [(&[u8], &str, usize); 20] = [
     (A, "A", 79),
     (A_NEEDS_B, "A", 157),
     (NO_A, "", 168),
@@ -16,9 +16,19 @@ const CHANGES: [(&[u8], &str, usize); 10] = [
     (A, "BA", 470),
     (NO_A, "B", 481),
     (A, "BA", 552),
+    (NO_A, "B", 563),
+    (A, "BA", 634),
+    (NO_A, "B", 645),
+    (A, "BA", 716),
+    (NO_A, "B", 727),
+    (A, "BA", 798),
+    (NO_A, "B", 809),
+    (A, "BA", 880),
+    (NO_A, "B", 891),
+    (A, "BA", 962),
 ];
 
-/// Appends the header and the entries of the ten changes.
+/// Appends the header and the entries of the changes.
 fn append_changes(bytes: &mut Vec<u8>) -> Result<(), AllocError> {
     bytes.extend_from_slice(HEADER)?;
     for (entry, _, _) in &CHANGES {
@@ -51,7 +61,7 @@ fn opens_at(alloc: Global, bytes: &[u8], size: usize) -> Result<bool, AllocError
 fn a_journal_that_is_cut_anywhere_is_read_up_to_the_cut(rt: HostRuntime) -> Result<(), Fail> {
     let mut bytes = Vec::new(rt.alloc());
     append_changes(&mut bytes)?;
-    for size in 0..553 {
+    for size in 0..963 {
         assert!(rt; opens_at(rt.alloc(), &bytes, size)?, "{size}");
     }
     Ok(())

@@ -8,8 +8,8 @@ ghost use Rattle.scm_book.specs.Passes.{HasPlan, IsOf};
 use book_calls::{Site, Told, begin_start, call, end_start, limits, new_book};
 use outside::FixedClock;
 use record_journal::MemoryKeeper;
-use scm_book::{Book, Opened, Pass};
-use scm_model::{NewService, Principal, Request, Status, zero_status};
+use scm_book::{Book, CallEnd, Opened, Pass};
+use scm_model::{NewService, Principal, Reply, Request, Status, zero_status};
 use scm_text::{Items, WText};
 use std::alloc::Global;
 use std::sync::Wait;
@@ -255,5 +255,29 @@ pub fn state<R: Wait>(rt: &R, book: &TestBook, caller: &mut Pass, handle: u64) -
     match call(rt, book, caller, 0, Request::QueryStatus { handle }) {
         Ok(Told { code: 0, number }) => Some(number),
         _ => None,
+    }
+}
+
+/// The exit code in the answer to a query.
+fn exit_in(reply: &Reply) -> Option<u32> {
+    match reply {
+        Reply::State { status, code } if *code == 0 => Some(status.win32),
+        _ => None,
+    }
+}
+
+/// The exit code of a service, by its handle.
+pub fn exit_code<R: Wait>(rt: &R, book: &TestBook, caller: &mut Pass, handle: u64) -> Option<u32>
+    requires book { IsOf book.now caller.old }
+    requires caller { caller.old.caller ≢ 0 }
+    ensures book { IsOf book.now caller.new }
+{
+    match book.call(rt, caller, 0, Request::QueryStatus { handle }) {
+        CallEnd::Answered(reply) => {
+            let code = exit_in(&reply);
+            drop(reply);
+            code
+        }
+        CallEnd::Unmade(_) => None,
     }
 }

@@ -1,7 +1,9 @@
 ghost use Rattle.std.specs.Prelude.{◌≡◌, ◌≢◌, ◌≤◌, IfSome};
 ghost use Rattle.scm_book.specs.Passes.{IsOf};
 
-use crate::books::{Ask, CLOCK, NOTHING, Stage, TestBook, begin_within, runner, status, tells};
+use crate::books::{
+    Ask, CLOCK, NOTHING, Stage, TestBook, begin_within, exit_code, runner, status, tells,
+};
 use crate::fates::{Fates, add_child, add_source};
 use crate::launches::launch;
 use crate::plays::{Play, is_played};
@@ -24,7 +26,8 @@ const BEGIN: [(Ask<'static>, u32); 3] = [
 ];
 
 /// What a child writes, which of its reads and waits fail (the last of a list goes first), how it
-/// is served, and what the history then tells.
+/// is served, what the history then tells, and the exit code of its service, where the limits have
+/// room for the call that asks for it.
 #[derive(Clone, Copy)]
 struct Row {
     output: &'static str,
@@ -32,6 +35,7 @@ struct Row {
     waits: &'static [bool],
     how: ChildServed,
     told: u64,
+    exit: Option<u32>,
 }
 
 /// A child that writes nothing, and ends.
@@ -41,9 +45,18 @@ const ENDED: Row = Row {
     waits: &[],
     how: ChildServed::Ended,
     told: 9,
+    exit: Some(1067),
 };
 
 const RUNNING: &str = "STATUS 16 4 1 0 0 0 0\n";
+
+/// A child whose line takes four reads, of which the first one fails.
+const READ_FAULT: Row = Row {
+    output: RUNNING,
+    reads: &[true],
+    how: ChildServed::ReadFault,
+    ..ENDED
+};
 
 /// Thirteen reports.
 const MANY: &str = "STATUS 16 4 1 0 0 0 0\nSTATUS 16 4 1 0 0 0 0\nSTATUS 16 4 1 0 0 0 0\n\
@@ -52,14 +65,28 @@ const MANY: &str = "STATUS 16 4 1 0 0 0 0\nSTATUS 16 4 1 0 0 0 0\nSTATUS 16 4 1 
     STATUS 16 4 1 0 0 0 0\nSTATUS 16 4 1 0 0 0 0\nSTATUS 16 4 1 0 0 0 0\n\
     STATUS 16 4 1 0 0 0 0\n";
 
-const ROWS: [Row; 8] = [
+/// A child for whose reports there is no room: there is for eleven, and for its end.
+const FULL: Row = Row {
+    output: MANY,
+    how: ChildServed::Full,
+    told: 444_444_444_449,
+    exit: None,
+    ..ENDED
+};
+
+const ROWS: &[Row] = &[
     Row {
         output: "STATUS 16 4 1 0 0 0 0\nhello\nSTATUS 16 1 0 0 0 0 0\r\n",
-        reads: &[],
-        waits: &[],
-        how: ChildServed::Ended,
         told: 419,
+        exit: Some(0),
+        ..ENDED
     },
+    Row {
+        output: RUNNING,
+        told: 49,
+        ..ENDED
+    },
+    // Half a line, no line, and a line that is no report.
     Row {
         output: "STATUS 16 4 1 0 0 0 0",
         ..ENDED
@@ -69,35 +96,46 @@ const ROWS: [Row; 8] = [
         output: "STATUS 16 04 1 0 0 0 0\n",
         ..ENDED
     },
-    // The read after the whole line.
+    // Each read of a line fails, the read after it, and the wait.
+    READ_FAULT,
     Row {
-        output: RUNNING,
+        reads: &[true, false],
+        ..READ_FAULT
+    },
+    Row {
+        reads: &[true, false, false],
+        ..READ_FAULT
+    },
+    Row {
+        reads: &[true, false, false, false],
+        ..READ_FAULT
+    },
+    Row {
         reads: &[true, false, false, false, false],
-        waits: &[],
-        how: ChildServed::ReadFault,
         told: 49,
+        ..READ_FAULT
     },
     Row {
-        output: RUNNING,
         reads: &[],
         waits: &[true],
-        how: ChildServed::ReadFault,
         told: 49,
+        ..READ_FAULT
     },
-    // There is room for eleven reports, and the end.
+    // The read and the wait fail of a child that writes nothing.
     Row {
-        output: MANY,
-        reads: &[],
-        waits: &[],
-        how: ChildServed::Full,
-        told: 444_444_444_449,
+        output: "",
+        ..READ_FAULT
     },
     Row {
-        output: MANY,
+        output: "",
         reads: &[],
         waits: &[true],
-        how: ChildServed::Full,
-        told: 444_444_444_449,
+        ..READ_FAULT
+    },
+    FULL,
+    Row {
+        waits: &[true],
+        ..FULL
     },
 ];
 
@@ -145,58 +183,74 @@ fn add_row(alloc: Global, fates: &mut Fates, row: &Row) -> bool {
     has_bytes && has_reads && has_waits && is_added
 }
 
+/// How a child was served, and the exit code of its service then.
+struct Served {
+    ended: ChildEnded,
+    exit: Option<u32>,
+}
+
 /// Starts a service, launches its child and serves that to its end.
 fn serve<R: Wait>(
     at: &Site<'_, R>,
     caller: &mut Pass,
     room: &mut LaunchRoom,
     spawner: &mut MemorySpawner,
-) -> Option<ChildEnded>
+) -> Option<Served>
     requires caller { IsOf at.now.book.now caller.old × (caller.old.caller ≢ 0) }
     requires path { 2048 ≤ room.old.path.room }
-    ensures { IfSome result (λ ended. IsOf at.now.book.now ended.spent) }
+    ensures { IfSome result (λ served. IsOf at.now.book.now served.ended.spent) }
 {
     if !tells(at, caller, &BEGIN) {
         return None;
     }
-    let mut runner = at.book.join_runner(caller);
-    match launch_one(at.rt, at.alloc, at.book, &mut runner, room, spawner, &CLOCK) {
+    let mut by = runner(at.book, caller);
+    match launch_one(at.rt, at.alloc, at.book, &mut by, room, spawner, &CLOCK) {
         LaunchEnd::Started {
             process,
             mut link,
             feed,
         } => {
             drop(feed);
-            let ended = serve_child(at.rt, at.alloc, at.book, runner, process, &mut link, &CLOCK);
+            let ended = serve_child(at.rt, at.alloc, at.book, by, process, &mut link, &CLOCK);
             drop(link);
-            Some(ended)
+            let exit = exit_code(at.rt, at.book, caller, 2);
+            Some(Served { ended, exit })
         }
         LaunchEnd::Failed { .. } | LaunchEnd::Empty => {
-            drop(runner);
+            drop(by);
             None
         }
     }
 }
 
-/// How a child was served, and what the whole history then tells.
-fn history<R: Wait>(rt: &R, book: TestBook, ended: ChildEnded) -> (ChildServed, u64)
-    requires { IsOf book ended.spent }
+/// How a child was served, what the whole history then tells, and the exit code of its service.
+#[derive(Clone, Copy)]
+struct Outcome {
+    how: ChildServed,
+    told: u64,
+    exit: Option<u32>,
+}
+
+/// The outcome in a book that is closed.
+fn outcome_in<R: Wait>(rt: &R, book: TestBook, served: Served) -> Outcome
+    requires { IsOf book served.ended.spent }
 {
+    let Served { ended, exit } = served;
     let ChildEnded { how, spent } = ended;
     let trail = close(rt, book, spent);
     let told = told(&trail);
     drop(trail);
-    (how, told)
+    Outcome { how, told, exit }
 }
 
-/// How a child is served at a stage, and what the whole history then tells.
+/// The outcome of a child at a stage.
 fn play<R: Wait>(
     rt: &R,
     alloc: Global,
     stage: Stage,
     room: &mut LaunchRoom,
     spawner: &mut MemorySpawner,
-) -> Option<(ChildServed, u64)>
+) -> Option<Outcome>
     requires stage { IsOf stage.book stage.caller × (stage.caller.caller ≢ 0) }
     requires path { 2048 ≤ room.old.path.room }
 {
@@ -210,7 +264,7 @@ fn play<R: Wait>(
     drop(at);
     drop(caller);
     match served {
-        Some(ended) => Some(history(rt, book, ended)),
+        Some(served) => Some(outcome_in(rt, book, served)),
         None => {
             drop(book);
             None
@@ -230,7 +284,9 @@ fn is_served_in<R: Wait>(
 {
     match begin_within(rt, alloc, 20) {
         Some(stage) => match play(rt, alloc, stage, room, spawner) {
-            Some((how, told)) => how == row.how && told == row.told,
+            Some(Outcome { how, told, exit }) => {
+                how == row.how && told == row.told && exit == row.exit
+            }
             None => false,
         },
         None => false,
@@ -295,8 +351,8 @@ pub fn ends_late<R: Wait>(at: &Site<'_, R>, caller: &mut Pass, spawner: &mut Mem
 #[test]
 fn a_child_is_told_by_its_reports_and_its_end(rt: HostRuntime) -> Result<(), Fail> {
     let alloc = rt.alloc();
-    for row in &ROWS {
-        assert!(rt; is_served(&rt, alloc, row));
+    for (place, row) in ROWS.iter().enumerate() {
+        assert!(rt; is_served(&rt, alloc, row), "row {place}");
     }
     Ok(())
 }

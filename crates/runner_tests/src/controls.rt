@@ -59,7 +59,7 @@ fn writes<R: Wait>(
     looks: u64,
     feed: &mut MemorySink,
     how: ControlsSent,
-    written: &str,
+    written: &[u8],
 ) -> bool
     requires { IsOf at.now.book.now pass.old }
     ensures { IsOf at.now.book.now pass.new }
@@ -76,7 +76,7 @@ fn writes<R: Wait>(
     let ended = sender.write_controls(pass, feed);
     drop(sender);
     drop(quit);
-    ended == how && feed.bytes() == written.as_bytes()
+    ended == how && feed.bytes() == written
 }
 
 /// How the sending of a process's controls by a new pass ends.
@@ -99,6 +99,9 @@ fn sends<R: Wait, Q: Quit>(
     how
 }
 
+/// The line of a control to stop.
+const STOP_LINE: &[u8] = b"CONTROL 1\n";
+
 /// Whether the control of process 1 is written once, to a feed of its own.
 fn is_written_once<R: Wait>(at: &Site<'_, R>, runner: &mut Pass) -> bool
     requires { IsOf at.now.book.now runner.old }
@@ -106,27 +109,71 @@ fn is_written_once<R: Wait>(at: &Site<'_, R>, runner: &mut Pass) -> bool
 {
     let mut feed = MemorySink::new(at.alloc, Vec::new(at.alloc));
     let how = ControlsSent::Shut;
-    let is_written = writes(at, runner, 1, 3, &mut feed, how, "CONTROL 1\n");
+    let is_written = writes(at, runner, 1, 3, &mut feed, how, STOP_LINE);
     drop(feed);
     is_written
 }
 
-/// Whether a control of process 1 is not written to a feed whose first call fails.
-fn is_fault<R: Wait>(at: &Site<'_, R>, runner: &mut Pass) -> bool
+/// What is written of it if each of its bytes fails in turn.
+const FRONTS: &[&[u8]] = &[
+    b"",
+    b"C",
+    b"CO",
+    b"CON",
+    b"CONT",
+    b"CONTR",
+    b"CONTRO",
+    b"CONTROL",
+    b"CONTROL ",
+    b"CONTROL 1",
+];
+
+/// Puts a failure and so many successes before it. Whether there is memory for them.
+fn put_failure(fails: &mut Vec<bool>, before: usize) -> bool {
+    if fails.push(true).is_err() {
+        return false;
+    }
+    for _ in 0..before {
+        if fails.push(false).is_err() {
+            return false;
+        }
+    }
+    true
+}
+
+/// Whether a control of process 1 is written up to here to a feed that takes a byte at a time and
+/// fails then.
+fn is_fault<R: Wait>(at: &Site<'_, R>, runner: &mut Pass, written: &[u8]) -> bool
     requires { IsOf at.now.book.now runner.old }
     ensures { IsOf at.now.book.now runner.new }
 {
     let mut fails = Vec::new(at.alloc);
-    let is_ready = fails.push(true).is_ok();
-    let mut feed = MemorySink::new(at.alloc, fails);
+    let is_ready = put_failure(&mut fails, written.len());
+    let mut feed = MemorySink::in_pieces(at.alloc, 1, fails);
     let how = ControlsSent::WriteFault;
-    let is_fault = writes(at, runner, 1, 3, &mut feed, how, "");
+    let is_fault = writes(at, runner, 1, 3, &mut feed, how, written);
     drop(feed);
     is_ready && is_fault
 }
 
-/// Whether a stop that is granted is written once, and a second one is asked for then; and how the
-/// sending ends where it is asked to, where its feed fails, and where no such process is listed.
+/// Whether that is so of each front of the line, each time after one more stop.
+fn each_is_fault<R: Wait>(at: &Site<'_, R>, caller: &mut Pass, runner: &mut Pass) -> bool
+    requires caller { IsOf at.now.book.now caller.old × (caller.old.caller ≢ 0) }
+    requires runner { IsOf at.now.book.now runner.old }
+    ensures caller { IsOf at.now.book.now caller.new × (caller.new.caller ≢ 0) }
+    ensures runner { IsOf at.now.book.now runner.new }
+{
+    for written in FRONTS {
+        let again = tells(at, caller, &[(Ask::Stops(2), 0)]);
+        if !again || !is_fault(at, runner, written) {
+            return false;
+        }
+    }
+    true
+}
+
+/// Whether a stop that is granted is written once, and more are asked for then; and how the sending
+/// ends where it is asked to, where any call of its feed fails, and where no such process is listed.
 pub fn stops_once<R: Wait>(at: &Site<'_, R>, caller: &mut Pass, spawner: &mut MemorySpawner) -> bool
     requires { IsOf at.now.book.now caller.old × (caller.old.caller ≢ 0) }
 {
@@ -137,11 +184,10 @@ pub fn stops_once<R: Wait>(at: &Site<'_, R>, caller: &mut Pass, spawner: &mut Me
     let shut = sends(at, caller, 1, &asked) == ControlsSent::Shut;
     let mut by = runner(at.book, caller);
     let written = is_written_once(at, &mut by);
-    let again = tells(at, caller, &[(Ask::Stops(2), 0)]);
-    let fault = is_fault(at, &mut by);
+    let fault = each_is_fault(at, caller, &mut by);
     drop(by);
     let over = sends(at, caller, 2, &NoQuit) == ControlsSent::Over;
-    stopped && shut && written && again && fault && over
+    stopped && shut && written && fault && over
 }
 
 #[test]

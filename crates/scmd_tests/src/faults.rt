@@ -61,6 +61,33 @@ const ROWS: &[Run] = &[
         kept: Some(A_AND_B),
         ..KEEPS_NOTHING
     },
+    // Of these calls the creation, the deletion or the second creation can't be kept.
+    Run {
+        asked: UNMADE,
+        keeps: &[Fate::Fails { done: 5 }, Fate::Succeeds],
+        told: UNMADE,
+        kept: None,
+        ..KEEPS_NOTHING
+    },
+    Run {
+        asked: UNMARKED,
+        keeps: &[Fate::Fails { done: 5 }, Fate::Succeeds, Fate::Succeeds],
+        told: UNMARKED,
+        kept: None,
+        ..KEEPS_NOTHING
+    },
+    Run {
+        asked: UNMADE_AGAIN,
+        keeps: &[
+            Fate::Fails { done: 5 },
+            Fate::Succeeds,
+            Fate::Succeeds,
+            Fate::Succeeds,
+        ],
+        told: UNMADE_AGAIN,
+        kept: None,
+        ..KEEPS_NOTHING
+    },
     // What a run keeps under a path is there in the next one; without a path it isn't.
     Run {
         words: "pipe --db journal",
@@ -241,6 +268,35 @@ can't be kept     | create h1 'B' - own '/a' plain | - h0 1013
 and isn't there   | open h1 'B' 4                  | h0 1060
 is kept this time | create h1 'B' - own '/a' plain | - h3 0
 and is there      | open h1 'B' 4                  | h4 0
+";
+
+const UNMADE: &str = "bind
+manager
+can't be kept          | create h1 'Spooler' - own '/bin/true' plain | - h0 1013
+so the name is free    | create h1 'SPOOLER' - own '/bin/true' plain | - h2 0
+it is marked           | delete h2                                   | 0
+its last handle closes | close h2                                    | h0 0
+and the name is free   | create h1 'SPOOLER' - own '/bin/true' plain | - h3 0
+";
+
+const UNMARKED: &str = "bind
+manager
+                       | create h1 'Spooler' - own '/bin/true' plain | - h2 0
+can't be kept          | delete h2                                   | 1013
+so it isn't marked     | create h1 'SPOOLER' - own '/bin/true' plain | - h0 1073
+it is marked           | delete h2                                   | 0
+it is marked already   | delete h2                                   | 1072
+its last handle closes | close h2                                    | h0 0
+and the name is free   | create h1 'SPOOLER' - own '/bin/true' plain | - h3 0
+";
+
+const UNMADE_AGAIN: &str = "bind
+manager
+                       | create h1 'Spooler' - own '/bin/true' plain | - h2 0
+it is marked           | delete h2                                   | 0
+its last handle closes | close h2                                    | h0 0
+can't be kept          | create h1 'SPOOLER' - own '/bin/true' plain | - h0 1013
+is kept this time      | create h1 'SPOOLER' - own '/bin/true' plain | - h3 0
 ";
 
 /// A journal in which the services A and B were created.

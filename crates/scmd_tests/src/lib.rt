@@ -7,7 +7,11 @@ mod children;
 #[cfg(test)]
 mod faults;
 #[cfg(test)]
+mod keepers;
+#[cfg(test)]
 mod rows;
+#[cfg(test)]
+mod rundowns;
 #[cfg(test)]
 mod running;
 #[cfg(test)]

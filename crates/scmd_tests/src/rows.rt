@@ -38,6 +38,9 @@
 //! - `level`: service, level, the same again, a pointer and what it leads to; it returns a code.
 //!   `leveled`: service, level, size; it returns a count of bytes and the bytes, the size that is
 //!   needed, a code. The bytes are laid out as `service_listing` says of each level
+//! - `secured`: service, parts, size; it returns a count of bytes and the bytes, the size that is
+//!   needed, a code. `secure`: service, parts, a count of bytes, the bytes, the count again; it
+//!   returns a code. The bytes are a security descriptor of MS-DTYP, self-relative
 //! - `watch`: manager or service, events; it returns a handle and a code. `event`: this handle; it
 //!   returns the event, a status as in `process`, a name, a code
 
@@ -128,6 +131,48 @@ and to open them               | open h1 'A' 4                  | h0 1060",
     (
         "administrator",
         "| join admin; call 1 manager - - #F003F | caller 1; reply h1 0",
+    ),
+    (
+        "none active, none stopped",
+        "active                    | call 3 services h3 #30 1 0 - | reply 0 0 0 - 0
+stopped                   | call 3 services h3 #30 2 0 - | reply 0 0 0 - 0
+nothing is to be launched | take                         | empty",
+    ),
+    (
+        "none active, one stopped",
+        "active                    | call 3 services h3 #30 1 0 - | reply 0 0 0 - 0
+stopped                   | call 3 services h3 #30 2 0 - | reply 0 44 0 - 234
+nothing is to be launched | take                         | empty",
+    ),
+    (
+        "none active, two stopped",
+        "active                    | call 3 services h3 #30 1 0 - | reply 0 0 0 - 0
+stopped                   | call 3 services h3 #30 2 0 - | reply 0 88 0 - 234
+nothing is to be launched | take                         | empty",
+    ),
+    (
+        "one active, one stopped",
+        "active                    | call 3 services h3 #30 1 0 - | reply 0 44 0 - 234
+stopped                   | call 3 services h3 #30 2 0 - | reply 0 44 0 - 234
+nothing is to be launched | take                         | empty",
+    ),
+    (
+        "one active, two stopped",
+        "active                    | call 3 services h3 #30 1 0 - | reply 0 44 0 - 234
+stopped                   | call 3 services h3 #30 2 0 - | reply 0 88 0 - 234
+nothing is to be launched | take                         | empty",
+    ),
+    (
+        "two active, one stopped",
+        "active                    | call 3 services h3 #30 1 0 - | reply 0 88 0 - 234
+stopped                   | call 3 services h3 #30 2 0 - | reply 0 44 0 - 234
+nothing is to be launched | take                         | empty",
+    ),
+    (
+        "three active, none stopped",
+        "active                    | call 3 services h3 #30 1 0 - | reply 0 132 0 - 234
+stopped                   | call 3 services h3 #30 2 0 - | reply 0 0 0 - 0
+nothing is to be launched | take                         | empty",
     ),
     (
         "A",
@@ -250,6 +295,8 @@ bind
 a call that there is not        | 9                             | fault #1C010002
                                 | manager - - 0                 | h1 0
 a name whose last unit is not 0 | open h1 3 0 3 x440062000100 4 | fault #6F7
+a name of 4,294,967,295 units   | open h1 #FFFFFFFF 0 #FFFFFFFF x440062000000 4 | fault #6F7
+as many words of a start        | start h1 #FFFFFFFF * #FFFFFFFF * 2 0 2 x41000000 | fault #6F7
 = 0 pipe: services, page by page
 bind
 manager
@@ -289,6 +336,32 @@ no process          | process h2 0 36 | 36 16 1 0 1077 0 0 0 0 0 0 0
 more room           | process h2 0 40 | 40 16 1 0 1077 0 0 0 0 0 x00^4 0 0
 of the manager      | process h1 0 36 | 36 x00^36 0 6
 out of its range    | process h2 0 8193 | fault #6F7
+= 0 pipe: a security descriptor
+bind
+manager
+                        | create h1 'A' - own '/bin/a' plain | - h2 0
+the default list        | secured h2 4 76     | 76 x0100048000000000000000000000000014000000020038000200000000001800ff810f0001020000000000052000000020020000000018008d00020001020000000000052000000021020000 0 0
+a byte too few          | secured h2 4 75     | 75 x00^75 76 122
+all parts               | secured h2 7 0      | 0 100 122
+none                    | secured h2 0 4      | 4 x00^4 0 87
+another                 | secured h2 8 4      | 4 x00^4 0 87
+of the manager          | secured h1 4 4      | 4 x00^4 0 6
+out of its range        | secured h2 4 262145 | fault #6F7
+another list            | secure h2 4 72 x0100048000000000000000000000000014000000020034000200000001001800040000000102000000000005200000002102000000001400ff010f00010100000000000100000000 72 | 0
+                        | secured h2 4 72     | 72 x0100048000000000000000000000000014000000020034000200000001001800040000000102000000000005200000002102000000001400ff010f00010100000000000100000000 0 0
+no descriptor           | secure h2 4 4 x01020304 4 | 87
+no part                 | secure h2 0 4 x01020304 4 | 87
+of the manager          | secure h1 4 4 x01020304 4 | 6
+a count that differs    | secure h2 4 4 x01020304 5 | fault #6F7
+a handle without rights | open h1 'A' #F        | h3 0
+may not read it         | secured h3 4 4        | 4 x00^4 0 5
+nor set it              | secure h3 4 4 x01020304 4 | 5
+a handle that may read  | open h1 'A' #20000    | h4 0
+                        | secured h4 4 0        | 0 72 122
+may not set it          | secure h4 4 4 x01020304 4 | 5
+of a marked service     | delete h2             | 0
+it can be read          | secured h2 4 0        | 0 72 122
+and not set             | secure h2 4 4 x01020304 4 | 1072
 = 0 pipe: a description
 bind
 manager
@@ -585,6 +658,16 @@ not to report for it | call 2 open h3 'A' #8000     | reply h0 5
 not to delete it     | call 2 open h3 'A' #10000    | reply h0 5
 nor to change rights | call 2 open h3 'A' #40000    | reply h0 5
 nor an owner         | call 2 open h3 'A' #80000    | reply h0 5
+= 0 replay: the handles of another caller
+administrator
+A
+another caller       | join admin; call 2 manager - - #F003F     | caller 2; reply h3 0
+A's handle is caller 1's | call 2 status h2                      | reply 0 0 0 0 0 0 0 6
+                     | call 2 delete h2                          | reply 6
+                     | call 2 close h2                           | reply h2 6
+the manager's too    | call 2 create h1 'B' - own '/bin/b' plain | reply - h0 6
+both are as they were | call 1 status h2                         | reply 16 1 0 1077 0 0 0 0
+                     | call 1 create h1 'B' - own '/bin/b' plain | reply - h4 0
 = 0 replay: a control that there is not
 administrator
 A
@@ -1040,6 +1123,19 @@ there was one plan         | call 1 start h3 0 -; take; launched 3 103 | plan 2;
 it is disabled             | call 1 change h3 keep 4 keep - - - - 0 - - 0 - | reply - 0
 and stops                  | report 3 16 1 0 0 0 0 0          | done
 so it does not start       | raise 1 aaaaaaaaaaaaaaaaaaaaaaaaaaaaaaaa; take | reply 0; empty
+= 0 replay: a security descriptor narrows what is granted
+administrator
+A
+users are denied 4, and all else is allowed | call 1 secure h2 4 72 x0100048000000000000000000000000014000000020034000200000001001800040000000102000000000005200000002102000000001400ff010f00010100000000000100000000 72 | reply 0
+a user                    | join user; call 2 manager - - #2000000 | caller 2; reply h3 0
+is denied 4               | call 2 open h3 'A' 4                   | reply h0 5
+and 4 with 8              | call 2 open h3 'A' #C                  | reply h0 5
+has 8 alone               | call 2 open h3 'A' 8                   | reply h4 0
+and what is left of all   | call 2 open h3 'A' #2000000            | reply h5 0
+so not the status         | call 2 status h5                       | reply 0 0 0 0 0 0 0 5
+but the dependents        | call 2 dependents h5 3 0               | reply 0 0 0 0
+no more than a user's     | call 2 open h3 'A' #10                 | reply h0 5
+an administrator has all  | call 1 open h1 'A' #F01FF              | reply h6 0
 = 0 replay: a trigger stops what may be stopped
 administrator
 A

@@ -1,5 +1,5 @@
 //! The program in memory.
-use journal_disk::MemoryDisk;
+use journal_disk::{DiskFate, MemoryDisk};
 use journal_store::JournalStore;
 use outside::{FixedClock, MemorySink, MemorySource};
 use process_runner::MemorySpawner;
@@ -44,7 +44,7 @@ impl Coming {
 
 /// What a run meets: its words; its input, of which each read gives so many bytes at most; what its
 /// keeper has before it; what becomes of calls, the last one of each list first: each `true` is a
-/// read or a write that fails; and who comes.
+/// read or a write that fails, and `disk` is for the disk of its store; and who comes.
 #[derive(Drop)]
 pub struct Outside {
     pub words: Vec<Text>,
@@ -54,6 +54,7 @@ pub struct Outside {
     pub writes: Vec<bool>,
     pub stands: Vec<u8>,
     pub keeps: Vec<Fate>,
+    pub disk: Vec<DiskFate>,
     pub admin: Coming,
     pub user: Coming,
 }
@@ -69,6 +70,7 @@ impl Outside {
             writes: Vec::new(alloc),
             stands: Vec::new(alloc),
             keeps: Vec::new(alloc),
+            disk: Vec::new(alloc),
             admin: Coming::nobody(alloc),
             user: Coming::nobody(alloc),
         }
@@ -99,6 +101,7 @@ where
         writes,
         stands,
         keeps,
+        disk,
         admin,
         user,
     } = outside;
@@ -106,7 +109,7 @@ where
         input: MemorySource::in_pieces(input, piece, reads),
         output: MemorySink::new(alloc, writes),
         keeper: MemoryKeeper::new(stands, keeps),
-        store: JournalStore::new(alloc, MemoryDisk::new(alloc, Vec::new(alloc))),
+        store: JournalStore::new(alloc, MemoryDisk::new(alloc, disk)),
         admin: admin.listener(alloc),
         user: user.listener(alloc),
         spawner: MemorySpawner::new(alloc, Vec::new(alloc)),

@@ -1,6 +1,7 @@
 //! Runs of the program in memory, and how each is to end.
 use crate::rows::{SMALLEST, SMALLEST_ASKED};
 use crate::running::{Coming, Memory, Outside, put_words, run};
+use journal_disk::DiskFate;
 use record_journal::Fate;
 use scm_listener::{MemoryListener, MemoryPeer, Noted};
 use std::alloc::Global;
@@ -16,9 +17,13 @@ use svcctl_words::{Sheet, Side, put_hex, put_hex_lines};
 pub enum Port<'a> {
     /// Nobody comes.
     Idle,
-    /// One comes who asks the smallest session. Which calls fail, the next one last: the first
-    /// listens, and the second accepts. Whether the one who comes is served.
-    Comes { fails: &'a [bool], is_served: bool },
+    /// So many come that ask the smallest session, and so many of them are served. Which calls fail,
+    /// the next one last: the first listens, and the others accept.
+    Comes {
+        come: usize,
+        served: usize,
+        fails: &'a [bool],
+    },
 }
 
 /// A run, and how it ends.
@@ -30,10 +35,12 @@ pub struct Run<'a> {
     pub asked: &'a str,
     /// How many bytes a read gives at most.
     pub piece: usize,
-    /// What becomes of its reads, of its writes and of the calls of its keeper, the next one last.
+    /// What becomes of its reads, of its writes and of the calls of its keeper and of the disk of its
+    /// store, the next one last.
     pub reads: &'a [bool],
     pub writes: &'a [bool],
     pub keeps: &'a [Fate],
+    pub disk: &'a [DiskFate],
     pub admin: Port<'a>,
     pub user: Port<'a>,
     pub status: u8,
@@ -52,6 +59,7 @@ pub const PIPE: Run<'static> = Run {
     reads: &[],
     writes: &[],
     keeps: &[],
+    disk: &[],
     admin: Port::Idle,
     user: Port::Idle,
     status: 0,
@@ -59,12 +67,8 @@ pub const PIPE: Run<'static> = Run {
     kept: None,
 };
 
-/// Adds the peer that is to connect to a listener, if any.
-fn let_come(alloc: Global, coming: &mut Coming, port: Port) -> Option<()> {
-    let Port::Comes { fails, .. } = port else {
-        return Some(());
-    };
-    coming.fails.extend_from_slice(fails).ok()?;
+/// Adds a peer that is to connect to a listener.
+fn add_peer(alloc: Global, coming: &mut Coming) -> Option<()> {
     let mut bytes = Vec::new(alloc);
     let is_put = put_hex_lines(&mut bytes, SMALLEST_ASKED).is_some();
     let peer = MemoryPeer {
@@ -76,6 +80,18 @@ fn let_come(alloc: Global, coming: &mut Coming, port: Port) -> Option<()> {
     if is_put && has_come { Some(()) } else { None }
 }
 
+/// Adds the peers that are to connect to a listener.
+fn let_come(alloc: Global, coming: &mut Coming, port: Port) -> Option<()> {
+    let Port::Comes { come, fails, .. } = port else {
+        return Some(());
+    };
+    coming.fails.extend_from_slice(fails).ok()?;
+    for _ in 0..come {
+        add_peer(alloc, coming)?;
+    }
+    Some(())
+}
+
 /// Puts in place what a run meets. `None` where it can't be read, or where there is no memory.
 fn prepare(alloc: Global, sheet: &mut Sheet, run: &Run, outside: &mut Outside) -> Option<()> {
     put_words(alloc, &mut outside.words, run.words, ' ')?;
@@ -85,6 +101,7 @@ fn prepare(alloc: Global, sheet: &mut Sheet, run: &Run, outside: &mut Outside) -
     outside.reads.extend_from_slice(run.reads).ok()?;
     outside.writes.extend_from_slice(run.writes).ok()?;
     outside.keeps.extend_from_slice(run.keeps).ok()?;
+    outside.disk.extend_from_slice(run.disk).ok()?;
     put_hex(&mut outside.stands, run.stands)?;
     let_come(alloc, &mut outside.admin, run.admin)?;
     let_come(alloc, &mut outside.user, run.user)
@@ -104,18 +121,22 @@ fn is_kept(alloc: Global, kept: Option<&str>, bytes: &[u8]) -> bool {
     put_hex(&mut stated, hex).is_some() && stated.as_slice() == bytes
 }
 
-/// Whether one connection came and was told as much as the smallest session; or else none came.
+/// Whether as many connections came as are served, of which the last was told as much as the
+/// smallest session.
 fn is_served(sheet: &mut Sheet, port: Port, listener: &MemoryListener) -> bool {
-    let Port::Comes { is_served, .. } = port else {
+    let Port::Comes { come, served, .. } = port else {
         return true;
     };
+    if listener.waiting() != come.saturating_sub(served) {
+        return false;
+    }
     match listener.noted() {
         Noted::Last(ends, _) => {
-            is_served
+            served > 0
                 && sheet.put("pipe", SMALLEST, Side::Tells).is_some()
                 && ends.output.bytes().len() == sheet.bytes().len()
         }
-        Noted::Nothing => !is_served && listener.waiting() == 1,
+        Noted::Nothing => served == 0,
     }
 }
 
@@ -145,7 +166,7 @@ fn judge<'a>(
 }
 
 /// Makes a run. Whether it ends as it is to; else what is otherwise.
-fn ends<'a, R>(rt: &R, alloc: Global, sheet: &mut Sheet, of: &Run<'a>) -> Result<(), &'a str>
+pub fn ends<'a, R>(rt: &R, alloc: Global, sheet: &mut Sheet, of: &Run<'a>) -> Result<(), &'a str>
 where
     R: Threads + Wait + time::Clock + Sync,
 {

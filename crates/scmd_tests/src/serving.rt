@@ -9,19 +9,29 @@ use svcctl_words::Sheet;
 const SUMMARY: &str = "|| steps 8; caller 1 calls 2; caller 2 calls 2; services 0";
 
 const SERVED: Port = Port::Comes {
+    come: 1,
+    served: 1,
     fails: &[],
-    is_served: true,
 };
 
 const NOT_SERVED: Port = Port::Comes {
+    come: 1,
+    served: 0,
     fails: &[],
-    is_served: false,
 };
 
 /// A server whose port fails at its second call, which accepts.
 const FAILS_TO_ACCEPT: Port = Port::Comes {
+    come: 1,
+    served: 0,
     fails: &[true, false],
-    is_served: false,
+};
+
+/// One whose third call fails, which accepts: the connection that came before is served to its end.
+const FAILS_TO_ACCEPT_ANOTHER: Port = Port::Comes {
+    come: 2,
+    served: 1,
+    fails: &[true, false, false],
 };
 
 /// One whose summary is never written.
@@ -48,12 +58,23 @@ const ROWS: &[Run] = &[
         status: 10,
         ..SERVER
     },
+    Run {
+        admin: FAILS_TO_ACCEPT_ANOTHER,
+        status: 10,
+        ..SERVER
+    },
+    Run {
+        user: FAILS_TO_ACCEPT_ANOTHER,
+        status: 10,
+        ..SERVER
+    },
     // It doesn't listen at the second port.
     Run {
         admin: NOT_SERVED,
         user: Port::Comes {
+            come: 1,
+            served: 0,
             fails: &[true],
-            is_served: false,
         },
         status: 10,
         ..SERVER

@@ -193,6 +193,11 @@ fn faults_tell_their_places(rt: HostRuntime) -> Result<(), Fail> {
             "the item at 20 runs past the end",
         ),
         (
+            Item::Name("Db"),
+            "ffffffff 00000000 ffffffff 440062000000",
+            "the item at 20 runs past the end",
+        ),
+        (
             Item::SomeName("A"),
             "00000200 02000000 00000000 0200",
             "the item at 20 runs past the end",

@@ -1,9 +1,7 @@
-use Rattle.std.proofs.Common.{◌∙◌, ap}
-use Rattle.scm_book.specs.Passes.{Known}
+use Rattle.std.proofs.Common.{◌∙◌}
 use Rattle.runner_tests.proofs.children.serve.Goals as goal
 
 -- a launch leaves a runner's pass nobody's
 pub serve_child-ended-requires-clause-nobody : goal.serve_child-ended-requires-clause-nobody
 serve_child-ended-requires-clause-nobody g c =
-    c.in-Started.ensures.launches.1.told.caller ∙ (c.in-Started.ensures.launches.1.taken.caller
-    ∙ ap (λ (x : Known). x.caller) c.join_runner-runner.ensures.runner)
+    c.in-Started.ensures.launches.1.told.caller ∙ (c.in-Started.ensures.launches.1.taken.caller ∙ c.runner-by.ensures.runner.1)
