@@ -65,13 +65,13 @@ def text(words):
 
 
 class Caller:
-    """An administrator's connection. A handle is its 20 bytes."""
+    """A connection with a handle of the manager: by default what an administrator may have. A handle is its 20 bytes."""
 
-    def __init__(self, connection):
+    def __init__(self, connection, access=0xF003F):
         self.connection, self.stream, self.call = connection, connection.makefile("rb"), 1
         connection.sendall(BIND)
         self.pdu()
-        self.manager = self.ask(15, struct.pack("<III", 0, 0, 0xF003F))[:20]
+        self.manager = self.ask(15, struct.pack("<III", 0, 0, access))[:20]
 
     def pdu(self):
         head = self.stream.read(16)
