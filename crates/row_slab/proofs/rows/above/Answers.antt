@@ -1,35 +1,22 @@
-use Rattle.std.proofs.Common.{ℕ, ◌≡◌, ◌≢◌, ◌<◌, ◌∙◌, sym, length, get_or, arith}
+use Rattle.std.proofs.Common.{rules, ◌≡◌, true, false, nat_le, arith}
+use Rattle.std.specs.List.Sorted.{IsPartitionPoint}
+use Rattle.std.proofs.lemmas.Bool.{leb-true, leb-false}
+use Rattle.std.proofs.lemmas.List.Sorted.{IsPartitionPoint-from_clause, IsPartitionedBy-leb}
 use Rattle.row_slab.specs.declared.rows.Place.{Place}
-use Rattle.std.proofs.lemmas.Bool.{cases_eq}
-use Rattle.std.proofs.Common.{inl, inr}
-use Rattle.row_slab.proofs.Searching.{number_there, no_place, at_same}
+use Rattle.row_slab.proofs.Searching.{in_order}
 use Rattle.row_slab.proofs.rows.above.Goals as goal
-use Rattle.row_slab.proofs.rows.above.Goals.{Joined-else-i-places, else-i-places-via-then-i-places+else-places-i}
-use Rattle.row_slab.proofs.rows.above.Goals.{else-i-places-via-else-i-places}
 
-pub returns-then-places-i-clause-rest : goal.returns-then-places-i-clause-rest
-returns-then-places-i-clause-rest c = λ (k : ℕ) (d : Place) past within.
-    omega (
-      arith,
-      c.requires c.place_of-i.result k d (omega arith) within,
-      number_there c.args.places.now c.place_of-i.result d c.if-i-places.true,
-    )
+-- the places are parted where the answer says
+parted : (c : goal.After-partition_point) → IsPartitionPoint (λ (place : Place). nat_le place.number c.args.number ≡ true)
+    (λ (place : Place). nat_le place.number c.args.number ≡ false) c.args.places.now.items c.partition_point.result
+parted c = IsPartitionPoint-from_clause (λ (place : Place). nat_le place.number c.args.number) c.args.places.now.items
+    c.partition_point.result c.partition_point.ensures.partitioned
+    (IsPartitionedBy-leb (λ (place : Place). place.number) c.args.places.now.items c.args.number
+    (in_order c.args.places.now.items c.requires))
+    (λ place b f k. search rules)
 
-missed : (c : Joined-else-i-places) → c.place_of-i.result < length c.args.places.now
-    → (get_or c.args.places.now c.place_of-i.result no_place).number ≡ c.args.number → ⊥
-missed c lt same = elim c.else-i-places.branch [
-  | else-i-places-via-then-i-places+else-places-i w ↦ w.if-places-i.false same
-  | else-i-places-via-else-i-places w ↦ absurd (omega arith)
-]
+pub returns-clause-below : goal.returns-clause-below
+returns-clause-below c = λ k d below. leb-true _ _ ((parted c).0 k d (omega arith) below)
 
-pub returns-else-i-places-clause-rest : goal.returns-else-i-places-clause-rest
-returns-else-i-places-clause-rest c = λ (k : ℕ) (d : Place) past within.
-    let lt : c.place_of-i.result < length c.args.places.now = omega arith in
-    let there = number_there c.args.places.now c.place_of-i.result d lt in
-    let le = c.place_of-i.ensures.rest c.place_of-i.result d (omega arith) lt in
-    let other : (get_or c.args.places.now c.place_of-i.result d).number ≢ c.args.number = λ same. missed c lt (sym there ∙ same) in
-    let here : c.args.number < (get_or c.args.places.now c.place_of-i.result d).number = omega (arith, le, other) in
-    elim (cases_eq k c.place_of-i.result) [
-      | inl same ↦ omega (arith, at_same c.args.places.now k c.place_of-i.result d same, here)
-      | inr other ↦ omega (arith, c.requires c.place_of-i.result k d (omega arith) within, here)
-    ]
+pub returns-clause-rest : goal.returns-clause-rest
+returns-clause-rest c = λ k d from within. leb-false _ _ ((parted c).1 k d from within)

@@ -4,15 +4,15 @@ use Rattle.row_slab.proofs.Keeping.{IsWritten, ordered, unfound, unaltered, writ
 use Rattle.row_slab.proofs.rows.Rows.exchange.Goals as goal
 
 pub find-requires : goal.find-requires
-find-requires g c = rw c.as_slice.ensures.value (ordered g.T.Numbered.number_of c.self.inside.slots.slots c.self.inside.places.items
-    c.self.invariant)
+find-requires g c = ordered g.T.Numbered.number_of c.self.inside.slots.slots c.self.inside.places.items
+    c.self.invariant
 
 -- parts of the row were exchanged
 row_written : (g : _) (c : goal.After-exchange_at g) → IsWritten g.T.Numbered.number_of c.self.inside.slots c.exchange_at.new.slots
     c.self.inside.places.items c.index.result.now.key c.args.number (g.E.Exchange.exchanged c.args.parts.now)
 row_written g c = written g.T.Numbered.number_of c.self.inside.slots c.exchange_at.new.slots c.self.inside.places.items c.in-Some.i
     c.args.number c.index.result.now (g.E.Exchange.exchanged c.args.parts.now) c.self.invariant
-    (rw c.as_slice.ensures.value at c.in-Some.ensures.found) c.index.ensures c.exchange_at.ensures.updates
+    c.in-Some.ensures.found c.index.ensures c.exchange_at.ensures.updates
     (λ row. g.met.E.Exchange.keeps c.args.parts.now row)
 
 pub invariant_of-self : goal.invariant_of-self
@@ -31,17 +31,16 @@ returns-in-Some-clause-found g c = rw (← c.self.view_is) (sym (ap is_some (row
 
 pub returns-in-None-clause-items : goal.returns-in-None-clause-items
 returns-in-None-clause-items g c =
-    let none = rw c.as_slice.ensures.value at c.in-None.ensures.none in
     rw (← c.self.view_is) (sym (unaltered g.T.Numbered.number_of c.self.inside.slots.slots c.self.inside.places.items c.args.number
-    (g.E.Exchange.exchanged c.args.parts.now) c.self.invariant none))
+    (g.E.Exchange.exchanged c.args.parts.now) c.self.invariant c.in-None.ensures.none))
 
 pub returns-in-None-clause-parts : goal.returns-in-None-clause-parts
 returns-in-None-clause-parts g c =
-    let none = rw c.as_slice.ensures.value at c.in-None.ensures.none in
     rw (← c.self.view_is) (sym (ap (λ o. left_by (g.E.Exchange.left c.args.parts.now) o c.args.parts.now)
-    (unfound g.T.Numbered.number_of c.self.inside.slots.slots c.self.inside.places.items c.args.number c.self.invariant none)))
+    (unfound g.T.Numbered.number_of c.self.inside.slots.slots c.self.inside.places.items c.args.number c.self.invariant
+    c.in-None.ensures.none)))
 
 pub returns-in-None-clause-found : goal.returns-in-None-clause-found
 returns-in-None-clause-found g c = rw (← c.self.view_is)
     (sym (ap is_some (unfound g.T.Numbered.number_of c.self.inside.slots.slots c.self.inside.places.items c.args.number c.self.invariant
-    (rw c.as_slice.ensures.value at c.in-None.ensures.none))))
+    c.in-None.ensures.none)))

@@ -5,12 +5,12 @@ use Rattle.row_slab.proofs.Keeping.{ordered, found, unfound}
 use Rattle.row_slab.proofs.rows.Rows.get.Goals as goal
 
 pub find-requires : goal.find-requires
-find-requires g c = rw c.as_slice.ensures.value (ordered g.T.Numbered.number_of c.self.inside.slots.slots c.self.inside.places.items
-    c.self.invariant)
+find-requires g c = ordered g.T.Numbered.number_of c.self.inside.slots.slots c.self.inside.places.items
+    c.self.invariant
 
 pub returns-in-Some : goal.returns-in-Some
 returns-in-Some g c =
-    let there = rw c.as_slice.ensures.value at c.in-Some.ensures.found in
+    let there = c.in-Some.ensures.found in
     rw (← c.self.view_is)
     (c.get.ensures ∙ ap (λ (p : Place). slice_index_or c.self.inside.slots.slots p.key None) c.index.ensures
     ∙ sym (found g.T.Numbered.number_of c.self.inside.slots.slots c.self.inside.places.items c.in-Some.i c.args.number c.index.result.now
@@ -18,6 +18,5 @@ returns-in-Some g c =
 
 pub returns-in-None : goal.returns-in-None
 returns-in-None g c =
-    let none = rw c.as_slice.ensures.value at c.in-None.ensures.none in
     rw (← c.self.view_is) (sym (unfound g.T.Numbered.number_of c.self.inside.slots.slots c.self.inside.places.items c.args.number
-    c.self.invariant none))
+    c.self.invariant c.in-None.ensures.none))

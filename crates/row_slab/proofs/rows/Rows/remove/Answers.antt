@@ -5,41 +5,36 @@ use Rattle.row_slab.proofs.Keeping.{ordered, found, unfound, removed, kept_remov
 use Rattle.row_slab.proofs.rows.Rows.remove.Goals as goal
 
 pub find-requires : goal.find-requires
-find-requires g c = rw c.as_slice.ensures.value (ordered g.T.Numbered.number_of c.self.inside.slots.slots c.self.inside.places.items
-    c.self.invariant)
+find-requires g c = ordered g.T.Numbered.number_of c.self.inside.slots.slots c.self.inside.places.items c.self.invariant
 
-pub invariant_of-self : goal.invariant_of-self
-invariant_of-self g c =
-    let there = rw c.as_slice.ensures.value at c.in-Some.ensures.found in
-    rw c.remove-place.ensures.items
-    (kept_removed g.T.Numbered.number_of c.self.inside.slots.slots c.try_remove.new.self.slots c.self.inside.places.items c.in-Some.i
-    c.remove-place.result c.self.invariant there.0
-    (rw c.remove-place.ensures.value at c.try_remove.ensures.updates.others))
+pub invariant_of-self-2 : goal.invariant_of-self-2
+invariant_of-self-2 g c = rw c.in_ok-place.ensures.items
+    (kept_removed g.T.Numbered.number_of c.self.inside.slots.slots c.try_remove.new.self.slots c.self.inside.places.items c.in_ok-i.i
+    c.in_ok-place.place c.self.invariant c.in_ok-i.ensures.found.0
+    (rw c.in_ok-place.ensures.value at c.try_remove.ensures.updates.others))
 
-pub returns-in-Some-clause-row : goal.returns-in-Some-clause-row
-returns-in-Some-clause-row g c =
-    let there = rw c.as_slice.ensures.value at c.in-Some.ensures.found in
+pub returns-clause-row : goal.returns-clause-row
+returns-clause-row g c =
+    let there = c.in_ok-i.ensures.found in
     rw (← c.self.view_is)
-    (c.try_remove.ensures.value ∙ ap (λ (p : Place). slice_index_or c.self.inside.slots.slots p.key None) c.remove-place.ensures.value
-    ∙ sym (found g.T.Numbered.number_of c.self.inside.slots.slots c.self.inside.places.items c.in-Some.i c.args.number c.remove-place.result
-    c.self.invariant there.0 (there.1 c.remove-place.result)))
+    (c.try_remove.ensures.value
+    ∙ ap (λ (p : Place). slice_index_or c.self.inside.slots.slots p.key None) c.in_ok-place.ensures.value
+    ∙ sym (found g.T.Numbered.number_of c.self.inside.slots.slots c.self.inside.places.items c.in_ok-i.i c.args.number
+    c.in_ok-place.place c.self.invariant there.0 (there.1 c.in_ok-place.place)))
 
-pub returns-in-Some-clause-items : goal.returns-in-Some-clause-items
-returns-in-Some-clause-items g c =
-    let there = rw c.as_slice.ensures.value at c.in-Some.ensures.found in
-    rw (c.remove-place.ensures.items, ← c.self.view_is)
-    (removed g.T.Numbered.number_of c.self.inside.slots.slots c.try_remove.new.self.slots c.self.inside.places.items c.in-Some.i
-    c.args.number c.remove-place.result c.self.invariant there.0 (there.1 c.remove-place.result)
-    (rw c.remove-place.ensures.value at c.try_remove.ensures.updates.others))
+pub returns-clause-items : goal.returns-clause-items
+returns-clause-items g c =
+    let there = c.in_ok-i.ensures.found in
+    rw (c.in_ok-place.ensures.items, ← c.self.view_is)
+    (removed g.T.Numbered.number_of c.self.inside.slots.slots c.try_remove.new.self.slots c.self.inside.places.items c.in_ok-i.i
+    c.args.number c.in_ok-place.place c.self.invariant there.0 (there.1 c.in_ok-place.place)
+    (rw c.in_ok-place.ensures.value at c.try_remove.ensures.updates.others))
 
-pub returns-in-None-clause-row : goal.returns-in-None-clause-row
-returns-in-None-clause-row g c =
-    let none = rw c.as_slice.ensures.value at c.in-None.ensures.none in
-    rw (← c.self.view_is) (sym (unfound g.T.Numbered.number_of c.self.inside.slots.slots c.self.inside.places.items c.args.number
-    c.self.invariant none))
+pub returns-in_err-i-clause-row : goal.returns-in_err-i-clause-row
+returns-in_err-i-clause-row g c = rw (← c.self.view_is)
+    (c.from_residual.ensures ∙ sym (unfound g.T.Numbered.number_of c.self.inside.slots.slots c.self.inside.places.items c.args.number
+    c.self.invariant c.in_err-i.ensures.none))
 
-pub returns-in-None-clause-items : goal.returns-in-None-clause-items
-returns-in-None-clause-items g c =
-    let none = rw c.as_slice.ensures.value at c.in-None.ensures.none in
-    rw (← c.self.view_is) (sym (stays g.T.Numbered.number_of c.self.inside.slots.slots c.self.inside.places.items c.args.number
-    c.self.invariant none))
+pub returns-in_err-i-clause-items : goal.returns-in_err-i-clause-items
+returns-in_err-i-clause-items g c = rw (← c.self.view_is) (sym (stays g.T.Numbered.number_of c.self.inside.slots.slots
+    c.self.inside.places.items c.args.number c.self.invariant c.in_err-i.ensures.none))
