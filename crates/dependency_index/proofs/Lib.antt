@@ -16,5 +16,4 @@ pub mod Closing
 pub mod Listing
 pub mod Shelves
 pub mod Splitting
-pub mod Bisecting
 pub mod Staying

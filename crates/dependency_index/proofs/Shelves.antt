@@ -1,8 +1,8 @@
 -- Kept lists, as rows come and go.
 use Rattle.std.proofs.Common.{ℕ, ◌≡◌, ◌<◌, ◌+◌, ◌∙◌, zero, suc, Bool, true, false, not, cond, ◌||◌, ◌&&◌, List, [], ◌∷◌, ◌++◌, Some, None}
 use Rattle.std.proofs.Common.{Result, Ok, Err, refl, sym, ap, subst, eqb, length, get_or, take, filter, find, map, arith, inl, inr}
-use Rattle.std.proofs.Common.{true≢false}
-use Rattle.std.specs.Prelude.{OnOk}
+use Rattle.std.proofs.Common.{Bor, Option, true≢false}
+use Rattle.std.specs.Prelude.{is_some, option_copied, option_map, OnOk}
 use Rattle.std.specs.List.{list_any, AllByRecursion}
 use Rattle.std.proofs.lemmas.Bool.{eq-eqb, ne_eqb, eqb-true, lt-ltb, le-ltb, cases_order, cases_Bool}
 use Rattle.std.proofs.lemmas.List.{append-nil}
@@ -13,7 +13,7 @@ use Rattle.number_lists.specs.Rising.{with_number, without_number}
 use Rattle.number_lists.specs.UnderName.{UnderName, at, room, room_in, Changes, HasRoom}
 use Rattle.number_lists.proofs.Same.{same_laws}
 use Rattle.number_lists.proofs.Writes.{lookup_same}
-use Rattle.row_slab.specs.Rowed.{AreRisingBy}
+use Rattle.row_slab.specs.Rowed.{is_above, AreRisingBy}
 use Rattle.scm_model.specs.declared.flat.NeedRow.{NeedRow}
 use Rattle.scm_model.specs.Needs.{instead, added, numbers_of, with_row}
 use Rattle.dependency_index.specs.Kept.{key_of, is_row, AreOf, IsNext, SameNumbers}
@@ -177,6 +177,39 @@ had_none n (row ∷ rows) had =
       | inr (inl less) ↦ rw (ne_eqb row.number n (omega arith)) (had_none n rows (rw (ne_eqb n row.number (omega arith)) at had))
       | inr (inr more) ↦ rw (ne_eqb row.number n (omega arith)) (had_none n rows (rw (ne_eqb n row.number (omega arith)) at had))
     ]
+
+pub copied : (o : Option (Bor NeedRow)) → is_some (option_copied o) ≡ is_some o
+copied None = refl
+copied (Some row) = refl
+
+pub found_is : (n : ℕ) (rows : List NeedRow) → is_some (find (is_row n) rows) ≡ has (numbers_of rows) n
+found_is n rows =
+    elim (cases_Bool (has (numbers_of rows) n)) [
+      | inl had ↦ rw ((has_found n rows had).1, had) refl
+      | inr fresh ↦ rw (had_none n rows fresh, fresh) refl
+    ]
+
+-- the numbers of all rows are below one that none has, where none is above it
+pub all_below : (n : ℕ) (rows : List NeedRow) → has (numbers_of rows) n ≡ false
+    → is_some (option_map key_of (find (is_above key_of n) rows)) ≡ false → AllByRecursion (λ (row : NeedRow). row.number < n) rows
+all_below n [] fresh none = tt
+all_below n (row ∷ rows) fresh none =
+    elim (cases_order n row.number) [
+      | inl same ↦ absurd (cc (rw (eq-eqb n row.number same) at fresh))
+      | inr (inl less) ↦ absurd (cc (rw (lt-ltb n row.number less) at none))
+      | inr (inr more) ↦
+          (more, all_below n rows (rw (ne_eqb n row.number (omega arith)) at fresh) (rw (le-ltb n row.number (omega arith)) at none))
+    ]
+
+pub below_fresh : (n : ℕ) (rows : List NeedRow) → AllByRecursion (λ (row : NeedRow). row.number < n) rows
+    → has (numbers_of rows) n ≡ false
+below_fresh n [] below = refl
+below_fresh n (row ∷ rows) below = rw (ne_eqb n row.number (omega (arith, below.0))) (below_fresh n rows below.1)
+
+pub none_above : (n : ℕ) (rows : List NeedRow) → AllByRecursion (λ (row : NeedRow). row.number < n) rows
+    → is_some (option_map key_of (find (is_above key_of n) rows)) ≡ false
+none_above n [] below = refl
+none_above n (row ∷ rows) below = rw (le-ltb n row.number (omega (arith, below.0))) (none_above n rows below.1)
 
 pub put_lists : (p : NeedRow → Bool) (rows : List NeedRow) (new : NeedRow) → AreRisingBy key_of rows → IsNext rows new.number
     → numbers_if p (with_row rows new) ≡ cond (p new) (with_number (numbers_if p

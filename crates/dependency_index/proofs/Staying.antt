@@ -1,7 +1,7 @@
 -- Room for a row stays while the texts of another are forgotten.
 use Rattle.std.proofs.Common.{ℕ, ◌≡◌, ◌≤◌, ◌<◌, ◌∙◌, true, false, List, [], ◌∷◌, Option, None, Some, refl, sym, arith, inl, inr}
 use Rattle.std.proofs.Common.{Result, Ok, Err, true≢false}
-use Rattle.std.specs.Prelude.{IfSome, OnOk, is_err, vec_capacity, vec_len}
+use Rattle.std.specs.Prelude.{IfSome, OnOk, is_err}
 use Rattle.std.proofs.lemmas.Bool.{cases_Bool}
 use Rattle.scm_text.specs.Fold.{same_text}
 use Rattle.scm_model.specs.declared.flat.Need.{Need}
@@ -50,7 +50,7 @@ still_texts (Some row) old new rooms had = record {
 }
 
 -- there is room for a row in other fields, where it is not less
-pub room_in : (spare : Option Spare) (a b : Inside) → (vec_len a.rows < vec_capacity a.rows → vec_len b.rows < vec_capacity b.rows)
+pub room_in : (spare : Option Spare) (a b : Inside) → (1 ≤ a.rows.room → 1 ≤ b.rows.room)
     → (IfSome spare (HasTexts a.lists) → IfSome spare (HasTexts b.lists)) → IfSome spare (HasRoom a) → IfSome spare (HasRoom b)
 room_in None a b more kept had = tt
 room_in (Some row) a b more kept had = record { rows = more had.rows; texts = kept had.texts }

@@ -1,5 +1,5 @@
 -- The lists that are kept of who has a name, of who names whom, and of groups.
-use Rattle.std.specs.Prelude.{ℕ, ◌≡◌, ◌≤◌, ◌<◌, Bool, true, false, not, ◌==◌, List, filter, IfSome, vec_len, vec_capacity}
+use Rattle.std.specs.Prelude.{ℕ, ◌≡◌, ◌≤◌, ◌<◌, Bool, true, false, not, ◌==◌, List, filter, IfSome}
 use Rattle.std.specs.List.{list_any, IsDistinct, AllByRecursion}
 use Rattle.std.specs.Prelude.{eqb}
 use Rattle.scm_text.specs.Fold.{same_text}
@@ -98,7 +98,7 @@ Enters old new spare number =
 
 -- there is room for a row
 pub record HasRoom (index : Inside) (row : Spare) : Type 0 where
-  pub rows : vec_len index.rows < vec_capacity index.rows
+  pub rows : 1 ≤ index.rows.room
   pub texts : HasTexts index.lists row
 
 -- rows stand in order of number, and the lists are theirs; there is room for the rows that it was made for

@@ -1,5 +1,5 @@
 ghost use Rattle.std.specs.Prelude.{ℕ, List, ◌≡◌, ◌+◌, ◌≤◌, ◌<◌, ◌==◌, true, false, not, [], eqb};
-ghost use Rattle.std.specs.Prelude.{filter, length, slice_get, vec_len, vec_capacity, IfSome, IfOk};
+ghost use Rattle.std.specs.Prelude.{filter, length, IfSome, IfOk};
 ghost use Rattle.std.specs.Prelude.{OnOk, OnErr, IsTrue, IsFalse, None, Some, Ok};
 ghost use Rattle.std.specs.List.{AllByRecursion, IsDistinct};
 ghost use Rattle.dependency_index.specs.Dependents.{dependents_in};
@@ -7,7 +7,7 @@ ghost use Rattle.dependency_index.specs.Indexed.{Indexed, committed, discarded, 
 ghost use Rattle.dependency_index.specs.Indexed.{prepared};
 ghost use Rattle.dependency_index.specs.Indexed.{row_with, as_spare, with_needs, without_service};
 ghost use Rattle.dependency_index.specs.Kept.{key_of, HasTexts, IsNext, SameNumbers};
-ghost use Rattle.dependency_index.specs.Kept.{called_of, members_of, naming_of};
+ghost use Rattle.dependency_index.specs.Kept.{called_of, members_of, naming_of, row_from};
 ghost use Rattle.dependency_index.specs.Naming.{active_in, naming_in, row_of};
 ghost use Rattle.scm_model.specs.Needs.{needs_of, numbers_of, with_row};
 ghost use Rattle.scm_model.specs.Order.{is_cyclic, order_in};
@@ -21,10 +21,11 @@ use super::keeping::{
     KeptLists, Spare, enter_lists, forget_room, forget_texts, leave_lists, reserve_texts,
 };
 use super::naming::{StateLook, active_among};
-use super::rows::{is_listed, met_at, needs_in, number_at, place_of, row_of};
+use super::rows::{is_listed, met_at, needs_in, number_at, row_of};
 use super::steps::Steps;
 use super::visit::StateOf;
 use super::{dependents, order};
+use row_slab::Rows;
 use scm_model::{Need, NeedRow};
 use scm_text::{Buffer, Items, OutOfMemory, WText};
 use std::alloc::Global;
@@ -35,7 +36,7 @@ use std::sync::ledger::Ledger;
 /// for, and the row whose room is prepared to take its place.
 #[derive(Drop)]
 pub struct DependencyIndex {
-    rows: Vec<NeedRow>,
+    rows: Rows<NeedRow>,
     lists: KeptLists,
     spare: Option<Spare>,
     next: Option<Spare>,
@@ -53,64 +54,60 @@ impl Model for DependencyIndex {
 }
 
 /// Puts a row in place of the same service's, or at the end.
-fn put(rows: &mut Vec<NeedRow>, row: NeedRow)
+fn put(rows: &mut Rows<NeedRow>, mut spare: Spare, service: u64)
     requires once { IsDistinct eqb (numbers_of rows.old.items) }
-    requires rising { AreRisingBy key_of rows.old.items }
-    requires room { vec_len rows.old < vec_capacity rows.old }
-    ensures rows { rows.new.items ≡ with_row rows.old.items row }
+    requires next { IsNext rows.old.items service }
+    requires room { 1 ≤ rows.old.room }
+    ensures rows { rows.new.items ≡ with_row rows.old.items (row_from spare service) }
     ensures once { IsDistinct eqb (numbers_of rows.new.items) }
 {
-    match place_of(rows.as_slice(), row.number) {
-        Some(place) => rows[place] = row,
-        None => rows.push_reserved(row),
+    if rows.exchange(service, &mut spare) {
+        drop(spare);
+        return;
     }
+    rows.push(NeedRow {
+        number: service,
+        name: spare.name,
+        group: spare.group,
+        needs: spare.needs,
+    });
 }
 
 /// Takes a service's row out.
-fn take_out(rows: &mut Vec<NeedRow>, number: u64)
+fn take_out(rows: &mut Rows<NeedRow>, number: u64)
     requires once { IsDistinct eqb (numbers_of rows.old.items) }
-    requires rising { AreRisingBy key_of rows.old.items }
     ensures rows { rows.new.items ≡ filter (λ row. not (row.number == number)) rows.old.items }
     ensures once { IsDistinct eqb (numbers_of rows.new.items) }
 {
-    if let Some(place) = place_of(rows.as_slice(), number) {
-        drop(rows.remove(place));
-    }
+    drop(rows.remove(number));
 }
 
 /// Makes room for a row. The room for one that may be kept stays.
 fn make_room(
-    rows: &mut Vec<NeedRow>,
+    rows: &mut Rows<NeedRow>,
     lists: &mut KeptLists,
     alloc: Global,
     row: &Spare,
     kept: &Option<Spare>,
 ) -> Result<(), OutOfMemory>
     ensures rows { rows.new.items ≡ rows.old.items }
-    ensures more_rows { vec_len rows.old < vec_capacity rows.old
-        → vec_len rows.new < vec_capacity rows.new }
+    ensures more_rows { 1 ≤ rows.old.room → 1 ≤ rows.new.room }
     ensures numbers { SameNumbers lists.old lists.new }
     ensures kept { IfSome kept.now (HasTexts lists.old) → IfSome kept.now (HasTexts lists.new) }
-    ensures ok { OnOk result ((vec_len rows.new < vec_capacity rows.new)
-        × HasTexts lists.new row.now) }
+    ensures ok { OnOk result ((1 ≤ rows.new.room) × HasTexts lists.new row.now) }
 {
-    if rows.reserve(1).is_err() {
+    if rows.reserve().is_err() {
         return Err(OutOfMemory);
     }
     reserve_texts(lists, alloc, row, kept)
 }
 
 /// Whether the numbers of all rows are below this one.
-fn are_below(rows: &[NeedRow], number: u64) -> bool
-    ensures yes { IsTrue result → AllByRecursion (λ row. row.number < number) rows.now }
-    ensures no { IsFalse result → AllByRecursion (λ row. row.number < number) rows.now → ⊥ }
+fn are_below(rows: &Rows<NeedRow>, number: u64) -> bool
+    ensures yes { IsTrue result → AllByRecursion (λ row. row.number < number) rows.now.items }
+    ensures no { IsFalse result → AllByRecursion (λ row. row.number < number) rows.now.items → ⊥ }
 {
-    for row in rows {
-        if row.number >= number {
-            return false;
-        }
-    }
-    true
+    !is_listed(rows, number) && rows.after(number).is_none()
 }
 
 impl DependencyIndex {
@@ -119,7 +116,7 @@ impl DependencyIndex {
         ensures { result ≡ Ok empty_index }
     {
         Ok(DependencyIndex {
-            rows: Vec::new(alloc),
+            rows: Rows::new(alloc),
             lists: KeptLists::new(alloc),
             spare: None,
             next: None,
@@ -127,11 +124,11 @@ impl DependencyIndex {
     }
 
     /// The rows, in order of number.
-    pub(crate) fn rows(&self) -> &[NeedRow]
-        ensures rows { result.now ≡ self.now.rows }
+    pub(crate) fn rows(&self) -> &Rows<NeedRow>
+        ensures rows { result.now.items ≡ self.now.rows }
         ensures rising { AreRisingBy key_of self.now.rows }
     {
-        self.rows.as_slice()
+        &self.rows
     }
 
     /// How many services have a row.
@@ -145,7 +142,7 @@ impl DependencyIndex {
     pub fn is_listed(&self, service: u64) -> bool
         ensures { result ≡ has (numbers_of self.now.rows) service }
     {
-        is_listed(self.rows.as_slice(), service)
+        is_listed(&self.rows, service)
     }
 
     /// Whether a service has a row, or comes after all that have one.
@@ -153,7 +150,7 @@ impl DependencyIndex {
         ensures yes { IsTrue result → IsNext self.now.rows service }
         ensures no { IsFalse result → IsNext self.now.rows service → ⊥ }
     {
-        self.is_listed(service) || are_below(self.rows.as_slice(), service)
+        self.is_listed(service) || are_below(&self.rows, service)
     }
 
     /// Prepares room for a row with this name, group and needs, beside the room that there is. What
@@ -205,17 +202,11 @@ impl DependencyIndex {
         let Some(spare) = self.spare.take() else {
             return;
         };
-        leave_lists(&mut self.lists, self.rows.as_slice(), service);
+        leave_lists(&mut self.lists, &self.rows, service);
         enter_lists(&mut self.lists, &spare, service);
-        forget_texts(&mut self.lists, self.rows.as_slice(), service);
+        forget_texts(&mut self.lists, &self.rows, service);
         forget_room(&mut self.lists, self.next.take(), &None);
-        let row = NeedRow {
-            number: service,
-            name: spare.name,
-            group: spare.group,
-            needs: spare.needs,
-        };
-        put(&mut self.rows, row);
+        put(&mut self.rows, spare, service);
     }
 
     /// Takes a service's row out, and takes no memory.
@@ -224,8 +215,8 @@ impl DependencyIndex {
     {
         forget_room(&mut self.lists, self.spare.take(), &None);
         forget_room(&mut self.lists, self.next.take(), &None);
-        leave_lists(&mut self.lists, self.rows.as_slice(), service);
-        forget_texts(&mut self.lists, self.rows.as_slice(), service);
+        leave_lists(&mut self.lists, &self.rows, service);
+        forget_texts(&mut self.lists, &self.rows, service);
         take_out(&mut self.rows, service);
     }
 
@@ -318,7 +309,7 @@ impl DependencyIndex {
         ensures looks { steps.new ≡ steps.old + naming_in self.now.rows
             (row_of self.now.rows service) }
     {
-        match row_of(self.rows.as_slice(), service) {
+        match row_of(&self.rows, service) {
             Some(row) => active_among(self.lists.named.at(&row.name), states, steps),
             None => 0,
         }
@@ -333,19 +324,19 @@ impl NeedRows for DependencyIndex {
     }
 
     fn number_at(&self, place: usize) -> Option<u64> {
-        number_at(self.rows.as_slice(), place)
+        number_at(&self.rows, place)
     }
 
     fn met_at(&self, need: &Need, place: usize) -> Option<u64> {
-        met_at(self.rows.as_slice(), need, place)
+        met_at(&self.rows, need, place)
     }
 
     fn is_listed(&self, number: u64) -> bool {
-        is_listed(self.rows.as_slice(), number)
+        is_listed(&self.rows, number)
     }
 
     fn needs_at(&self, number: u64) -> &[Need] {
-        needs_in(self.rows.as_slice(), number)
+        needs_in(&self.rows, number)
     }
 
     fn met(&self, need: &Need) -> Option<&[u64]> {

@@ -7,7 +7,7 @@ use Rattle.dependency_index.proofs.keeping.leave_lists.Goals as goal
 
 pub returns-in-Some-clause-lists : goal.returns-in-Some-clause-lists
 returns-in-Some-clause-lists c =
-    let rows = c.args.rows.now in
+    let rows = c.args.rows.now.items in
     let row = c.in-Some.row.now in
     let n = c.args.service in
     let found = sym c.in-Some.ensures in
@@ -26,7 +26,7 @@ returns-in-Some-clause-lists c =
 
 pub returns-in_default-clause-lists : goal.returns-in_default-clause-lists
 returns-in_default-clause-lists c =
-    let rows = c.args.rows.now in
+    let rows = c.args.rows.now.items in
     let same = sym (none_leaves c.args.service rows (sym c.in_default.ensures)) in
     record {
       called = λ (name : List ℕ). c.requires.lists.called name ∙ ap (λ rs. called_of rs name) same;

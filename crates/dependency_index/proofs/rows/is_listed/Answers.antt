@@ -1,8 +1,8 @@
-use Rattle.std.proofs.Common.{◌∙◌}
-use Rattle.dependency_index.proofs.Bisecting.{listed_is}
+use Rattle.std.proofs.Common.{ap, sym, ◌∙◌}
+use Rattle.std.specs.Prelude.{is_some}
+use Rattle.dependency_index.proofs.Shelves.{copied, found_is}
 use Rattle.dependency_index.proofs.rows.is_listed.Goals as goal
 
 pub returns : goal.returns
 returns c =
-    let place = c.place_of.ensures in
-    c.is_some.ensures ∙ listed_is c.args.rows.now c.args.number c.place_of.result place.within place.found place.none
+    c.is_some.ensures ∙ sym (copied c.row_of.result) ∙ ap is_some c.row_of.ensures ∙ found_is c.args.number c.args.rows.now.items

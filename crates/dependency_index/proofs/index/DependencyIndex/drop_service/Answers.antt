@@ -7,12 +7,11 @@ use Rattle.dependency_index.proofs.index.DependencyIndex.drop_service.Goals as g
 pub invariant_of-self : goal.invariant_of-self
 invariant_of-self c =
     let rows = c.self.inside.rows.items in
-    let left = rw c.as_slice.ensures.value at c.leave_lists.ensures.lists in
     record {
       once = c.take_out.ensures.once;
       rising = rw c.take_out.ensures.rows (rising_filter (λ (row : NeedRow). not (is_row c.args.service row)) rows
           c.self.invariant.rising);
-      lists = rw c.take_out.ensures.rows (still_of _ _ _ c.forget_texts.ensures left);
+      lists = rw c.take_out.ensures.rows (still_of _ _ _ c.forget_texts.ensures c.leave_lists.ensures.lists);
       room = rw c.take.ensures.after tt;
       next = rw c.take-2.ensures.after tt;
     }

@@ -8,12 +8,11 @@ invariant_of-self-2 c =
     let n = c.args.service in
     let new = row_from c.in-Some.spare n in
     let next = rw (← c.self.view_is) at c.requires.next in
-    let left = rw c.as_slice.ensures.value at c.leave_lists.ensures.lists in
     record {
       once = c.put.ensures.once;
       rising = rw c.put.ensures.rows (rising_put rows new c.self.invariant.rising next);
       lists = rw c.put.ensures.rows (still_of _ _ _ c.forget_room.ensures.numbers
-          (still_of _ _ _ c.forget_texts.ensures (c.enter_lists.ensures rows c.self.invariant.rising next left)));
+          (still_of _ _ _ c.forget_texts.ensures (c.enter_lists.ensures rows c.self.invariant.rising next c.leave_lists.ensures.lists)));
       room = rw c.in-Some.ensures.after tt;
       next = rw c.take-2.ensures.after tt;
     }
