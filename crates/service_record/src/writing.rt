@@ -1,4 +1,5 @@
-ghost use Rattle.std.specs.Prelude.{◌≡◌, ◌++◌, ◌<◌, ◌^◌, All, length, OnOk, IfOk, IsOk, Ok};
+ghost use Rattle.std.specs.Prelude.{◌≡◌, ◌++◌, ◌<◌, ◌^◌, All, length, take, OnOk, OnErr, IfOk};
+ghost use Rattle.std.specs.Prelude.{IsOk, Ok};
 ghost use Rattle.std.specs.Int.{w16, to_le_bytes};
 ghost use Rattle.std.specs.List.{flat_map};
 ghost use Rattle.service_record.specs.Reading.{record_of};
@@ -13,16 +14,18 @@ use scm_text::{Items, OutOfMemory, WText};
 use std::alloc::Global;
 
 fn put_number(out: &mut Items<u8>, value: u32) -> Result<(), OutOfMemory>
-    ensures { OnOk result (out.new ≡ out.old ++ number value) }
+    ensures ok { OnOk result (out.new ≡ out.old ++ number value) }
+    ensures err { OnErr result (out.new ≡ out.old) }
 {
     out.append(&value.to_le_bytes())
 }
 
-/// Appends a count in four bytes, the lowest first. One that needs more is that of a list for which
-/// no memory would do.
+/// Appends a count in four bytes, the lowest first, or nothing. One that needs more is that of a
+/// list for which no memory would do.
 pub fn put_count(out: &mut Items<u8>, count: usize) -> Result<(), OutOfMemory>
     ensures count { OnOk result (out.new ≡ out.old ++ number count) }
     ensures small { OnOk result (FitsNumber count) }
+    ensures err { OnErr result (out.new ≡ out.old) }
 {
     if 0xFFFF_FFFF < count {
         return Err(OutOfMemory);
@@ -43,6 +46,8 @@ fn put_flag(out: &mut Items<u8>, value: bool) -> Result<(), OutOfMemory>
 fn put_units(out: &mut Items<u8>, units: &[u16]) -> Result<(), OutOfMemory>
     ensures bytes { OnOk result (out.new ≡ out.old ++ flat_map (to_le_bytes w16) units.now) }
     ensures fits { All (λ u. u < 2 ^ 16) units.now }
+    // What stood there stays in front, also where only a part was appended.
+    ensures front { take (length out.old) out.new ≡ out.old }
 {
     for unit in units {
         out.append(&unit.to_le_bytes())?;
@@ -50,13 +55,27 @@ fn put_units(out: &mut Items<u8>, units: &[u16]) -> Result<(), OutOfMemory>
     Ok(())
 }
 
-/// Appends a text: a count of units, and these, of two bytes each, the lower first.
-pub fn put_text(out: &mut Items<u8>, value: &WText) -> Result<(), OutOfMemory>
+fn put_counted_units(out: &mut Items<u8>, value: &WText) -> Result<(), OutOfMemory>
     ensures bytes { OnOk result (out.new ≡ out.old ++ text value.now) }
     ensures fits { OnOk result (FitsText value.now) }
+    ensures front { take (length out.old) out.new ≡ out.old }
 {
     put_count(out, value.units().len())?;
     put_units(out, value.units())
+}
+
+/// Appends a text, or nothing: a count of units, and these, of two bytes each, the lower first.
+pub fn put_text(out: &mut Items<u8>, value: &WText) -> Result<(), OutOfMemory>
+    ensures bytes { OnOk result (out.new ≡ out.old ++ text value.now) }
+    ensures fits { OnOk result (FitsText value.now) }
+    ensures err { OnErr result (out.new ≡ out.old) }
+{
+    let start = out.len();
+    let appended = put_counted_units(out, value);
+    if appended.is_err() {
+        out.truncate(start);
+    }
+    appended
 }
 
 fn put_need(out: &mut Items<u8>, value: &Need) -> Result<(), OutOfMemory>
