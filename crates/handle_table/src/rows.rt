@@ -83,12 +83,15 @@ fn set_newer(nodes: &mut IndexMap<u64, Node>, of: Option<u64>, newer: Option<u64
 /// Sets the newest number of a caller that has one.
 fn set_newest(newest: &mut IndexMap<u64, u64>, caller: u64, number: Option<u64>)
     requires { IsSome (get nat_eq newest.old caller) }
-    ensures { (c : ℕ) → get nat_eq newest.new c ≡ (if caller == c then number
+    ensures newest { (c : ℕ) → get nat_eq newest.new c ≡ (if caller == c then number
         else get nat_eq newest.old c) }
+    ensures room { spare newest.old ≤ spare newest.new }
 {
     match number {
         Some(number) => {
-            let _before = newest.insert(caller, number);
+            if let Some(before) = newest.get_mut(&caller) {
+                *before = number;
+            }
         }
         None => {
             let _last = newest.swap_remove(&caller);
@@ -99,8 +102,9 @@ fn set_newest(newest: &mut IndexMap<u64, u64>, caller: u64, number: Option<u64>)
 /// A handle leaves: where it was its caller's newest, the one before it is that now.
 fn leave_newest(newest: &mut IndexMap<u64, u64>, node: Node)
     requires { is_newest node ≡ true → IsSome (get nat_eq newest.old node.row.caller) }
-    ensures { (c : ℕ) → get nat_eq newest.new c ≡ (if is_newest node && node.row.caller == c
+    ensures newest { (c : ℕ) → get nat_eq newest.new c ≡ (if is_newest node && node.row.caller == c
         then node.older else get nat_eq newest.old c) }
+    ensures room { spare newest.old ≤ spare newest.new }
 {
     if node.newer.is_none() {
         set_newest(newest, node.row.caller, node.older);
@@ -187,6 +191,7 @@ impl HandleRows {
         ensures row { result ≡ find (matches number) self.old.items }
         ensures items { self.new.items ≡ filter (λ row. not (matches number row))
             self.old.items }
+        ensures room { self.old.room ≤ self.new.room }
     {
         let node = self.nodes.swap_remove(&number)?;
         set_newer(&mut self.nodes, node.older, node.newer);

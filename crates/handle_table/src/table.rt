@@ -50,8 +50,9 @@ fn raise_kind(services: &mut Counts, kind: HandleKind)
 /// One handle less of a service, if it is of one.
 fn lower_kind(services: &mut Counts, kind: HandleKind)
     requires { (service : ℕ) → is_of_service service kind ≡ true → 1 ≤ count services.old service }
-    ensures { (service : ℕ) → count services.new service ≡ (if is_of_service service kind
+    ensures counts { (service : ℕ) → count services.new service ≡ (if is_of_service service kind
         then count services.old service - 1 else count services.old service) }
+    ensures room { services.old.room ≤ services.new.room }
 {
     if let HandleKind::Service(service) = kind {
         services.lower(service);
@@ -167,6 +168,7 @@ impl HandleTable {
         ensures row { result ≡ find (matches number) self.old.rows }
         ensures rows { self.new.rows ≡ filter (λ row. not (matches number row)) self.old.rows }
         ensures next { self.new.next ≡ self.old.next }
+        ensures spare { self.old.spare ≤ self.new.spare }
     {
         let _len = self.rows.len();
         let row = self.rows.remove(number)?;
@@ -181,6 +183,8 @@ impl HandleTable {
         ensures rows { self.new.rows ≡ filter (λ row. not (is_handle caller number row))
             self.old.rows }
         ensures next { self.new.next ≡ self.old.next }
+        ensures none { IfNone result (self.new ≡ self.old) }
+        ensures spare { self.old.spare ≤ self.new.spare }
     {
         if self.find(caller, number).is_some() {
             self.remove(number)
@@ -193,6 +197,7 @@ impl HandleTable {
     pub fn run_down(&mut self, caller: u64)
         ensures rows { self.new.rows ≡ filter (λ row. not (is_owned_by caller row)) self.old.rows }
         ensures next { self.new.next ≡ self.old.next }
+        ensures spare { self.old.spare ≤ self.new.spare }
     {
         while let Some(number) = self.newest_of(caller) {
             let _row = self.remove(number);

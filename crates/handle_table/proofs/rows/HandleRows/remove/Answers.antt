@@ -33,7 +33,7 @@ invariant_of-self-2 c =
     c.self.inside.newest.entries c.args.number c.in_ok-node.node c.self.invariant
     (sym c.in_ok-node.ensures.value) c.in_ok-node.ensures.updates.0 c.set_newer.ensures.nodes c.set_older.ensures.nodes
     (subst (IsDistinct eqb) (sym (c.set_older.ensures.keys ∙ c.set_newer.ensures.keys)) c.in_ok-node.ensures.unique)
-    c.leave_newest.new.newest.entries c.leave_newest.ensures
+    c.leave_newest.new.newest.entries c.leave_newest.ensures.newest
 
 pub returns-clause-row : goal.returns-clause-row
 returns-clause-row c =

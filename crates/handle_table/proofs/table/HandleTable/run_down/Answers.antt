@@ -1,4 +1,4 @@
-use Rattle.std.proofs.Common.{◌∙◌, ◌<◌, sym, ap, subst, filter, not, length, List}
+use Rattle.std.proofs.Common.{◌∙◌, ◌<◌, sym, ap, subst, filter, not, length, List, arith}
 use Rattle.scm_model.specs.declared.flat.HandleRow.{HandleRow}
 use Rattle.handle_table.specs.Handled.{is_owned_by}
 use Rattle.handle_table.proofs.Counting.{held_row, none_his, others_stay, fewer, stays_none}
@@ -20,6 +20,7 @@ loop-number-preserved c =
           ∙ others_stay (is_owned_by c.args.caller) rows his.0 c.in-Some.number c.in-Some.ensures.rising his.1 his.2
           ∙ c.loop-number.invariant.rows;
       next = c.remove-row.ensures.next ∙ c.loop-number.invariant.next;
+      spare = omega (arith, c.loop-number.invariant.spare, c.remove-row.ensures.spare);
     }
 
 pub returns-clause-rows : goal.returns-clause-rows
