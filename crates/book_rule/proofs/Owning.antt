@@ -11,10 +11,10 @@ use Rattle.book_rule.specs.declared.view.View.{View}
 use Rattle.book_rule.specs.declared.view.Stage.TheVariants.{Looked, Merged}
 use Rattle.book_rule.specs.Ways.{Has, Protocol, MadeAt, NamedAt, Follows, Claims, NamesOwn}
 use Rattle.book_rule.specs.Views.{nobody, newcomer, in_company, having_taken, having_seen, having_made, having_left, having_joined}
-use Rattle.book_rule.specs.Views.{having_met, longer}
+use Rattle.book_rule.specs.Views.{having_met, emptied, longer}
 use Rattle.book_rule.specs.Rule.{Standing, has_turn, StandsSo, Kept, ClaimsOf, Owned}
-use Rattle.book_rule.specs.Transitions.{Transition, take, stay, look, commit, give_up, accompany, fork, merge, meet, with_view, Enabled}
-use Rattle.book_rule.specs.Transitions.{after, Preserves}
+use Rattle.book_rule.specs.Transitions.{Transition, take, stay, look, commit, give_up, accompany, fork, hand_over, merge, meet}
+use Rattle.book_rule.specs.Transitions.{with_view, Enabled, after, Preserves}
 use Rattle.book_rule.proofs.Prefixes.{prefix_length, longer_begins}
 use Rattle.book_rule.proofs.Places.{has_left, has_right, has_last, has_cases, has_one, made_more, made_last, made_within, made_cases}
 use Rattle.book_rule.proofs.Places.{named_cases}
@@ -35,7 +35,7 @@ module _ {X : Type 0} (w : Protocol X) (o : Opening) where
   }
 
   -- a seat with no place and no name claims nothing
-  claims_none : (log : List Entry) (d : View) → d.own ≡ [] → d.names ≡ [] → d.caller ≡ 0 → ClaimsOf w o log d
+  pub claims_none : (log : List Entry) (d : View) → d.own ≡ [] → d.names ≡ [] → d.caller ≡ 0 → ClaimsOf w o log d
   claims_none log d own names whose = record {
     within = λ k has. absurd (subst (Has k) own has);
     made = λ n has. absurd (subst (Has n) names has);
@@ -68,12 +68,14 @@ module _ {X : Type 0} (w : Protocol X) (o : Opening) where
           (λ j b n other there has has'. absurd (subst (Has n) names has));
     }
 
-  -- another seat, with no place and no name
-  owned_more : (t : Standing X) (d : View) → d.own ≡ [] → d.names ≡ [] → d.caller ≡ 0 → Owned w o t
-      → Owned w o record { lock = t.lock; log = t.log; views = t.views ++ d ∷ [] }
-  owned_more t d own names whose old = record {
-    each = seats_more (λ j a. ClaimsOf w o t.log a) t.views d (claims_none t.log d own names whose) old.each;
-    apart = apart_more (λ (a : View). a.own) t.views d old.apart own;
+  -- another seat, with places and names that no other has
+  owned_more : (t : Standing X) (d : View) → ClaimsOf w o t.log d
+      → ((j : ℕ) (b : View) (k : ℕ) → get_elem? t.views j ≡ some b → Has k d.own → Has k b.own → ⊥)
+      → ((j : ℕ) (b : View) (n : Name) → get_elem? t.views j ≡ some b → Has n d.names → Has n b.names → ⊥)
+      → Owned w o t → Owned w o record { lock = t.lock; log = t.log; views = t.views ++ d ∷ [] }
+  owned_more t d claims places names old = record {
+    each = seats_more (λ j a. ClaimsOf w o t.log a) t.views d claims old.each;
+    apart = apart_more (λ (a : View). a.own) t.views d old.apart places;
     distinct = apart_more (λ (a : View). a.names) t.views d old.distinct names;
   }
 
@@ -183,8 +185,20 @@ module _ {X : Type 0} (w : Protocol X) (o : Opening) where
   owned_look t id v at k old = owned_seat w o t id v at old (having_seen v t.log) refl refl refl (seen_within t k id v at)
 
   owned_fork : (t : Standing X) (id : ℕ) (v : View) → get_elem? t.views id ≡ some v → Owned w o t → Owned w o (after w o t id v fork)
-  owned_fork t id v at old = owned_more w o (with_view t id v) (newcomer v) refl refl refl
-      (owned_seat w o t id v at old v refl refl refl (omega arith))
+  owned_fork t id v at old = owned_more w o (with_view t id v) (newcomer v) (claims_none w o t.log (newcomer v) refl refl refl)
+      (λ j b k there none has. none) (λ j b n there none has. none) (owned_seat w o t id v at old v refl refl refl (omega arith))
+
+  -- what was the seat's own is the new one's, and nobody else's
+  owned_hand_over : (t : Standing X) (id : ℕ) (v : View) → get_elem? t.views id ≡ some v → Owned w o t
+      → Owned w o (after w o t id v hand_over)
+  owned_hand_over t id v at old =
+      let mine = old.each id v at in
+      owned_more w o (with_view t id (emptied v)) (having_left v) (claims_stay w o t.log v (having_left v) refl refl refl (omega arith) mine)
+      (λ j b k there own has. seats_stay (λ j b. Has k b.own → ⊥) t.views id (emptied v) (λ none. none)
+      (λ j b other here there. other (sym (old.apart id j v b k at here own there))) j b there has)
+      (λ j b n there own has. seats_stay (λ j b. Has n b.names → ⊥) t.views id (emptied v) (λ none. none)
+      (λ j b other here there. other (sym (old.distinct id j v b n at here own there))) j b there has)
+      (owned_none w o t id v at old (emptied v) refl refl refl)
 
   owned_merge : (t : Standing X) (id : ℕ) (v : View) (j : ℕ) (d : View) → get_elem? t.views id ≡ some v → j ≢ id
       → get_elem? t.views j ≡ some d → Owned w o t → Owned w o (after w o t id v (merge j d))
@@ -211,6 +225,7 @@ module _ {X : Type 0} (w : Protocol X) (o : Opening) where
       record { each = same.each; apart = same.apart; distinct = same.distinct }
   owns t id v accompany at may k = owned_seat w o t id v at k.1 (in_company v) refl refl refl (omega arith)
   owns t id v fork at may k = owned_fork t id v at k.1
+  owns t id v hand_over at may k = owned_hand_over t id v at k.1
   owns t id v (merge j d) at may k = owned_merge t id v j d at may.1 may.2 k.1
   owns t id v (meet theirs) at may k = owned_meet t id v theirs at may k.0 k.1
 

@@ -15,10 +15,11 @@ use Rattle.book_rule.specs.declared.view.View.{View}
 use Rattle.book_rule.specs.declared.view.Stage.TheVariants.{Away, Taken, Looked, Merged}
 use Rattle.book_rule.specs.Ways.{Protocol, Follows, NamesOwn}
 use Rattle.book_rule.specs.Views.{first_view, nobody, newcomer, in_company, having_taken, having_seen, having_made, having_left}
-use Rattle.book_rule.specs.Views.{having_joined, having_met}
+use Rattle.book_rule.specs.Views.{having_joined, having_met, emptied}
 use Rattle.book_rule.specs.Rule.{Lock, free, taken, Standing, laid_out, lock_word, lock_home, has_turn, StandsSo, Knows, ClaimsOf, Kept}
 use Rattle.book_rule.specs.Rule.{Ruled, Turned}
-use Rattle.book_rule.specs.Transitions.{Transition, take, stay, look, commit, give_up, accompany, fork, merge, meet, Enabled, after}
+use Rattle.book_rule.specs.Transitions.{Transition, take, stay, look, commit, give_up, accompany, fork, hand_over, merge, meet}
+use Rattle.book_rule.specs.Transitions.{Enabled, after}
 use Rattle.book_rule.specs.Plays.{Learns, Met, took, looked, committed, freed, accompanied, met}
 use Rattle.book_rule.proofs.Prefixes.{snoc_last, longer_begins}
 use Rattle.book_rule.proofs.Keeping.{keeps}
@@ -189,6 +190,17 @@ module _ {X : Type 0} (w : Protocol X) (o : Opening) where
       by_standing (λ (s : St). Turned w o record { words = s.words; homes = s.homes; views = set s.views id v ++ newcomer v ∷ [] }) id v s T
       at
       (λ t r here. rules t id v fork here (is_live v live, company) r)
+
+  pub hands_turn : (id : ℕ) (v : View) → v.stage ≡ Looked → v.opening ≡ Some o → v.alone ≡ false
+      → Splits (Turned w o) id v (emptied v) (having_left v)
+  hands_turn id v stage live company s T at =
+      by_standing (λ (s : St). Turned w o record {
+        words = s.words;
+        homes = s.homes;
+        views = set s.views id (emptied v)
+            ++ having_left v ∷ [];
+      }) id v s T at
+      (λ t r here. rules t id v hand_over here (stage, is_live v live, company) r)
 
   pub joins_seat : (id other : ℕ) (v d : View) → v.stage ≡ Away → d.stage ≡ Away
       → Joins (Turned w o) id v other d (having_joined v d) nobody

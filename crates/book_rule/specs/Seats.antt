@@ -9,7 +9,7 @@ use Rattle.book_rule.specs.declared.view.Opening.{Opening}
 use Rattle.book_rule.specs.declared.view.View.{View}
 use Rattle.book_rule.specs.declared.view.Stage.TheVariants.{Away, Looked}
 use Rattle.book_rule.specs.Ways.{Protocol, Follows, NamesOwn}
-use Rattle.book_rule.specs.Views.{first_view, newcomer, in_company, having_seen, having_made, having_left, longer}
+use Rattle.book_rule.specs.Views.{first_view, newcomer, in_company, having_seen, having_made, having_left, emptied, longer}
 use Rattle.book_rule.specs.Rule.{ClaimsOf, HasAll}
 use Rattle.book_rule.specs.Plays.{Learns}
 
@@ -59,6 +59,13 @@ module _ {H : Type 0} where
     pub me : s'.me ≡ (in_company s.me.0, s.me.1)
     pub new_table : r.table_id ≡ s.table_id
     pub new_me : r.me ≡ (newcomer s.me.0, [])
+
+  -- a new seat, which has seen as much, has the turn with what the old one held; the old one waits, and is no longer alone
+  pub record HandsOver (s s' r : Seat (Option (Box H Global)) View) : Type 0 where
+    pub table : s'.table_id ≡ s.table_id
+    pub me : s'.me ≡ (having_left (in_company s.me.0), [])
+    pub new_table : r.table_id ≡ s.table_id
+    pub new_me : r.me ≡ (emptied s.me.0, s.me.1)
 
   -- the seat goes on from the longer of two histories, and both begin it
   pub record Merges (s other s' : Seat (Option (Box H Global)) View) : Type 0 where

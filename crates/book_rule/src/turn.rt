@@ -3,12 +3,15 @@ ghost use Rattle.std.specs.Prelude.{◌≡◌, [], IfOk, IfErr, IfSome, IsSome, 
 ghost use Rattle.book_rule.specs.Seats.{IsOne, LiesIn};
 
 use crate::gate::WaitQueue;
-use crate::rule::{Accompany, Commit, Fork, Free, Guarded, Look, Meet, Merge, Rule, Slot, Take};
+use crate::rule::{
+    Accompany, Commit, Fork, Free, Guarded, HandOver, Look, Meet, Merge, Rule, Slot, Take,
+};
 use crate::view::View;
 use atomic_table::{Refused, Seat, Table};
 use std::alloc::{AllocFailed, Global};
 use std::hint::spin_loop;
 use std::marker::Model;
+use std::mem;
 use std::snapshot::Snapshot;
 use std::sync::Wait;
 
@@ -70,6 +73,7 @@ impl<H: Guarded> Model for Turn<H> {
 
 impl<H: Guarded> Turn<H> {
     ghost use Rattle.book_rule.specs.Seats.{IsSameSeat, IsSeatOf, Waits, Holding, Forks, Merges};
+    ghost use Rattle.book_rule.specs.Seats.{HandsOver};
     ghost use Rattle.book_rule.specs.Seats.{StillClaims, Enters, Settled, IsOneMore, MakesLast};
     ghost use Rattle.book_rule.specs.Seats.{Begins, Closes};
     ghost use Rattle.book_rule.specs.Views.{having_left};
@@ -168,6 +172,18 @@ impl<H: Guarded> Turn<H> {
         let shared = &self.table.shared;
         shared.load::<Accompany>(seat, TURN);
         shared.split_seat::<Fork>(seat)
+    }
+
+    /// Makes a seat that has seen as much, and hands the turn over to it, so that nobody comes
+    /// between. The old seat keeps all that is its own, and waits. Neither is alone from then on.
+    pub fn hand_over(&self, seat: &mut TurnSeat<H>) -> TurnSeat<H>
+        requires { Holding self.now seat.old }
+        ensures { HandsOver seat.old seat.new result }
+    {
+        let shared = &self.table.shared;
+        shared.load::<Accompany>(seat, TURN);
+        let waiting = shared.split_seat::<HandOver>(seat);
+        mem::replace(seat, waiting)
     }
 
     /// Spends a seat, and goes on from the longer history of the two.
