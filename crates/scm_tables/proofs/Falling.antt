@@ -31,7 +31,7 @@ none_falls process code (row ∷ rows) none =
           rw (out, none_falls process code rows (sym (ap (λ b. cond b (Some row) (find (is_by process) rows)) out) ∙ none)) refl
     ]
 
-none_current : (process : ℕ) (rows : List Service) → find (is_by process) rows ≡ None → currents process rows ≡ []
+pub none_current : (process : ℕ) (rows : List Service) → find (is_by process) rows ≡ None → currents process rows ≡ []
 none_current process [] none = refl
 none_current process (row ∷ rows) none =
     elim (cases_Bool (is_by process row)) [

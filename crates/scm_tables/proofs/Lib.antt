@@ -23,3 +23,4 @@ pub mod Failures
 pub mod Falling
 pub mod Promising
 pub mod Securing
+pub mod Refusing

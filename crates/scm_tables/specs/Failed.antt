@@ -1,5 +1,5 @@
 -- Failures and reports, a part at a time.
-use Rattle.std.specs.Prelude.{ℕ, ◌==◌, Option, map, if◌then◌else◌}
+use Rattle.std.specs.Prelude.{ℕ, Bool, false, ◌==◌, Option, None, Some, map, if◌then◌else◌}
 use Rattle.failure_actions.specs.Failing.{on_failure}
 use Rattle.scm_model.specs.declared.flat.Flat.{Flat}
 use Rattle.scm_model.specs.declared.flat.Service.{Service}
@@ -7,6 +7,7 @@ use Rattle.scm_model.specs.declared.flat.Status.{Status}
 use Rattle.scm_model.specs.Found.{if_found}
 use Rattle.scm_rules.specs.Failures.{counted_if, with_action}
 use Rattle.scm_model.specs.Notices.{notified_of_move}
+use Rattle.status_machine.specs.Moves.{takes}
 use Rattle.scm_rules.specs.Launches.{fallen}
 use Rattle.scm_rules.specs.Reports.{notified_of_report, released_by, reported_in}
 use Rattle.scm_tables.specs.declared.failing.Failed.{Failed}
@@ -34,6 +35,11 @@ with_one_fallen f code row = record f {
 }
 
 -- ## Reports
+
+-- whether a service is there and takes a report
+abbrev pub is_taken_by : Status → Option Service → Bool
+is_taken_by report None = false
+is_taken_by report (Some row) = takes row.status report
 
 -- the service, if there is one, takes a report of its current process, whether or not that is a failure
 abbrev pub taken_by_service : Flat → Option Service → Status → Flat

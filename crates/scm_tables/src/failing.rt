@@ -1,19 +1,21 @@
-ghost use Rattle.std.specs.Prelude.{◌≡◌, ◌≤◌, ◌<◌, ◌+◌, ◌^◌, ◌==◌, AllPairs, IfSome, IsTrue, find};
-ghost use Rattle.std.specs.Prelude.{length, map, option_and_then, option_copied, option_map};
-ghost use Rattle.std.specs.Prelude.{slice_get};
+ghost use Rattle.std.specs.Prelude.{◌≡◌, ◌≢◌, ◌≤◌, ◌<◌, ◌+◌, ◌^◌, ◌==◌, AllPairs, IfSome, IsTrue};
+ghost use Rattle.std.specs.Prelude.{[], find, length, map, option_and_then, option_copied};
+ghost use Rattle.std.specs.Prelude.{option_map, slice_get};
 ghost use Rattle.std.specs.List.{list_any};
 ghost use Rattle.scm_model.specs.Found.{if_found};
 ghost use Rattle.scm_model.specs.Processes.{currents, is_by};
 ghost use Rattle.scm_model.specs.Rows.{service_of};
+ghost use Rattle.scm_model.specs.declared.steps.Answer.TheVariants as answer;
 ghost use Rattle.scm_rules.specs.Due.{is_due_of};
 ghost use Rattle.scm_rules.specs.Ends.{with_end};
 ghost use Rattle.scm_rules.specs.Failures.{all_failed, counted_if, failed_by, is_failure};
 ghost use Rattle.scm_rules.specs.Failures.{with_action, with_due_after, with_failure};
-ghost use Rattle.scm_rules.specs.Reports.{is_stopped_by, released_by, reporting};
+ghost use Rattle.scm_rules.specs.Reports.{is_stopped_by, released_by, report_told, reporting};
 ghost use Rattle.scm_rules.specs.Reports.{with_report_of};
 ghost use Rattle.scm_rules.specs.Launches.{with_fallen};
-ghost use Rattle.scm_tables.specs.Failed.{failed_at, taken_by_service, with_failed};
+ghost use Rattle.scm_tables.specs.Failed.{failed_at, is_taken_by, taken_by_service, with_failed};
 ghost use Rattle.scm_tables.specs.Failed.{with_one_fallen};
+ghost use Rattle.status_machine.specs.Moves.{takes};
 
 use super::noticing::{note_fall, note_report};
 use super::processes::Processes;
@@ -44,21 +46,25 @@ fn failure_of(service: Option<&Service>, moment: u64) -> Option<Failed>
     }
 }
 
+/// Whether a service takes a report.
+fn takes(row: &Service, report: &Status) -> bool
+    ensures { result ≡ takes row.now.status report.now }
+{
+    take_report(&row.status, report).is_ok()
+}
+
 /// Whether a report that is taken is a failure of the service.
 fn is_failure(row: &Service, report: &Status) -> bool
     ensures { result ≡ is_failure report.now row.now }
 {
-    row.config.on_exit
-        && take_report(&row.status, report).is_ok()
-        && report.state == SERVICE_STOPPED
-        && report.win32 != 0
+    row.config.on_exit && takes(row, report) && report.state == SERVICE_STOPPED && report.win32 != 0
 }
 
 /// Whether a service takes a report that stops it.
 fn is_stopped_by(row: &Service, report: &Status) -> bool
     ensures { result ≡ is_stopped_by report.now row.now }
 {
-    take_report(&row.status, report).is_ok() && report.state == SERVICE_STOPPED
+    takes(row, report) && report.state == SERVICE_STOPPED
 }
 
 /// The service, where the report is a failure of it.
@@ -212,7 +218,11 @@ impl Tables {
         requires { self.old.flat.next.due + length self.old.flat.services ≤ 2 ^ 63 }
         ensures flat { self.new.flat ≡ with_end self.old.flat process }
         ensures limits { self.new.limits ≡ self.old.limits }
+        ensures stale { currents process self.old.flat.services ≡ [] → self.new ≡ self.old }
     {
+        if self.first_current(process).is_none() {
+            return;
+        }
         self.fail_each(process);
         self.fall(process, ERROR_PROCESS_ABORTED);
     }
@@ -233,6 +243,17 @@ impl Tables {
         report_in(&mut self.services, service, report);
     }
 
+    /// Whether a service is there and takes a report.
+    fn is_taken_by(&self, service: u64, report: &Status) -> bool
+        ensures taken { result ≡ is_taken_by report.now (service_of self.now.flat service) }
+        ensures rising { AllPairs (λ a b. a.number < b.number) self.now.flat.services }
+    {
+        match self.services.get(service) {
+            Some(row) => takes(row, report),
+            None => false,
+        }
+    }
+
     /// A service takes a report of its current process, if it is there, which may be a failure of
     /// it; its registrations are notified of another state. It takes no memory.
     pub fn report_of(&mut self, service: u64, report: &Status)
@@ -240,7 +261,12 @@ impl Tables {
         ensures flat { self.new.flat ≡ with_report_of self.old.flat
             (service_of self.old.flat service) report.now }
         ensures limits { self.new.limits ≡ self.old.limits }
+        ensures untaken { report_told (service_of self.old.flat service) report.now ≢ answer.Done
+            → self.new ≡ self.old }
     {
+        if !self.is_taken_by(service, report) {
+            return;
+        }
         let failed = failure_of(failed_by(self.service(service), report), self.moment);
         self.take_report_of(service, report);
         self.fail(failed);
@@ -264,6 +290,8 @@ impl Tables {
         ensures flat { self.new.flat ≡ with_report_of self.old.flat
             (reporting self.old.flat process service) report.now }
         ensures limits { self.new.limits ≡ self.old.limits }
+        ensures untaken { report_told (reporting self.old.flat process service) report.now
+            ≢ answer.Done → self.new ≡ self.old }
     {
         match self.reporting_number(process, service) {
             Some(number) => self.report_of(number, report),

@@ -178,6 +178,8 @@ impl Tables {
     pub fn remove_process(&mut self, process: u64)
         ensures flat { self.new.flat ≡ without_process self.old.flat process }
         ensures limits { self.new.limits ≡ self.old.limits }
+        ensures spare { self.new.spare ≡ self.old.spare }
+        ensures absent { process_of self.old.flat process ≡ None → self.new ≡ self.old }
     {
         self.processes.remove(process);
     }

@@ -1,6 +1,6 @@
 ghost use Rattle.std.specs.Prelude.{◌≡◌, ◌≤◌, ◌<◌, ◌-◌, ◌==◌, ◌^◌, [], find, length, min};
 ghost use Rattle.std.specs.Prelude.{nat_le, option_copied, option_map, slice_get, All, AllPairs};
-ghost use Rattle.std.specs.Prelude.{IfOk};
+ghost use Rattle.std.specs.Prelude.{IfOk, None};
 ghost use Rattle.std.specs.List.{list_any};
 ghost use Rattle.scm_model.specs.Processes.{is_shared};
 ghost use Rattle.scm_model.specs.Notices.{pid_in};
@@ -242,7 +242,9 @@ impl Processes {
 
     /// Takes a process away.
     pub fn remove(&mut self, number: u64)
-        ensures { self.new ≡ without_one number self.old }
+        ensures left { self.new ≡ without_one number self.old }
+        ensures absent { find (λ row. row.number == number) self.old.processes ≡ None
+            → self.new ≡ self.old }
     {
         self.owed = drop_process(&mut self.rows, number, self.owed);
     }
@@ -257,7 +259,10 @@ impl Processes {
 
     /// The order that waits first for a process waits no longer.
     pub fn dequeue_control(&mut self, number: u64)
-        ensures { self.new ≡ with_changed (dequeued_if number) self.old }
+        ensures left { self.new ≡ with_changed (dequeued_if number) self.old }
+        ensures none { first_control (controls_in
+            (find (λ row. row.number == number) self.old.processes)) ≡ None
+            → self.new ≡ self.old }
     {
         relieve_in(&mut self.rows, number);
     }

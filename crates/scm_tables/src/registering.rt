@@ -71,6 +71,7 @@ impl Tables {
         ensures notice { result ≡ notice_of number self.old.flat.registrations }
         ensures flat { self.new.flat ≡ with_taken_result self.old.flat number }
         ensures limits { self.new.limits ≡ self.old.limits }
+        ensures spare { self.new.spare ≡ self.old.spare }
     {
         self.registrations.take_results(number)
     }

@@ -1,4 +1,4 @@
-ghost use Rattle.std.specs.Prelude.{◌≡◌, ◌≤◌, find, length, option_copied, option_map};
+ghost use Rattle.std.specs.Prelude.{◌≡◌, ◌≤◌, find, length, option_copied, option_map, None};
 ghost use Rattle.scm_model.specs.Processes.{is_by, is_shared};
 ghost use Rattle.scm_rules.specs.Controls.{active_among, next_order, waiting, with_control};
 ghost use Rattle.scm_rules.specs.Controls.{with_control_taken};
@@ -120,6 +120,7 @@ impl Tables {
     pub fn take_control(&mut self, process: u64)
         ensures flat { self.new.flat ≡ with_control_taken self.old.flat process }
         ensures limits { self.new.limits ≡ self.old.limits }
+        ensures none { next_order self.old.flat process ≡ None → self.new ≡ self.old }
     {
         match first_asked_in(&self.services, process) {
             Some(row) => {

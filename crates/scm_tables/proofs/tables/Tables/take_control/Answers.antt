@@ -1,6 +1,8 @@
-use Rattle.std.proofs.Common.{◌∙◌, refl, sym}
-use Rattle.scm_rules.specs.Controls.{unasked_if}
+use Rattle.std.proofs.Common.{◌∙◌, Option, ap, find, refl, sym}
+use Rattle.scm_model.specs.declared.flat.Service.{Service}
+use Rattle.scm_rules.specs.Controls.{controls_of, first_control, is_asked_by, next_by, unasked_if}
 use Rattle.scm_rules.proofs.Needed.{same_graph}
+use Rattle.scm_tables.specs.Tabled.{Tabled}
 use Rattle.scm_tables.proofs.Keeping.{other_processes, texts_map, unasked_config, unasked_needs, unasked_number}
 use Rattle.scm_tables.proofs.Marks.{marks_map, room_map, unasked_mark}
 use Rattle.scm_tables.proofs.NeedRows.{same_rows}
@@ -22,7 +24,23 @@ returns-in-Some-clause-flat c =
 pub returns-in-None-clause-flat : goal.returns-in-None-clause-flat
 returns-in-None-clause-flat c =
     let found = c.in-None.ensures in
-    rw (← c.self.view_is, ← found, c.dequeue_control.ensures) refl
+    rw (← c.self.view_is, ← found, c.dequeue_control.ensures.left) refl
+
+pub returns-in-Some-clause-none : goal.returns-in-Some-clause-none
+returns-in-Some-clause-none c = λ none.
+    let process = c.args.process in
+    let found = c.in-Some.ensures ∙ ap (λ (t : Tabled). find (is_asked_by process) t.flat.services) c.self.view_is in
+    absurd (cc (ap (λ (o : Option Service). next_by o (first_control (controls_of c.args.self.now.flat process))) found ∙ none))
+
+pub returns-in-None-clause-none : goal.returns-in-None-clause-none
+returns-in-None-clause-none c = λ none.
+    let process = c.args.process in
+    let found = c.in-None.ensures ∙ ap (λ (t : Tabled). find (is_asked_by process) t.flat.services) c.self.view_is in
+    let order = ap (λ (o : Option Service). next_by o (first_control (controls_of c.args.self.now.flat process))) found ∙ none in
+    rw (
+      ← c.self.view_is,
+      c.dequeue_control.ensures.none (ap (λ (t : Tabled). first_control (controls_of t.flat process)) c.self.view_is ∙ order),
+    ) refl
 
 pub invariant_of-self : goal.invariant_of-self
 invariant_of-self c =
@@ -47,4 +65,4 @@ invariant_of-self c =
     }
 
 pub invariant_of-self-in-None : goal.invariant_of-self-in-None
-invariant_of-self-in-None c = other_processes c.self.invariant c.dequeue_control.new.self c.dequeue_control.ensures refl refl
+invariant_of-self-in-None c = other_processes c.self.invariant c.dequeue_control.new.self c.dequeue_control.ensures.left refl refl
