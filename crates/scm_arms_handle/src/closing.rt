@@ -1,4 +1,4 @@
-ghost use Rattle.std.specs.Prelude.{◌≡◌};
+ghost use Rattle.std.specs.Prelude.{◌≡◌, ◌≢◌};
 ghost use Rattle.scm_model.specs.Refused.{outcome};
 ghost use Rattle.scm_model.specs.Rows.{is_closable};
 ghost use Rattle.scm_model.specs.declared.calls.Request.TheVariants as request;
@@ -39,6 +39,7 @@ pub fn close(tables: &mut Tables, caller: u64, handle: u64) -> Reply
     ensures reply { result ≡ (close_outcome tables.old.flat caller handle).reply }
     ensures flat { tables.new.flat ≡ (close_outcome tables.old.flat caller handle).flat }
     ensures limits { tables.new.limits ≡ tables.old.limits }
+    ensures refused { close_verdict tables.old.flat caller handle ≢ 0 → tables.new ≡ tables.old }
 {
     let code = close_verdict(tables, caller, handle);
     if code != 0 {

@@ -1,4 +1,4 @@
-ghost use Rattle.std.specs.Prelude.{◌≡◌, ◌≤◌, ◌<◌, ◌^◌};
+ghost use Rattle.std.specs.Prelude.{◌≡◌, ◌≢◌, ◌≤◌, ◌<◌, ◌^◌};
 ghost use Rattle.scm_model.specs.Refused.{outcome};
 ghost use Rattle.scm_model.specs.declared.calls.Request.TheVariants as request;
 ghost use Rattle.scm_rules.specs.Locks.{
@@ -45,6 +45,8 @@ pub fn lock(tables: &mut Tables, limits: &Limits, caller: u64, handle: u64) -> R
     ensures reply { result ≡ (lock_outcome limits.now tables.old.flat caller handle).reply }
     ensures flat { tables.new.flat ≡ (lock_outcome limits.now tables.old.flat caller handle).flat }
     ensures limits { tables.new.limits ≡ tables.old.limits }
+    ensures refused { lock_verdict limits.now tables.old.flat caller handle ≢ 0
+        → tables.new ≡ tables.old }
 {
     let code = lock_verdict(tables, limits, caller, handle);
     if code != 0 {
@@ -81,6 +83,7 @@ pub fn unlock(tables: &mut Tables, caller: u64, handle: u64) -> Reply
     ensures reply { result ≡ (unlock_outcome tables.old.flat caller handle).reply }
     ensures flat { tables.new.flat ≡ (unlock_outcome tables.old.flat caller handle).flat }
     ensures limits { tables.new.limits ≡ tables.old.limits }
+    ensures refused { unlock_verdict tables.old.flat caller handle ≢ 0 → tables.new ≡ tables.old }
 {
     let code = unlock_verdict(tables, caller, handle);
     if code != 0 {

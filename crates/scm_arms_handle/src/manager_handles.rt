@@ -1,4 +1,4 @@
-ghost use Rattle.std.specs.Prelude.{◌≡◌, ◌≤◌, ◌<◌, ◌^◌};
+ghost use Rattle.std.specs.Prelude.{◌≡◌, ◌≢◌, ◌≤◌, ◌<◌, ◌^◌};
 ghost use Rattle.scm_model.specs.Refused.{outcome};
 ghost use Rattle.scm_model.specs.declared.calls.Request.TheVariants as request;
 ghost use Rattle.scm_rules.specs.OpenManager.{manager_granted, open_manager_done};
@@ -62,6 +62,8 @@ pub fn open_manager(
     ensures flat { tables.new.flat ≡ (open_manager_outcome limits.now tables.old.flat caller
         database.now access).flat }
     ensures limits { tables.new.limits ≡ tables.old.limits }
+    ensures refused { open_manager_verdict limits.now tables.old.flat caller database.now access ≢ 0
+        → tables.new ≡ tables.old }
 {
     let code = open_manager_verdict(tables, limits, caller, database, access);
     if code != 0 {

@@ -1,4 +1,4 @@
-ghost use Rattle.std.specs.Prelude.{◌≡◌, ◌≤◌, ◌<◌, ◌^◌};
+ghost use Rattle.std.specs.Prelude.{◌≡◌, ◌≢◌, ◌≤◌, ◌<◌, ◌^◌};
 ghost use Rattle.scm_model.specs.Refused.{outcome};
 ghost use Rattle.scm_model.specs.declared.calls.Request.TheVariants as request;
 ghost use Rattle.scm_rules.specs.OpenService.{open_service_done, open_service_rights};
@@ -102,6 +102,8 @@ pub fn open_service(
     ensures flat { tables.new.flat ≡ (open_service_outcome limits.now tables.old.flat caller handle
         name.now access).flat }
     ensures limits { tables.new.limits ≡ tables.old.limits }
+    ensures refused { open_service_verdict limits.now tables.old.flat caller handle name.now access
+        ≢ 0 → tables.new ≡ tables.old }
 {
     let code = open_service_verdict(tables, limits, caller, handle, name, access);
     if code != 0 {

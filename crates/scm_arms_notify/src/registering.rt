@@ -1,4 +1,4 @@
-ghost use Rattle.std.specs.Prelude.{◌≡◌, ◌≤◌, ◌<◌, ◌^◌, ◌||◌, nat_le};
+ghost use Rattle.std.specs.Prelude.{◌≡◌, ◌≢◌, ◌≤◌, ◌<◌, ◌^◌, ◌||◌, nat_le};
 ghost use Rattle.scm_model.specs.Notices.{registered_by};
 ghost use Rattle.scm_model.specs.Rows.{held_by};
 ghost use Rattle.scm_rules.specs.Notify.{is_bad_mask, notify_done, notify_outcome, notify_verdict};
@@ -88,6 +88,8 @@ pub fn notify(tables: &mut Tables, limits: &Limits, caller: u64, handle: u64, ma
     ensures flat { tables.new.flat ≡ (notify_outcome limits.now tables.old.flat caller handle
         mask).flat }
     ensures limits { tables.new.limits ≡ tables.old.limits }
+    ensures refused { notify_verdict limits.now tables.old.flat caller handle mask ≢ 0
+        → tables.new ≡ tables.old }
 {
     let code = notify_verdict(tables, limits, caller, handle, mask);
     if code != 0 {

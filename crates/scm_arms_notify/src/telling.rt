@@ -1,6 +1,7 @@
-ghost use Rattle.std.specs.Prelude.{◌≡◌};
+ghost use Rattle.std.specs.Prelude.{◌≡◌, ◌≢◌};
 ghost use Rattle.scm_arms_notify.specs.Told.{notice_told};
-ghost use Rattle.scm_rules.specs.Notify.{close_notify_outcome, get_notify_outcome, notify_of};
+ghost use Rattle.scm_rules.specs.Notify.{close_notify_outcome, get_notify_outcome, notice_verdict};
+ghost use Rattle.scm_rules.specs.Notify.{notify_of};
 
 use notify_queue::Notice;
 use scm_model::codes::ERROR_INVALID_HANDLE;
@@ -45,6 +46,7 @@ pub fn get_notify(tables: &mut Tables, caller: u64, handle: u64) -> Reply
     ensures reply { result ≡ (get_notify_outcome tables.old.flat caller handle).reply }
     ensures flat { tables.new.flat ≡ (get_notify_outcome tables.old.flat caller handle).flat }
     ensures limits { tables.new.limits ≡ tables.old.limits }
+    ensures refused { notice_verdict tables.old.flat caller handle ≢ 0 → tables.new ≡ tables.old }
 {
     let Some(number) = notify_of(tables, caller, handle) else {
         return told(None, ERROR_INVALID_HANDLE);
@@ -57,6 +59,7 @@ pub fn close_notify(tables: &mut Tables, caller: u64, handle: u64) -> Reply
     ensures reply { result ≡ (close_notify_outcome tables.old.flat caller handle).reply }
     ensures flat { tables.new.flat ≡ (close_notify_outcome tables.old.flat caller handle).flat }
     ensures limits { tables.new.limits ≡ tables.old.limits }
+    ensures refused { notice_verdict tables.old.flat caller handle ≢ 0 → tables.new ≡ tables.old }
 {
     let Some(number) = notify_of(tables, caller, handle) else {
         return Reply::Handle {

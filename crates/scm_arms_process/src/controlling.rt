@@ -1,5 +1,6 @@
-ghost use Rattle.std.specs.Prelude.{◌≡◌, ◌≤◌, option_copied};
+ghost use Rattle.std.specs.Prelude.{◌≡◌, ◌≢◌, ◌≤◌, option_copied};
 ghost use Rattle.scm_model.specs.Refused.{answered};
+ghost use Rattle.scm_model.specs.declared.steps.Answer.TheVariants as answer;
 ghost use Rattle.scm_rules.specs.Controls.{control_done, control_taken, control_told};
 ghost use Rattle.scm_rules.specs.Controls.{control_verdict, granted_in, status_told, tells_status};
 ghost use Rattle.scm_rules.specs.Controls.{waiting_for};
@@ -82,6 +83,8 @@ pub fn control(tables: &mut Tables, caller: u64, handle: u64, control: u32) -> R
         (control_verdict tables.old.limits tables.old.flat caller handle control)) tables.old.flat
         (control_done tables.old.limits tables.old.flat caller handle control)).flat }
     ensures limits { tables.new.limits ≡ tables.old.limits }
+    ensures refused { control_verdict tables.old.limits tables.old.flat caller handle control ≢ 0
+        → tables.new ≡ tables.old }
 {
     let code = control_verdict(tables, caller, handle, control);
     let service = tables.held_service(caller, handle);
@@ -109,6 +112,7 @@ pub fn take_control(tables: &mut Tables, process: u64) -> Answer
     ensures answer { result ≡ (control_taken tables.old.flat process).answer }
     ensures flat { tables.new.flat ≡ (control_taken tables.old.flat process).flat }
     ensures limits { tables.new.limits ≡ tables.old.limits }
+    ensures none { result ≡ answer.Done → tables.new ≡ tables.old }
 {
     let order = tables.next_order(process);
     tables.take_control(process);

@@ -1,4 +1,5 @@
-ghost use Rattle.std.specs.Prelude.{ℕ, ◌≡◌, ◌≤◌, ◌+◌, option_and_then, option_copied, slice_get};
+ghost use Rattle.std.specs.Prelude.{ℕ, ◌≡◌, ◌≢◌, ◌≤◌, ◌+◌, option_and_then};
+ghost use Rattle.std.specs.Prelude.{option_copied, slice_get};
 ghost use Rattle.scm_model.specs.Found.{if_found};
 ghost use Rattle.scm_model.specs.declared.calls.Reply.TheVariants as reply;
 ghost use Rattle.scm_model.specs.declared.steps.Answer.TheVariants as answer;
@@ -190,6 +191,7 @@ pub fn raise(tables: &mut Tables, caller: u64, subtype: &[u8; 16]) -> Answer
     ensures answer { result ≡ answer.Reply (reply.Code (raise_verdict tables.old.flat caller)) }
     ensures flat { tables.new.flat ≡ raised tables.old.limits tables.old.flat caller subtype.now }
     ensures limits { tables.new.limits ≡ tables.old.limits }
+    ensures refused { raise_verdict tables.old.flat caller ≢ 0 → tables.new ≡ tables.old }
 {
     let code = raise_verdict(tables, caller);
     if code == 0 {

@@ -1,10 +1,13 @@
-ghost use Rattle.std.specs.Prelude.{◌≡◌, ◌≤◌, ◌<◌, ◌+◌, ◌^◌, ◌&&◌, length, option_copied};
+ghost use Rattle.std.specs.Prelude.{◌≡◌, ◌≢◌, ◌≤◌, ◌<◌, ◌+◌, ◌^◌, ◌&&◌, None, length};
+ghost use Rattle.std.specs.Prelude.{option_copied};
 ghost use Rattle.scm_model.specs.Processes.{currents};
 ghost use Rattle.scm_model.specs.declared.calls.Request.TheVariants as request;
+ghost use Rattle.scm_model.specs.declared.steps.Answer.TheVariants as answer;
 ghost use Rattle.scm_model.specs.Refused.{outcome};
 ghost use Rattle.scm_rules.specs.Reports.{may_report, report_answer, report_told, reported};
 ghost use Rattle.scm_rules.specs.Reports.{set_status_done, set_status_verdict, set_status_outcome};
 ghost use Rattle.scm_rules.specs.Ends.{end_told, process_ended};
+ghost use Rattle.scm_rules.specs.Launches.{process_of, without_process};
 ghost use Rattle.status_machine.specs.Moves.{takes};
 
 use scm_model::codes::{
@@ -42,6 +45,7 @@ pub fn report(tables: &mut Tables, process: u64, service: u64, report: &Status) 
     ensures answer { result ≡ (reported tables.old.flat process service report.now).answer }
     ensures flat { tables.new.flat ≡ (reported tables.old.flat process service report.now).flat }
     ensures limits { tables.new.limits ≡ tables.old.limits }
+    ensures untaken { result ≢ answer.Done → tables.new ≡ tables.old }
 {
     let answer = report_told(tables.reporting(process, service), report);
     tables.report(process, service, report);
@@ -65,6 +69,11 @@ pub fn end(tables: &mut Tables, process: u64) -> Answer
     ensures answer { result ≡ (process_ended tables.old.flat process).answer }
     ensures flat { tables.new.flat ≡ (process_ended tables.old.flat process).flat }
     ensures limits { tables.new.limits ≡ tables.old.limits }
+    ensures stale { result ≡ answer.Stale → tables.new ≡ record tables.old {
+      flat = without_process tables.old.flat process;
+    } }
+    ensures absent { result ≡ answer.Stale → process_of tables.old.flat process ≡ None
+        → tables.new ≡ tables.old }
 {
     let answer = end_told(tables, process);
     tables.process_exited(process);
@@ -114,6 +123,8 @@ pub fn set_status(tables: &mut Tables, caller: u64, handle: u64, report: &Status
     ensures flat { tables.new.flat ≡ (set_status_outcome tables.old.flat caller handle
         report.now).flat }
     ensures limits { tables.new.limits ≡ tables.old.limits }
+    ensures refused { set_status_verdict tables.old.flat caller handle report.now ≢ 0
+        → tables.new ≡ tables.old }
 {
     let code = set_status_verdict(tables, caller, handle, report);
     if code != 0 {

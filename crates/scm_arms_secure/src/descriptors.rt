@@ -85,16 +85,18 @@ pub fn are_no_parts(parts: u32) -> bool
 
 /// Exchanges two parts, if that is asked for.
 fn swap_if<T>(asked: bool, old: &mut T, given: &mut T)
-    ensures { old.new ≡ (if asked then given.old else old.old) }
+    ensures old { old.new ≡ (if asked then given.old else old.old) }
+    ensures given { given.new ≡ (if asked then old.old else given.old) }
 {
     if asked {
         swap(old, given);
     }
 }
 
-/// Puts the parts that are asked for in place of a descriptor's own.
-fn replace_parts(parts: u32, old: &mut Descriptor, given: &mut Descriptor)
-    ensures { old.new ≡ replaced parts old.old given.old }
+/// Exchanges the parts that are asked for of two descriptors.
+fn swap_parts(parts: u32, old: &mut Descriptor, given: &mut Descriptor)
+    ensures old { old.new ≡ replaced parts old.old given.old }
+    ensures given { given.new ≡ replaced parts given.old old.old }
 {
     swap_if(
         has_bits(parts, OWNER_SECURITY_INFORMATION),
@@ -113,7 +115,9 @@ fn replace_parts(parts: u32, old: &mut Descriptor, given: &mut Descriptor)
     );
 }
 
-/// All parts of the descriptor that a service gets in place of what it has.
+/// All parts of the descriptor that a service gets in place of what it has. While they are written,
+/// it has the parts of `given`, which gets them back.
+#[tactic(auto, using(crate::proofs::Swapping::swapped_back))]
 pub fn new_security(
     parts: u32,
     given: &mut Descriptor,
@@ -122,11 +126,13 @@ pub fn new_security(
 ) -> Result<Items<u8>, OutOfMemory>
     requires written { IsWritten security.now }
     requires given { IsWritable given.old }
-    ensures { IfOk result (λ bytes. bytes ≡ new_security parts given.old security.now) }
+    ensures bytes { IfOk result (λ bytes. bytes ≡ new_security parts given.old security.now) }
+    ensures given { given.new ≡ given.old }
 {
     let mut descriptor = base(security, alloc)?;
-    replace_parts(parts, &mut descriptor, given);
+    swap_parts(parts, &mut descriptor, given);
     let bytes = write_descriptor(alloc, &descriptor, 7);
+    swap_parts(parts, &mut descriptor, given);
     drop(descriptor);
     bytes
 }

@@ -1,4 +1,4 @@
-ghost use Rattle.std.specs.Prelude.{◌≡◌, IfOk, IfSome};
+ghost use Rattle.std.specs.Prelude.{◌≡◌, ◌≢◌, IfOk, IfSome};
 ghost use Rattle.sec_desc.specs.Writing.{IsWritable};
 ghost use Rattle.scm_rules.specs.Security.{asked_security, descriptor_in, rights_to_set};
 ghost use Rattle.scm_rules.specs.Security.{set_security_done, set_security_outcome};
@@ -56,7 +56,8 @@ pub fn set_security_verdict(
 }
 
 /// The bytes of the descriptor that the service of a caller's handle is asked to get, with the
-/// parts of what was read in place of its own.
+/// parts of what was read in place of its own. `given` lends its parts, and has them again at the
+/// end.
 pub fn asked_security(
     tables: &Tables,
     caller: u64,
@@ -66,8 +67,9 @@ pub fn asked_security(
     alloc: Global,
 ) -> Result<Option<Items<u8>>, OutOfMemory>
     requires { IfSome given.old IsWritable }
-    ensures { IfOk result (λ security. security ≡ asked_security tables.now.flat caller handle parts
-        given.old) }
+    ensures bytes { IfOk result (λ security. security ≡ asked_security tables.now.flat caller handle
+        parts given.old) }
+    ensures given { given.new ≡ given.old }
 {
     let Some(given) = given else {
         return Ok(None);
@@ -99,6 +101,8 @@ pub fn set_security(
     ensures flat { tables.new.flat ≡ (set_security_outcome tables.old.flat caller handle parts
         bytes.now).flat }
     ensures limits { tables.new.limits ≡ tables.old.limits }
+    ensures refused { set_security_verdict tables.old.flat caller handle parts
+        (descriptor_in bytes.now) ≢ 0 → tables.new ≡ tables.old }
 {
     let _ = bytes;
     if code != 0 {

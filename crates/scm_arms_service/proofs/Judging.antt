@@ -271,7 +271,7 @@ create_goes_on l f caller new config denied wrong is denied_is may wrong_is righ
     (sym (wrong_of f new config wrong is wrong_is) ∙ right))
 
 -- the code of a creation once it is kept
-create_code : (l : Limits) (f : Flat) (caller : ℕ) (new : NewService) (append : Kept) (code result : ℕ)
+pub create_code : (l : Limits) (f : Flat) (caller : ℕ) (new : NewService) (append : Kept) (code result : ℕ)
     → code ≡ create_verdict l f caller new appended.Kept → result ≡ code_once_kept code append
     → create_verdict l f caller new append ≡ result
 create_code l f caller new append code result is made =
@@ -356,7 +356,7 @@ changed_texts f caller change append config e asked =
     (tags_no_group change (held_service f caller change.handle)) (are_unreadable change.needs) all.1.1.1.1.0) asked
 
 -- the code of a change once it is kept
-change_code : (f : Flat) (caller : ℕ) (change : ChangeService) (append : Kept) (code result : ℕ)
+pub change_code : (f : Flat) (caller : ℕ) (change : ChangeService) (append : Kept) (code result : ℕ)
     → code ≡ change_verdict f caller change appended.Kept → result ≡ code_once_kept code append
     → change_verdict f caller change append ≡ result
 change_code f caller change append code result is made =

@@ -63,7 +63,7 @@ leveled_texts f caller handle asked append config e made =
     ] (second_false (has_bad_trigger asked) (is_refused asked (held_service f caller handle)) all.1.1.1.1.0) made
 
 -- the code of a level once it is kept
-leveled_code : (f : Flat) (caller handle : ℕ) (asked : Info) (append : Kept) (code result : ℕ)
+pub leveled_code : (f : Flat) (caller handle : ℕ) (asked : Info) (append : Kept) (code result : ℕ)
     → code ≡ change2_verdict f caller handle asked appended.Kept → result ≡ code_once_kept code append
     → change2_verdict f caller handle asked append ≡ result
 leveled_code f caller handle asked append code result is made =

@@ -1,4 +1,5 @@
-ghost use Rattle.std.specs.Prelude.{◌≡◌, IfOk, IfSome, option_copied, false, Some, if◌then◌else◌};
+ghost use Rattle.std.specs.Prelude.{◌≡◌, ◌≢◌, IfOk, IfSome, option_copied, false};
+ghost use Rattle.std.specs.Prelude.{Some, if◌then◌else◌};
 ghost use Rattle.scm_model.specs.Refused.{first_refusal, outcome};
 ghost use Rattle.scm_model.specs.declared.calls.Request.TheVariants as request;
 ghost use Rattle.scm_model.specs.declared.steps.Kept.TheVariants as appended;
@@ -298,6 +299,8 @@ pub fn change(
     ensures reply { result ≡ (change_outcome tables.old.flat caller change.now kept).reply }
     ensures flat { tables.new.flat ≡ (change_outcome tables.old.flat caller change.now kept).flat }
     ensures limits { tables.new.limits ≡ tables.old.limits }
+    ensures refused { change_verdict tables.old.flat caller change.now kept ≢ 0
+        → tables.new ≡ tables.old }
 {
     let code = code_once_kept(code, kept);
     if code != 0 {

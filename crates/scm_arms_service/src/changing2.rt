@@ -1,4 +1,4 @@
-ghost use Rattle.std.specs.Prelude.{◌≡◌, IfOk, IfSome, None, Some};
+ghost use Rattle.std.specs.Prelude.{◌≡◌, ◌≢◌, IfOk, IfSome, None, Some};
 ghost use Rattle.std.specs.List.{list_any};
 ghost use Rattle.scm_model.specs.Refused.{first_refusal};
 ghost use Rattle.scm_model.specs.declared.steps.Kept.TheVariants as appended;
@@ -246,6 +246,8 @@ pub fn change2(
     ensures flat { tables.new.flat ≡ (change2_outcome tables.old.flat caller handle info.now
         kept).flat }
     ensures limits { tables.new.limits ≡ tables.old.limits }
+    ensures refused { change2_verdict tables.old.flat caller handle info.now kept ≢ 0
+        → tables.new ≡ tables.old }
 {
     let code = code_once_kept(code, kept);
     if code != 0 {

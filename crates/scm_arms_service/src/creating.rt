@@ -1,4 +1,5 @@
-ghost use Rattle.std.specs.Prelude.{◌≡◌, ◌<◌, ◌≤◌, ◌^◌, ◌||◌, Some, nat_le, length, IfOk, IfSome};
+ghost use Rattle.std.specs.Prelude.{◌≡◌, ◌≢◌, ◌<◌, ◌≤◌, ◌^◌, ◌||◌, Some, nat_le, length};
+ghost use Rattle.std.specs.Prelude.{IfOk, IfSome};
 ghost use Rattle.std.specs.Prelude.{is_some};
 ghost use Rattle.scm_model.specs.Refused.{first_refusal, outcome};
 ghost use Rattle.scm_model.specs.Changes.{with_handle};
@@ -239,6 +240,8 @@ pub fn create(
     ensures flat { tables.new.flat ≡ (create_outcome limits.now tables.old.flat caller new
         kept).flat }
     ensures limits { tables.new.limits ≡ tables.old.limits }
+    ensures refused { create_verdict limits.now tables.old.flat caller new kept ≢ 0
+        → tables.new ≡ tables.old }
 {
     let code = code_once_kept(code, kept);
     if code != 0 {

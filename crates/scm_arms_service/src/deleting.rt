@@ -1,4 +1,4 @@
-ghost use Rattle.std.specs.Prelude.{◌≡◌, IfOk, option_copied, option_map};
+ghost use Rattle.std.specs.Prelude.{◌≡◌, ◌≢◌, IfOk, option_copied, option_map};
 ghost use Rattle.scm_model.specs.Refused.{outcome};
 ghost use Rattle.scm_model.specs.declared.calls.Request.TheVariants as request;
 ghost use Rattle.scm_rules.specs.Delete.{delete_change, delete_done, delete_verdict, is_failed};
@@ -88,6 +88,8 @@ pub fn delete(tables: &mut Tables, caller: u64, handle: u64, kept: Kept) -> Repl
     ensures reply { result ≡ (delete_outcome tables.old.flat caller handle kept).reply }
     ensures flat { tables.new.flat ≡ (delete_outcome tables.old.flat caller handle kept).flat }
     ensures limits { tables.new.limits ≡ tables.old.limits }
+    ensures refused { delete_verdict tables.old.flat caller handle kept ≢ 0
+        → tables.new ≡ tables.old }
 {
     let code = delete_verdict(tables, caller, handle, kept);
     if code != 0 {

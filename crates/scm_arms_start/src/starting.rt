@@ -1,4 +1,4 @@
-ghost use Rattle.std.specs.Prelude.{◌≡◌, ◌≤◌, ◌<◌, ◌==◌, ◌^◌, Some, IfOk, [], length};
+ghost use Rattle.std.specs.Prelude.{◌≡◌, ◌≢◌, ◌≤◌, ◌<◌, ◌==◌, ◌^◌, Some, IfOk, [], length};
 ghost use Rattle.std.specs.Prelude.{option_copied, option_map, unwrap_or};
 ghost use Rattle.std.specs.List.{list_any};
 ghost use Rattle.std.specs.Char.Utf16.{has_unpaired_surrogate};
@@ -229,6 +229,8 @@ pub fn start(
         tables.old.flat.next.plan (start_outcome tables.old.flat caller handle words).reply }
     ensures flat { tables.new.flat ≡ (start_outcome tables.old.flat caller handle words).flat }
     ensures limits { tables.new.limits ≡ tables.old.limits }
+    ensures refused { start_verdict tables.old.flat caller handle words ≢ 0
+        → tables.new ≡ tables.old }
 {
     let code = start_verdict(tables, caller, handle, &words);
     if code != 0 {
@@ -256,6 +258,7 @@ pub fn take_launch(tables: &mut Tables) -> Answer
     ensures answer { result ≡ (launch_taken tables.old.flat).answer }
     ensures flat { tables.new.flat ≡ (launch_taken tables.old.flat).flat }
     ensures limits { tables.new.limits ≡ tables.old.limits }
+    ensures none { result ≡ answer.Done → tables.new ≡ tables.old }
 {
     match tables.first_wanted() {
         Some(process) => {

@@ -4,7 +4,7 @@ use Rattle.scm_model.specs.Outcomes.{CallResult}
 use Rattle.scm_model.specs.declared.flat.Config.{Config}
 use Rattle.scm_rules.specs.Create.{created_config}
 use Rattle.scm_tables.specs.Tabled.{HasNeedRoom, HasShortTexts}
-use Rattle.scm_arms_service.proofs.Judging.{create_allowed, create_fits, create_refused, some_of}
+use Rattle.scm_arms_service.proofs.Judging.{create_allowed, create_code, create_fits, create_refused, some_of}
 use Rattle.scm_arms_service.proofs.creating.create.Goals as goal
 
 pub returns-then-code-ne0-clause-reply : goal.returns-then-code-ne0-clause-reply
@@ -47,3 +47,8 @@ returns-clause-flat c =
     ∙ ap (λ (told : CallResult). told.flat)
     (create_allowed c.args.limits.now c.args.tables.now.flat c.args.caller c.args.new c.args.kept c.args.code c.code_once_kept-code.result
     c.requires.verdict c.code_once_kept-code.ensures c.if-code-ne0.false)
+
+pub returns-clause-refused : goal.returns-clause-refused
+returns-clause-refused c other =
+    absurd (other (create_code c.args.limits.now c.args.tables.now.flat c.args.caller c.args.new c.args.kept c.args.code
+    c.code_once_kept-code.result c.requires.verdict c.code_once_kept-code.ensures ∙ c.if-code-ne0.false))

@@ -17,7 +17,7 @@ returns c =
     let read : descriptor_in c.args.bytes.now ≡ given = sym (c.in_ok-given.ensures.given ∙ ap descriptor_in c.as_slice.ensures) in
     let code = c.set_security_verdict-code.result in
     made_right (setting code) c.asked_security-security.result c.made_of_security.result _ _ c.made_of_security.ensures
-    c.asked_security-security.ensures
+    c.asked_security-security.ensures.bytes
     (ap (λ (d : Option Descriptor). setting (set_security_verdict f c.args.caller c.args.handle c.args.parts d)
     (asked_security f c.args.caller c.args.handle c.args.parts d)) read
     ∙ ap (λ n. setting n (asked_security f c.args.caller c.args.handle c.args.parts given)) (sym c.set_security_verdict-code.ensures))
