@@ -71,13 +71,6 @@ module _ {K : Type 0} (tells : K → Option (List ℕ)) (faulted : K → ℕ) (I
       (claims_in tells faulted IsSettled b.opening still.log s.table_id s.me.0 still.claims)
       (ap (λ m. m.0.names) merges.me) (ap (λ m. m.0.caller) merges.me)
 
-  -- a seat that made another and took a third in
-  pub beside_keeps : (s0 made : Seat (Option (Box (Held K) Global)) View) → Forks s0 s made → Merges s r s'
-      → StillClaims (way_of tells faulted IsSettled) b s s' → KeepsAll b.opening (known s0) (known s')
-  beside_keeps s0 made forks merges still = keeps_on b.opening (known s0) (known s) (known s')
-      (same_keeps b.opening (known s0) (known s) (ap (λ m. m.0.seen) forks.me) (ap (λ m. m.0.names) forks.me)
-      (ap (λ m. m.0.caller) forks.me)) (merged_keeps merges still)
-
 -- ## What they have seen
 
 module _ {K : Type 0} (s s' r : Seat (Option (Box (Held K) Global)) View) where

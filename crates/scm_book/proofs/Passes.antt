@@ -152,6 +152,13 @@ module _ {K : Type 0} (tells : K → Option (List ℕ)) (faulted : K → ℕ) (I
       room = subst (λ (v : View). room_behind b.opening v.seen step ≡ true) sees did.free;
     }
 
+    -- it stands right after all that the seat saw as it entered
+    pub so_behind : (s2 : Seat (Option (Box (Held K) Global)) View) (moment : ℕ) (step : Step) (told : Answer)
+        → (did : DidSo (way_of tells faulted IsSettled) b s1 s2 moment step told)
+        → (did_so s2 moment step told did).made.before ≡ enters.log
+    unfolding did_made did_so
+    so_behind s2 moment step told did = λ i. enters.log
+
     pub left_learnt : (s2 : Seat (Option (Box (Held K) Global)) View) → LeftIt s1 s2 → Learnt b.opening (known s) (known s2)
     left_learnt s2 left =
         let now : s2.me.0 ≡ having_left (having_seen s.me.0 enters.log) = ap (λ m. m.0) left.me ∙ ap having_left sees in

@@ -135,6 +135,7 @@ module _ {K : Type 0} (h mid h' : Held K) where
     journal = journal ∙ was.journal;
     keeper = keeper ∙ was.keeper;
     room = let same = ap (λ (t : Trailed). t.room) trail in let r = was.room in omega arith;
+    text_room = let same = ap (λ (t : Trailed). t.text_room) trail in let r = was.text_room in omega arith;
   }
 
   -- the state, the limits and the entries are those of before

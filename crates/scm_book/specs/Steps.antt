@@ -81,6 +81,7 @@ module _ {K : Type 0} where
     pub journal : h'.journal ≡ h.journal
     pub keeper : h'.keeper ≡ h.keeper
     pub room : h.trail.room ≤ h'.trail.room
+    pub text_room : h.trail.text_room ≤ h'.trail.text_room
 
   -- why a step wasn't made
   abbrev pub Why : Held K → Step → MakeFault → Type 0

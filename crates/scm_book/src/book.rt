@@ -171,7 +171,7 @@ impl<K: Keeper> Book<K> {
     }
 
     /// Joins a caller. Its pass has seen all that `by` had seen, and `by` has then seen all that
-    /// the new pass has, or that it didn't join.
+    /// the new pass has. If nobody can join, no entry is made, and `by` has seen why.
     pub fn join<R: Wait>(
         &self,
         rt: &R,
@@ -186,6 +186,7 @@ impl<K: Keeper> Book<K> {
         ensures book { IfOk result (IsOf self.now) }
         ensures ok { IfOk result (Joins self.now.opening by.old moment principal by.new) }
         ensures caller { IfOk result (λ p. p.caller ≢ 0) }
+        ensures learnt { IfErr result (λ e. Learnt self.now.opening by.old by.new) }
         ensures cause { IfErr result (JoinCause self.now.opening by.new principal) }
     {
         self.shared

@@ -1,18 +1,21 @@
 // Callers that join, starts that end, and passes that are made and taken in.
-ghost use Rattle.std.specs.Prelude.{◌≡◌, ℕ, IfOk, IfErr, IfSome};
+ghost use Rattle.std.specs.Prelude.{◌≡◌, ℕ, [], IfOk, IfErr, IfSome, OnErr};
 ghost use Rattle.scm_model.specs.declared.steps.Answer.TheVariants as answers;
 ghost use Rattle.book_rule.specs.Seats.{Waits};
 ghost use Rattle.scm_book.specs.Holds.{Opens};
 ghost use Rattle.scm_book.specs.Joins.{JoinCause, JoinEndsAt, JoinEndsBy, JoinsBy, TakesIn};
-ghost use Rattle.scm_book.specs.Joins.{WatchesBy, accompanied, fresh};
+ghost use Rattle.scm_book.specs.Joins.{DidBeside, DidStepBeside, LearntBy, WatchesBy, join_told};
+ghost use Rattle.scm_book.specs.Joins.{accompanied, fresh};
 ghost use Rattle.scm_book.specs.Passes.{IsOf};
-ghost use Rattle.scm_book.specs.Turns.{IsSeated, KeepsAllBy, of_badge, HasTurn};
+ghost use Rattle.scm_book.specs.Turns.{IsSeated, KeepsAllBy, of_badge, HasTurn, LeftIt, MakeCause};
+ghost use Rattle.scm_book.specs.Turns.{MayMake, NamesNoOther};
 ghost use Rattle.scm_book.specs.Called.{IsReply};
 ghost use Rattle.scm_book.specs.Looks.{EndTold};
 ghost use Rattle.scm_book.specs.Starts.{AlwaysThere, DidEnd, IsEndBy, IsThere};
 
 use crate::answers::{EndLook, JoinFault};
-use crate::fault::StepFault;
+use crate::bells::ring_of;
+use crate::fault::{MakeFault, StepFault};
 use crate::held::{Held, Owed, PendingEntry};
 use crate::pass::Pass;
 use crate::turning::{Shared, reply_of};
@@ -33,6 +36,23 @@ fn caller_of(told: Answer) -> u64
     number
 }
 
+/// Why a caller doesn't join, where the step of its join isn't made.
+fn join_fault(fault: StepFault) -> JoinFault
+    ensures { result ≡ join_told fault }
+{
+    match fault {
+        StepFault::NotNow => JoinFault::TooMany,
+        StepFault::Unmade(fault) => JoinFault::Unmade(fault),
+    }
+}
+
+/// A new seat, and what the step was told that it made.
+#[derive(Drop)]
+pub(crate) struct MadeBeside<K: Keeper> {
+    pub(crate) seat: TurnSeat<Held<K>>,
+    pub(crate) told: Answer,
+}
+
 impl<K: Keeper> Shared<K> {
     /// Joins a caller on a seat, at the end of the history, and answers its number.
     fn join_at<R: Wait>(
@@ -50,8 +70,7 @@ impl<K: Keeper> Shared<K> {
         let mut joined = PendingEntry::new(self.alloc, Step::Joined { principal });
         match self.make_at(rt, moment, &mut joined, seat) {
             Ok(told) => Ok(caller_of(told)),
-            Err(StepFault::NotNow) => Err(JoinFault::TooMany),
-            Err(StepFault::Unmade(fault)) => Err(JoinFault::Unmade(fault)),
+            Err(fault) => Err(join_fault(fault)),
         }
     }
 
@@ -75,8 +94,70 @@ impl<K: Keeper> Shared<K> {
         joined
     }
 
+    /// Makes a step that may come and isn't owed on a new seat, to which `seat` hands the turn over.
+    /// If the step can't be made, there is no new seat.
+    fn add_new_beside<R: Wait>(
+        &self,
+        rt: &R,
+        moment: u64,
+        step: &mut PendingEntry,
+        mut held: Box<Held<K>>,
+        seat: &mut TurnSeat<Held<K>>,
+    ) -> Result<MadeBeside<K>, MakeFault>
+        requires turn { HasTurn K.held K.faults K.settled self.now.turn seat.old held.value }
+        requires may { MayMake self.now.turn.opening seat.old.me.0.seen [] moment step.old.step }
+        ensures ok { IfOk result (DidBeside K.held K.faults K.settled self.now.turn seat.old
+            seat.new moment step.old.step) }
+        ensures err { OnErr result (LeftIt seat.old seat.new) }
+        ensures why { IfErr result (MakeCause self.now.turn.opening seat.old.me.0.seen
+            step.old.step) }
+        ensures waits { Waits self.now.turn seat.new }
+        ensures new { IfOk result (λ made. Waits self.now.turn made.seat) }
+    {
+        let ring = ring_of(&held.manager, &step.step);
+        match held.make_pending(moment, step) {
+            Ok(told) => {
+                let mut new = self.turn.hand_over(seat);
+                self.turn.commit(rt, &mut new, held);
+                self.bells.ring(rt, ring);
+                Ok(MadeBeside { seat: new, told })
+            }
+            Err(fault) => {
+                self.turn.unlock(rt, seat, held);
+                Err(fault)
+            }
+        }
+    }
+
+    /// Makes a step that isn't owed where it may come, on a new seat, to which `seat` hands the turn
+    /// over.
+    fn add_beside<R: Wait>(
+        &self,
+        rt: &R,
+        moment: u64,
+        step: &mut PendingEntry,
+        held: Box<Held<K>>,
+        seat: &mut TurnSeat<Held<K>>,
+    ) -> Result<MadeBeside<K>, StepFault>
+        requires turn { HasTurn K.held K.faults K.settled self.now.turn seat.old held.value }
+        requires own { NamesNoOther [] step.old.step }
+        ensures did { DidStepBeside K.held K.faults K.settled self.now.turn seat.old seat.new moment
+            step.old.step result }
+        ensures waits { Waits self.now.turn seat.new }
+        ensures new { IfOk result (λ made. Waits self.now.turn made.seat) }
+    {
+        if !held.manager.may(moment, &step.step) {
+            self.turn.unlock(rt, seat, held);
+            return Err(StepFault::NotNow);
+        }
+        match self.add_new_beside(rt, moment, step, held, seat) {
+            Ok(made) => Ok(made),
+            Err(fault) => Err(StepFault::Unmade(fault)),
+        }
+    }
+
     /// Joins a caller on a new seat, which has seen as much as `by`, and lets `by` see what that
-    /// seat has then seen.
+    /// seat has then seen. If nobody can join, there is no new seat and no entry.
     pub fn join_beside<R: Wait>(
         &self,
         rt: &R,
@@ -91,18 +172,25 @@ impl<K: Keeper> Shared<K> {
         ensures keeps { KeepsAllBy self.now.turn.opening by.old by.new }
         ensures book { IfOk result (IsOf self.now.turn) }
         ensures joins { IfOk result (JoinsBy self.now.turn.opening by.old moment principal by.new) }
+        ensures learnt { OnErr result (LearntBy self.now.turn.opening by.old by.new) }
         ensures cause { IfErr result (JoinCause self.now.turn.opening (of_badge by.new) principal) }
     {
+        let mut joined = PendingEntry::new(self.alloc, Step::Joined { principal });
         let mut mine = self.sit(by);
-        let mut seat = self.turn.fork(&mut mine);
-        let joined = self.join_at(rt, moment, principal, &mut seat);
-        let witness = self.turn.fork(&mut seat);
-        self.turn.merge(&mut mine, witness);
-        *by = self.stand(mine);
-        let badge = self.stand(seat);
-        match joined {
-            Ok(caller) => Ok(Pass { badge, caller }),
-            Err(fault) => Err(fault),
+        let held = self.turn.enter(rt, &mut mine);
+        match self.add_beside(rt, moment, &mut joined, held, &mut mine) {
+            Ok(MadeBeside { mut seat, told }) => {
+                let witness = self.turn.fork(&mut seat);
+                self.turn.merge(&mut mine, witness);
+                *by = self.stand(mine);
+                let badge = self.stand(seat);
+                let caller = caller_of(told);
+                Ok(Pass { badge, caller })
+            }
+            Err(fault) => {
+                *by = self.stand(mine);
+                Err(join_fault(fault))
+            }
         }
     }
 

@@ -30,7 +30,7 @@ module _ (o : Opening) where
 
   pub far_watched : (by by' : Known) → Watches o by by' → GoesFar o by by'
   far_watched by by' watches = record {
-    same = same_but by by' by'.seen false watches.same;
+    same = watches.same;
     longer = watches.longer;
     legal = λ so. watches.legal;
   }
