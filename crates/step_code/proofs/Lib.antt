@@ -1,0 +1,10 @@
+pub mod Appends
+pub mod Words
+pub mod Lengths
+pub mod Loop
+pub mod Fields
+pub mod Requests
+pub mod Entries
+pub mod Taken
+pub mod TakenRequests
+pub mod TakenEntries
