@@ -66,3 +66,34 @@ pub fn image_opens_to(
         Err(_) => None,
     }
 }
+
+/// The bytes of parts.
+pub fn joined(alloc: Global, parts: &[&[u8]]) -> Result<Vec<u8>, AllocError> {
+    let mut bytes = Vec::new(alloc);
+    for part in parts {
+        bytes.extend_from_slice(part)?;
+    }
+    Ok(bytes)
+}
+
+/// Appends parts, and says whether all are kept.
+pub fn appends(store: &mut JournalStore<MemoryDisk>, parts: &[&[u8]]) -> bool {
+    for part in parts {
+        if store.append(part).is_err() {
+            return false;
+        }
+    }
+    true
+}
+
+/// Says whether a store has this content.
+pub fn has(store: &mut JournalStore<MemoryDisk>, content: &[u8]) -> bool {
+    match store.read_all() {
+        Ok(all) => {
+            let is_so = all.as_slice() == content;
+            drop(all);
+            is_so
+        }
+        Err(_) => false,
+    }
+}

@@ -1,23 +1,13 @@
 ghost use Rattle.std.specs.Prelude.{IfOk};
 ghost use Rattle.sec_desc.specs.Writing.{IsWritten};
 
-use crate::rows::{ALLOWED, Allowed, BAD, Bad, READ, Read};
+use crate::bytes::bytes_of;
+use crate::descriptor_rows::{ALLOWED, Allowed, BAD, Bad, READ, Read};
 use scm_text::Items;
 use sec_check::allowed;
 use sec_desc::{DescFault, read_descriptor, write_descriptor};
-use std::alloc::{AllocError, Global};
+use std::alloc::Global;
 use std::test::*;
-
-/// The bytes of groups of eight hex digits at most.
-fn bytes_of(alloc: Global, hex: &str) -> Result<Vec<u8>, AllocError> {
-    let mut bytes = Vec::new(alloc);
-    for group in hex.split(' ') {
-        let number = u32::from_str_radix(group, 16).unwrap_or(0).to_be_bytes();
-        let front = 4usize.saturating_sub(group.len() / 2);
-        bytes.extend_from_slice(number.get(front..).unwrap_or(&[]))?;
-    }
-    Ok(bytes)
-}
 
 /// The written form of some parts of what is read of the bytes.
 fn written_of(alloc: Global, bytes: &[u8], parts: u32) -> Result<Items<u8>, DescFault>

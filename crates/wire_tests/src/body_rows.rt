@@ -1,5 +1,5 @@
 //! The rows. A body is in hex, in groups of two bytes. What it holds is in words, in the order of
-//! the fields, with numbers in hex. How words are read stands in `words`.
+//! the fields, with numbers in hex. How words are read stands in `body_words`.
 use ndr_body::BodyFault;
 
 /// An opnum, the body of a request, what it asks, and how long its replies can be.

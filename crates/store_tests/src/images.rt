@@ -316,7 +316,7 @@ fn runs(alloc: Global, store: &mut JournalStore<MemoryDisk>, trials: Trials) -> 
 /// The run on a disk whose call `at` fails, if it is given. Returns how many calls the disk took,
 /// or nothing if an image opened to services that it may not.
 fn calls_of(alloc: Global, at: Option<usize>, trials: Trials) -> Result<Option<usize>, AllocError> {
-    let mut store = store_that_fails(alloc, at)?;
+    let mut store = store_that_fails(alloc, at, 3)?;
     let is_right = runs(alloc, &mut store, trials);
     let calls = store.disk().calls().len();
     drop(store);

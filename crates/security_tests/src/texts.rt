@@ -1,20 +1,10 @@
-use crate::rows::{BAD, Bad, OTHER, SAME};
+use crate::bytes::bytes_of;
+use crate::text_rows::{BAD, Bad, OTHER, SAME};
 use scm_text::{Items, OutOfMemory};
 use sddl::{SddlFault, read_sddl, write_sddl};
 use sec_desc::{read_descriptor, write_descriptor};
-use std::alloc::{AllocError, Global};
+use std::alloc::Global;
 use std::test::*;
-
-/// The bytes of groups of eight hex digits at most.
-fn bytes_of(alloc: Global, hex: &str) -> Result<Vec<u8>, AllocError> {
-    let mut bytes = Vec::new(alloc);
-    for group in hex.split(' ') {
-        let number = u32::from_str_radix(group, 16).unwrap_or(0).to_be_bytes();
-        let front = 4usize.saturating_sub(group.len() / 2);
-        bytes.extend_from_slice(number.get(front..).unwrap_or(&[]))?;
-    }
-    Ok(bytes)
-}
 
 /// The bytes of the descriptor that a text is.
 fn packed(alloc: Global, text: &str) -> Result<Items<u8>, SddlFault> {

@@ -1,15 +1,13 @@
 //! The rows. Bytes are in hex, in groups of four. They were laid out by hand after MS-DTYP 2.4.2
 //! (identities), 2.4.4 (entries), 2.4.5 (lists) and 2.4.6 (descriptors), or are what Samba 4.17
 //! packs of the text, but for the list's revision. The letters are those of MS-DTYP 2.5.1.1.
+use crate::descriptor_rows::NOTHING;
 
 /// A text, and the bytes of the same descriptor.
 pub type Same = (&'static str, &'static str);
 
 /// A text that is no descriptor, and where the first item begins that is wrong.
 pub type Bad = (&'static str, usize);
-
-/// No owner, no group, no list.
-const NOTHING: &str = "01000080 00000000 00000000 00000000 00000000";
 
 /// What `sc sdshow` prints of a service of Windows that has its first descriptor.
 const SERVICE_TEXT: &str =

@@ -1,5 +1,5 @@
-use crate::rows::{Asked, NO_REPLIES, NO_REQUESTS, OTHER_FORMS, REPLIES, REQUESTS, Told};
-use crate::words::{reply, request};
+use crate::body_rows::{Asked, NO_REPLIES, NO_REQUESTS, OTHER_FORMS, REPLIES, REQUESTS, Told};
+use crate::body_words::{reply, request};
 use ndr_body::BodyFault;
 use scm_bodies::{
     Call, call_at, read_reply, read_request, reply_bound, write_reply, write_request,

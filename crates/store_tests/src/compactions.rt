@@ -29,7 +29,7 @@ fn is_left(
 fn a_store_keeps_the_services_that_stand(rt: HostRuntime) -> Result<(), Fail> {
     let alloc = rt.alloc();
     let short = joined(alloc, SHORT)?;
-    let mut store = store_that_fails(alloc, None)?;
+    let mut store = store_that_fails(alloc, None, 0)?;
     let is_kept = appends(&mut store, LONG);
     let is_done = compact(alloc, &mut store, "store").is_ok();
     let is_short = has(&mut store, short.as_slice());
@@ -46,7 +46,7 @@ fn a_fault_leaves_the_old_journal_or_the_new_one(rt: HostRuntime) -> Result<(), 
     let long = joined(alloc, LONG)?;
     let short = joined(alloc, SHORT)?;
     for at in 0..CALLS {
-        let mut store = store_that_fails(alloc, Some(at))?;
+        let mut store = store_that_fails(alloc, Some(at), 3)?;
         let left = is_left(alloc, &mut store, long.as_slice(), short.as_slice());
         drop(store);
         assert!(rt; left != Some(false), "{at}");

@@ -59,7 +59,7 @@ fn moves(
 fn holds(alloc: Global, row: &Row) -> Result<bool, AllocError> {
     let left = joined(alloc, row.left)?;
     let mut keeper = MemoryKeeper::new(joined(alloc, row.from)?, Vec::new(alloc));
-    let mut store = store_that_fails(alloc, None)?;
+    let mut store = store_that_fails(alloc, None, 0)?;
     let is_so = moves(alloc, &mut keeper, &mut store, row, left.as_slice());
     drop(store);
     drop(keeper);

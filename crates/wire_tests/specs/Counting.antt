@@ -3,7 +3,7 @@ use Rattle.std.specs.Prelude.{◌≡◌, ◌+◌, Option, Some}
 use Rattle.scm_model.specs.declared.calls.Reply.{Reply}
 use Rattle.conn_desk.specs.declared.asked.DecodedRequest.{DecodedRequest}
 use Rattle.conn_desk.specs.Bodies.{refusal_with}
-use Rattle.desk_tests.specs.declared.counter.Counter.{Counter}
+use Rattle.wire_tests.specs.declared.counter.Counter.{Counter}
 
 -- a request is refused by the count of those before it, and is counted
 abbrev pub Counted : Counter → Counter → DecodedRequest → Option Reply → Type 0

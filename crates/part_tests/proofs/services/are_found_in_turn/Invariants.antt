@@ -1,5 +1,5 @@
 use Rattle.std.proofs.Common.{◌≡◌, []}
-use Rattle.table_tests.proofs.services.are_found_in_turn.Given as goal
+use Rattle.part_tests.proofs.services.are_found_in_turn.Given as goal
 
 -- each service that came has left
 abbrev pub invariant-loop-number : goal.invariant-loop-number

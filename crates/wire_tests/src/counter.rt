@@ -12,7 +12,7 @@ pub struct Counter {
 
 impl RequestHandler for Counter {
     ghost use Rattle.std.specs.Prelude.{◌≡◌, ◌≤◌};
-    ghost use Rattle.desk_tests.specs.Counting.{Counted};
+    ghost use Rattle.wire_tests.specs.Counting.{Counted};
 
     ghost ready = { λ d. d.asked ≤ d.room };
 
