@@ -101,7 +101,7 @@ fn opens_parts(
 }
 
 /// The service `A`, of 71 bytes.
-pub const A: &[u8] = CREATED;
+const A: &[u8] = CREATED;
 
 /// The same in form 1, of 66 bytes.
 const OLD_A: &[u8] = &[
@@ -116,7 +116,7 @@ const OLD_A: &[u8] = &[
 ];
 
 /// The same with the display name `B`.
-pub const B_SHOWN: &[u8] = &[
+const B_SHOWN: &[u8] = &[
     2, 0x42, 0, 0, 0, // a change
     1, 0, 0, 0, 0x41, 0, // name
     1, 0, 0, 0, 0x42, 0, // display name
@@ -129,7 +129,7 @@ pub const B_SHOWN: &[u8] = &[
 ];
 
 /// The service `B`, which needs `A`, of 78 bytes.
-pub const B: &[u8] = &[
+const B: &[u8] = &[
     1, 0x49, 0, 0, 0, // a creation
     1, 0, 0, 0, 0x42, 0, // name
     1, 0, 0, 0, 0x42, 0, // display name
@@ -142,7 +142,7 @@ pub const B: &[u8] = &[
 ];
 
 /// `A`, which needs `B` from then on.
-pub const A_NEEDS_B: &[u8] = &[
+const A_NEEDS_B: &[u8] = &[
     2, 0x49, 0, 0, 0, // a change
     1, 0, 0, 0, 0x41, 0, // name
     1, 0, 0, 0, 0x41, 0, // display name
@@ -155,7 +155,7 @@ pub const A_NEEDS_B: &[u8] = &[
 ];
 
 /// `a` is removed, whose name is `A` too.
-pub const NO_A: &[u8] = &[3, 6, 0, 0, 0, 1, 0, 0, 0, 0x61, 0];
+const NO_A: &[u8] = &[3, 6, 0, 0, 0, 1, 0, 0, 0, 0x61, 0];
 
 const NO_DB: &[u8] = &[3, 8, 0, 0, 0, 2, 0, 0, 0, 0x44, 0, 0x62, 0];
 

@@ -1,7 +1,7 @@
 // What a history has, a letter for each entry.
-use crate::books::MOMENT;
 use scm_model::Step;
 use scm_trail::Trail;
+use test_books::MOMENT;
 
 /// The letter of a step that such a history has.
 fn letter(step: &Step) -> u8 {

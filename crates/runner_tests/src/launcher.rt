@@ -3,10 +3,8 @@ ghost use Rattle.std.specs.Prelude.{◌≡◌, ◌≢◌, IfSome};
 ghost use Rattle.std.specs.Thread.{IsSync};
 ghost use Rattle.scm_book.specs.Passes.{HasPlan, IsOf};
 
-use crate::books::{Ask, NOTHING, Stage, TestBook, begin, decided, runner, state, tells};
 use crate::clocks::Hurried;
 use crate::events::{Event, Events};
-use crate::fates::{Fates, add_child};
 use crate::held::HeldSpawner;
 use book_calls::{Site, begin_start};
 use child_runner::BellQuit;
@@ -19,6 +17,9 @@ use std::sync::Wait;
 use std::test::Fail;
 use std::thread::{self, Threads};
 use std::time;
+use test_books::{
+    Ask, Fates, NOTHING, Stage, TestBook, add_child, begin, decided, runner, state, tells,
+};
 
 /// The manager is opened, and `A` of `/a` is created.
 const CREATED: [(Ask<'static>, u32); 2] = [

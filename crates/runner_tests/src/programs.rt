@@ -2,8 +2,6 @@ ghost use Rattle.std.specs.Prelude.{◌≢◌, ◌≤◌};
 ghost use Rattle.scm_model.specs.declared.flat.Phase.TheVariants as phases;
 ghost use Rattle.scm_book.specs.Passes.{HoldsProcess, IsOf};
 
-use crate::books::{Ask, CLOCK, NOTHING, Stage, begin, runner, tells};
-use crate::quits::AfterLooks;
 use book_calls::Site;
 use child_link::{Link, PipeFeed, PipeLink, Reported, read_line_step};
 use child_runner::{ControlsEnded, ControlsSent, LaunchEnd, Sender, launch_one, send_controls};
@@ -15,6 +13,7 @@ use std::env;
 use std::rt::Env;
 use std::sync::Wait;
 use std::test::Fail;
+use test_books::{AfterLooks, Ask, CLOCK, NOTHING, Stage, begin, runner, tells};
 
 /// A shell that reports, obeys STOP and nothing else, and reports again.
 const SHELL: &str = "/bin/sh -c \"echo STATUS 16 4 1 0 0 0 0; read word code; \

@@ -2,10 +2,8 @@
 ghost use Rattle.std.specs.Prelude.{IfSome};
 ghost use Rattle.scm_book.specs.Passes.{IsOf};
 
-use crate::books::{MOMENT, TestBook};
 use crate::connections::{Held, HeldListener};
 use crate::events::{Event, Events};
-use crate::fates::{Fates, add_child};
 use crate::held::HeldSpawner;
 use crate::histories::put_letters;
 use crate::sessions::{FILLED, FILLS, LOOKS, STARTS};
@@ -24,6 +22,7 @@ use std::sync::Wait;
 use std::test::Fail;
 use std::thread::Threads;
 use std::time;
+use test_books::{Fates, MOMENT, TestBook, add_child};
 
 /// What takes place at a server.
 #[derive(Clone, Copy, PartialEq, Eq)]

@@ -1,12 +1,10 @@
-//! A service is created, deleted and created anew over a keeper of which one call fails: a plain one,
-//! or a store whose disk fails.
-use crate::rows::GROUPS;
+//! A service is created, deleted and created anew over a keeper of which one call fails: a plain
+//! one, or a store whose disk fails.
 use crate::runs::{PIPE, Run, ends};
 use journal_disk::DiskFate;
 use record_journal::Fate;
 use std::alloc::{AllocError, Global};
 use std::sync::Wait;
-use std::test::*;
 use std::thread::Threads;
 use std::time;
 use svcctl_words::Sheet;
@@ -188,14 +186,10 @@ where
     last.saturating_add(1) == ENDS.len()
 }
 
-#[test]
-fn a_keeper_fails_at_each_call(rt: HostRuntime) -> Result<(), Fail> {
-    let alloc = rt.alloc();
-    let mut sheet = Sheet::new(alloc, GROUPS);
-    let is_plain = are_in_order(&rt, alloc, &mut sheet, Kept::Plain);
-    let is_stored = are_in_order(&rt, alloc, &mut sheet, Kept::Stored);
-    drop(sheet);
-    assert!(rt; is_plain);
-    assert!(rt; is_stored);
-    Ok(())
+/// Whether they do so over a plain keeper, and over a store.
+pub fn fail_in_order<R>(rt: &R, alloc: Global, sheet: &mut Sheet) -> bool
+where
+    R: Threads + Wait + time::Clock + Sync,
+{
+    are_in_order(rt, alloc, sheet, Kept::Plain) && are_in_order(rt, alloc, sheet, Kept::Stored)
 }

@@ -295,8 +295,6 @@ bind
 a call that there is not        | 9                             | fault #1C010002
                                 | manager - - 0                 | h1 0
 a name whose last unit is not 0 | open h1 3 0 3 x440062000100 4 | fault #6F7
-a name of 4,294,967,295 units   | open h1 #FFFFFFFF 0 #FFFFFFFF x440062000000 4 | fault #6F7
-as many words of a start        | start h1 #FFFFFFFF * #FFFFFFFF * 2 0 2 x41000000 | fault #6F7
 = 0 pipe: services, page by page
 bind
 manager

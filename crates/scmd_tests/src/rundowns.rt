@@ -1,14 +1,22 @@
 //! A caller starts T, which needs D and E, and another one deletes D meanwhile and makes it anew.
 //! Either of them goes after any step. The others then go on with theirs, and a third caller looks
 //! at what stands.
-use crate::rows::GROUPS;
-use crate::runs::{PIPE, Run, holds};
-use std::process::Abort;
+ghost use Rattle.scm_core.specs.Managed.{AreSmall};
+ghost use Rattle.scm_rules.specs.Opening.{IsOpening};
+ghost use Rattle.scm_rules.specs.Valid.{IsValid};
+ghost use Rattle.scm_replay.specs.Replay.{IsFresh};
+
+use crate::runs::{PIPE, Run, ends};
+use book_calls::new_manager;
+use outside::{MemorySink, MemorySource};
+use scm_core::Manager;
+use scm_model::Limits;
+use scm_replay::{Replayed, replay};
+use std::alloc::Global;
 use std::sync::Wait;
-use std::test::*;
 use std::thread::Threads;
 use std::time;
-use svcctl_words::Sheet;
+use svcctl_words::{Sheet, Side};
 
 /// The three callers.
 const CALLERS: &str = "administrator
@@ -191,10 +199,122 @@ fn put_run(rows: &mut String, rundown: &Rundown, place: usize) -> Option<()> {
     rows.push_str(rundown.rest).ok()
 }
 
-/// Fails unless a replay answers as its rows do.
-fn replay_holds<R>(rt: &R, sheet: &mut Sheet, rows: &str)
+/// Limits with room for all that a run does.
+fn limits() -> Limits
+    ensures { AreSmall result }
+{
+    Limits {
+        services: 8,
+        handles: 16,
+        registrations: 0,
+        callers: 4,
+        processes: 8,
+        controls: 4,
+        steps: 1024,
+        text: 4096,
+    }
+}
+
+/// Makes the steps of lines at a manager in which nothing took place. The state that they leave is
+/// valid.
+fn replay_validly(
+    alloc: Global,
+    manager: &mut Manager,
+    input: &mut MemorySource,
+    output: &mut MemorySink,
+) -> Replayed
+    requires fresh { IsFresh manager.old }
+    requires begins { IsOpening manager.old.limits manager.old.flat }
+    ensures valid { IsValid manager.new.limits manager.new.flat }
+{
+    replay(alloc, manager, input, output)
+}
+
+/// How many lines end in these bytes.
+fn lines_in(bytes: &[u8]) -> u64 {
+    let mut lines = 0u64;
+    for byte in bytes {
+        if *byte == b'\n' {
+            lines = lines.wrapping_add(1);
+        }
+    }
+    lines
+}
+
+/// Whether a manager answers lines as a text begins, with as many lines.
+fn is_answered(alloc: Global, manager: &mut Manager, lines: Vec<u8>, told: &[u8]) -> bool
+    requires fresh { IsFresh manager.old }
+    requires begins { IsOpening manager.old.limits manager.old.flat }
+{
+    let asked = lines_in(lines.as_slice());
+    let mut input = MemorySource::new(lines, Vec::new(alloc));
+    let mut output = MemorySink::new(alloc, Vec::new(alloc));
+    let how = replay_validly(alloc, manager, &mut input, &mut output);
+    let is_told = told.starts_with(output.bytes()) && lines_in(output.bytes()) == asked;
+    drop(output);
+    drop(input);
+    is_told && how == Replayed::Ended
+}
+
+/// Whether a new manager does.
+fn is_front_answered(alloc: Global, lines: &[u8], told: &[u8]) -> bool {
+    let Ok(lines) = Vec::from_slice(alloc, lines) else {
+        return false;
+    };
+    match new_manager(alloc, limits()) {
+        Ok(mut manager) => {
+            let is_answered = is_answered(alloc, &mut manager, lines, told);
+            manager.close();
+            is_answered
+        }
+        Err(_) => {
+            drop(lines);
+            false
+        }
+    }
+}
+
+/// Whether the front of some lines that ends at this place is so answered.
+fn is_answered_to(alloc: Global, asked: &[u8], place: usize, told: &[u8]) -> bool {
+    match asked.get(..place) {
+        Some(front) => is_front_answered(alloc, front, told),
+        None => false,
+    }
+}
+
+/// Whether each front of some lines that ends with one is so answered.
+fn is_each_answered(alloc: Global, asked: &[u8], told: &[u8]) -> bool {
+    for (place, byte) in asked.iter().enumerate() {
+        let end = place.saturating_add(1);
+        if *byte == b'\n' && !is_answered_to(alloc, asked, end, told) {
+            return false;
+        }
+    }
+    true
+}
+
+/// Puts one side of rows after other bytes.
+fn put_side(sheet: &mut Sheet, rows: &str, side: Side, bytes: &mut Vec<u8>) -> Option<()> {
+    sheet.put("replay", rows, side)?;
+    bytes.extend_from_slice(sheet.bytes()).ok()
+}
+
+/// Whether each front of the lines of rows is answered as they say.
+fn are_fronts_answered(alloc: Global, sheet: &mut Sheet, rows: &str) -> bool {
+    let mut asked = Vec::new(alloc);
+    let mut told = Vec::new(alloc);
+    let are_put = put_side(sheet, rows, Side::Asks, &mut asked).is_some()
+        && put_side(sheet, rows, Side::Tells, &mut told).is_some();
+    let are_answered = is_each_answered(alloc, asked.as_slice(), told.as_slice());
+    drop(told);
+    drop(asked);
+    are_put && are_answered
+}
+
+/// Whether the program's replay answers as its rows do, and each front of it leaves a valid state.
+fn is_replayed<R>(rt: &R, alloc: Global, sheet: &mut Sheet, rows: &str) -> bool
 where
-    R: Abort + Threads + Wait + time::Clock + Sync + AllocGlobal,
+    R: Threads + Wait + time::Clock + Sync,
 {
     let run = Run {
         words: "replay",
@@ -202,36 +322,48 @@ where
         told: rows,
         ..PIPE
     };
-    holds(rt, sheet, &run);
+    ends(rt, alloc, sheet, &run).is_ok() && are_fronts_answered(alloc, sheet, rows)
 }
 
-/// Fails unless a run is as it is to be in which a caller goes once so many steps are made.
-fn goes_after<R>(rt: &R, sheet: &mut Sheet, rundown: &Rundown, place: usize)
+/// Whether a run is as it is to be in which a caller goes once so many steps are made.
+fn goes_after<R>(rt: &R, alloc: Global, sheet: &mut Sheet, rundown: &Rundown, place: usize) -> bool
 where
-    R: Abort + Threads + Wait + time::Clock + Sync + AllocGlobal,
+    R: Threads + Wait + time::Clock + Sync,
 {
-    let mut rows = String::new(rt.alloc());
+    let mut rows = String::new(alloc);
     let is_put = put_run(&mut rows, rundown, place).is_some();
-    assert!(rt; is_put, "{place}");
-    replay_holds(rt, sheet, rows.as_str());
+    let is_replayed = is_replayed(rt, alloc, sheet, rows.as_str());
     drop(rows);
+    is_put && is_replayed
 }
 
-/// The same of each place of a rundown.
-fn goes_after_each<R>(rt: &R, sheet: &mut Sheet, rundown: &Rundown)
+/// The first place of a rundown at which it isn't.
+fn first_wrong_place<R>(
+    rt: &R,
+    alloc: Global,
+    sheet: &mut Sheet,
+    rundown: &Rundown,
+) -> Option<usize>
 where
-    R: Abort + Threads + Wait + time::Clock + Sync + AllocGlobal,
+    R: Threads + Wait + time::Clock + Sync,
 {
     for place in rundown.first..rundown.end {
-        goes_after(rt, sheet, rundown, place);
+        if !goes_after(rt, alloc, sheet, rundown, place) {
+            return Some(place);
+        }
     }
+    None
 }
 
-#[test]
-fn a_caller_goes_after_any_step(rt: HostRuntime) {
-    let mut sheet = Sheet::new(rt.alloc(), GROUPS);
+/// The first place of any rundown at which it isn't.
+pub fn first_wrong_rundown<R>(rt: &R, alloc: Global, sheet: &mut Sheet) -> Option<usize>
+where
+    R: Threads + Wait + time::Clock + Sync,
+{
     for rundown in RUNDOWNS {
-        goes_after_each(&rt, &mut sheet, rundown);
+        if let Some(place) = first_wrong_place(rt, alloc, sheet, rundown) {
+            return Some(place);
+        }
     }
-    drop(sheet);
+    None
 }

@@ -182,6 +182,24 @@ where
     judged
 }
 
+/// What is otherwise in the first of some runs that doesn't end as it is to.
+pub fn first_otherwise<'a, R>(
+    rt: &R,
+    alloc: Global,
+    sheet: &mut Sheet,
+    runs: &[Run<'a>],
+) -> Option<&'a str>
+where
+    R: Threads + Wait + time::Clock + Sync,
+{
+    for run in runs {
+        if let Err(what) = ends(rt, alloc, sheet, run) {
+            return Some(what);
+        }
+    }
+    None
+}
+
 /// Fails unless a run ends as it is to.
 pub fn holds<R>(rt: &R, sheet: &mut Sheet, run: &Run)
 where

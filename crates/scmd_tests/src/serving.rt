@@ -1,9 +1,6 @@
 //! Servers in memory, to which an administrator and a user come at once.
-use crate::rows::GROUPS;
-use crate::runs::{PIPE, Port, Run, holds};
+use crate::runs::{PIPE, Port, Run};
 use record_journal::Fate;
-use std::test::*;
-use svcctl_words::Sheet;
 
 /// What the server writes once it has served both.
 const SUMMARY: &str = "|| steps 8; caller 1 calls 2; caller 2 calls 2; services 0";
@@ -42,7 +39,7 @@ const SERVER: Run = Run {
     ..PIPE
 };
 
-const ROWS: &[Run] = &[
+pub const SERVERS: &[Run] = &[
     Run {
         asked: SUMMARY,
         told: SUMMARY,
@@ -93,12 +90,3 @@ const ROWS: &[Run] = &[
         ..SERVER
     },
 ];
-
-#[test]
-fn both_are_served_or_a_fault_has_its_status(rt: HostRuntime) {
-    let mut sheet = Sheet::new(rt.alloc(), GROUPS);
-    for run in ROWS {
-        holds(&rt, &mut sheet, run);
-    }
-    drop(sheet);
-}

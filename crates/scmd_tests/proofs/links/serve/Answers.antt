@@ -1,5 +1,5 @@
 use Rattle.std.proofs.Common.{◌∙◌}
-use Rattle.runner_tests.proofs.children.serve.Goals as goal
+use Rattle.scmd_tests.proofs.links.serve.Goals as goal
 
 -- a launch leaves a runner's pass nobody's
 pub serve_child-ended-requires-clause-nobody : goal.serve_child-ended-requires-clause-nobody

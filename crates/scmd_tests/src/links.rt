@@ -1,29 +1,19 @@
+// Children in memory: what they write, and links that fail.
 ghost use Rattle.std.specs.Prelude.{◌≡◌, ◌≢◌, ◌≤◌, IfSome};
 ghost use Rattle.scm_book.specs.Passes.{IsOf};
 
-use crate::books::{
-    Ask, CLOCK, NOTHING, Stage, TestBook, begin_within, exit_code, runner, status, tells,
-};
-use crate::fates::{Fates, add_child, add_source};
-use crate::launches::launch;
-use crate::plays::{Play, is_played};
 use book_calls::{Site, close};
 use child_runner::{ChildEnded, ChildServed, LaunchEnd, launch_one, serve_child};
 use outside::MemorySource;
 use process_runner::MemorySpawner;
-use scm_book::{EndedEnd, LaunchRoom, Pass, ReportEnd};
+use scm_book::{LaunchRoom, Pass};
 use scm_model::Step;
 use scm_trail::Trail;
 use std::alloc::Global;
 use std::sync::Wait;
-use std::test::Fail;
-
-/// A service that is started.
-const BEGIN: [(Ask<'static>, u32); 3] = [
-    (Ask::OpensManager, 0),
-    (Ask::Creates("A", "/a", NOTHING), 0),
-    (Ask::Starts(2), 0),
-];
+use test_books::{
+    BEGIN, CLOCK, Fates, Stage, TestBook, add_source, begin_within, exit_code, runner, tells,
+};
 
 /// What a child writes, which of its reads and waits fail (the last of a list goes first), how it
 /// is served, what the history then tells, and the exit code of its service, where the limits have
@@ -315,54 +305,12 @@ fn is_served<R: Wait>(rt: &R, alloc: Global, row: &Row) -> bool {
     is_added && is_served
 }
 
-/// Whether a process that reports STOPPED ends while a second one runs its service, and changes
-/// nothing.
-pub fn ends_late<R: Wait>(at: &Site<'_, R>, caller: &mut Pass, spawner: &mut MemorySpawner) -> bool
-    requires { IsOf at.now.book.now caller.old × (caller.old.caller ≢ 0) }
-{
-    let mut first = runner(at.book, caller);
-    let begins = tells(at, caller, &BEGIN);
-    let Some(former) = launch(at, &mut first, spawner) else {
-        drop(first);
-        return false;
-    };
-    let stopped = at
-        .book
-        .report(at.rt, &mut first, 0, former, 0, &status(1, 0));
-    let starts = tells(at, caller, &[(Ask::Starts(2), 0)]);
-    let mut second = runner(at.book, caller);
-    let later = launch(at, &mut second, spawner);
-    let runs = tells(at, caller, &[(Ask::Runs(2), 0)]);
-    let ended = at.book.ended(at.rt, &mut first, 0, former);
-    // Only a service that runs is granted this.
-    let running = tells(at, caller, &[(Ask::Stops(2), 0)]);
-    drop(second);
-    drop(first);
-    begins
-        && former == 1
-        && stopped == ReportEnd::Taken
-        && starts
-        && later == Some(2)
-        && runs
-        && ended == EndedEnd::Stale
-        && running
-}
-
-#[test]
-fn a_child_is_told_by_its_reports_and_its_end(rt: HostRuntime) -> Result<(), Fail> {
-    let alloc = rt.alloc();
+/// The place of the first child that isn't served as its row says.
+pub fn first_wrong_child<R: Wait>(rt: &R, alloc: Global) -> Option<usize> {
     for (place, row) in ROWS.iter().enumerate() {
-        assert!(rt; is_served(&rt, alloc, row), "row {place}");
+        if !is_served(rt, alloc, row) {
+            return Some(place);
+        }
     }
-    Ok(())
-}
-
-#[test]
-fn the_end_of_a_former_process_stops_nothing(rt: HostRuntime) -> Result<(), Fail> {
-    let alloc = rt.alloc();
-    let mut fates = Vec::new(alloc);
-    let are_added = add_child(alloc, &mut fates, 7, b"") && add_child(alloc, &mut fates, 7, b"");
-    let is_played = is_played(&rt, alloc, Play::EndsLate, fates);
-    assert!(rt; are_added && is_played);
-    Ok(())
+    None
 }

@@ -1,9 +1,7 @@
-ghost use Rattle.std.specs.Prelude.{◌≢◌, ◌≤◌, IfSome};
-ghost use Rattle.scm_model.specs.declared.flat.Phase.TheVariants as phases;
-ghost use Rattle.scm_book.specs.Passes.{HoldsProcess, IsOf};
+// Starts whose launches fail.
+ghost use Rattle.std.specs.Prelude.{◌≢◌, ◌≤◌};
+ghost use Rattle.scm_book.specs.Passes.{IsOf};
 
-use crate::books::{Ask, CLOCK, NOTHING, runner, tells};
-use crate::fates::{Fates, add_child, add_fault};
 use crate::plays::{Play, is_played};
 use book_calls::Site;
 use child_runner::{LaunchEnd, launch_one};
@@ -11,55 +9,7 @@ use process_runner::{MemorySpawner, SpawnFault};
 use scm_book::{LaunchRoom, Pass};
 use std::alloc::Global;
 use std::sync::Wait;
-use std::test::Fail;
-
-/// Launches what is wanted first, lets the ends of the child go, and tells the process.
-fn launch_in<R: Wait>(
-    at: &Site<'_, R>,
-    runner: &mut Pass,
-    room: &mut LaunchRoom,
-    spawner: &mut MemorySpawner,
-) -> Option<u64>
-    requires book { IsOf at.now.book.now runner.old }
-    requires path { 2048 ≤ room.old.path.room }
-    ensures book { IsOf at.now.book.now runner.new }
-    ensures held { IfSome result (λ process. HoldsProcess at.now.book.now.opening runner.new process
-        phases.Launched) }
-{
-    match launch_one(at.rt, at.alloc, at.book, runner, room, spawner, &CLOCK) {
-        LaunchEnd::Started {
-            process,
-            link,
-            feed,
-        } => {
-            drop(link);
-            drop(feed);
-            Some(process)
-        }
-        LaunchEnd::Failed { .. } | LaunchEnd::Empty => None,
-    }
-}
-
-/// The same, with new room.
-pub fn launch<R: Wait>(
-    at: &Site<'_, R>,
-    runner: &mut Pass,
-    spawner: &mut MemorySpawner,
-) -> Option<u64>
-    requires { IsOf at.now.book.now runner.old }
-    ensures book { IsOf at.now.book.now runner.new }
-    ensures held { IfSome result (λ process. HoldsProcess at.now.book.now.opening runner.new process
-        phases.Launched) }
-{
-    match LaunchRoom::new(at.alloc) {
-        Ok(mut room) => {
-            let process = launch_in(at, runner, &mut room, spawner);
-            drop(room);
-            process
-        }
-        Err(_) => None,
-    }
-}
+use test_books::{Ask, CLOCK, Fates, NOTHING, add_child, add_fault, launch, runner, tells};
 
 /// The code with which the launch that is wanted first fails.
 fn failure_in<R: Wait>(
@@ -177,12 +127,10 @@ fn add_faults(fates: &mut Fates) -> bool {
     true
 }
 
-#[test]
-fn a_launch_fails_with_the_code_of_its_fault(rt: HostRuntime) -> Result<(), Fail> {
-    let alloc = rt.alloc();
+/// Whether each fault of a spawner has its code.
+pub fn faults_have_codes<R: Wait>(rt: &R, alloc: Global) -> bool {
     let mut fates = Vec::new(alloc);
     let are_added = add_child(alloc, &mut fates, 7, b"") && add_faults(&mut fates);
-    let is_played = is_played(&rt, alloc, Play::FailsThenStarts, fates);
-    assert!(rt; are_added && is_played);
-    Ok(())
+    let is_played = is_played(rt, alloc, Play::FailsThenStarts, fates);
+    are_added && is_played
 }

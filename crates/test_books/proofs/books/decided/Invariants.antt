@@ -1,5 +1,5 @@
 use Rattle.scm_book.specs.Passes.{HasPlan, IsOf}
-use Rattle.runner_tests.proofs.books.decided.Given as goal
+use Rattle.test_books.proofs.books.decided.Given as goal
 
 abbrev pub invariant-loop : goal.invariant-loop
 invariant-loop g l = record {

@@ -1,6 +1,6 @@
 use Rattle.std.proofs.Common.{◌≢◌}
 use Rattle.scm_book.specs.Passes.{IsOf}
-use Rattle.runner_tests.proofs.books.tells.Given as goal
+use Rattle.test_books.proofs.books.tells.Given as goal
 
 -- the pass is still its caller's
 abbrev pub invariant-loop-asked : goal.invariant-loop-asked

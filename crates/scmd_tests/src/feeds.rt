@@ -1,18 +1,16 @@
+// Controls, and feeds that fail.
 ghost use Rattle.std.specs.Prelude.{◌≡◌, ◌≢◌};
 ghost use Rattle.scm_book.specs.Passes.{IsOf};
 
-use crate::books::{Ask, CLOCK, NOTHING, runner, tells};
-use crate::fates::add_child;
-use crate::launches::launch;
 use crate::plays::{Play, is_played};
-use crate::quits::AfterLooks;
 use book_calls::Site;
 use child_runner::{BellQuit, ControlsEnded, ControlsSent, Sender, send_controls};
 use outside::MemorySink;
 use process_runner::{MemorySpawner, NoQuit, Quit};
 use scm_book::{EndedEnd, Pass};
+use std::alloc::Global;
 use std::sync::Wait;
-use std::test::Fail;
+use test_books::{AfterLooks, Ask, CLOCK, NOTHING, add_child, launch, runner, tells};
 
 /// `B`, and `A`, which needs it; `B` is started.
 const BEGIN: [(Ask<'static>, u32); 4] = [
@@ -173,7 +171,8 @@ fn each_is_fault<R: Wait>(at: &Site<'_, R>, caller: &mut Pass, runner: &mut Pass
 }
 
 /// Whether a stop that is granted is written once, and more are asked for then; and how the sending
-/// ends where it is asked to, where any call of its feed fails, and where no such process is listed.
+/// ends where it is asked to, where any call of its feed fails, and where no such process is
+/// listed.
 pub fn stops_once<R: Wait>(at: &Site<'_, R>, caller: &mut Pass, spawner: &mut MemorySpawner) -> bool
     requires { IsOf at.now.book.now caller.old × (caller.old.caller ≢ 0) }
 {
@@ -190,12 +189,11 @@ pub fn stops_once<R: Wait>(at: &Site<'_, R>, caller: &mut Pass, spawner: &mut Me
     stopped && shut && written && fault && over
 }
 
-#[test]
-fn a_granted_stop_is_written_once(rt: HostRuntime) -> Result<(), Fail> {
-    let alloc = rt.alloc();
+/// Whether a stop that is granted is written once, and each write of it that fails ends the
+/// sending.
+pub fn is_stopped_once<R: Wait>(rt: &R, alloc: Global) -> bool {
     let mut fates = Vec::new(alloc);
     let are_added = add_child(alloc, &mut fates, 7, b"") && add_child(alloc, &mut fates, 7, b"");
-    let is_played = is_played(&rt, alloc, Play::StopsOnce, fates);
-    assert!(rt; are_added && is_played);
-    Ok(())
+    let is_played = is_played(rt, alloc, Play::StopsOnce, fates);
+    are_added && is_played
 }

@@ -90,6 +90,13 @@ pub enum Ask<'a> {
 /// No service that is needed, as a body has it.
 pub const NOTHING: &[u8] = &[0, 0];
 
+/// A service that is started.
+pub const BEGIN: [(Ask<'static>, u32); 3] = [
+    (Ask::OpensManager, 0),
+    (Ask::Creates("A", "/a", NOTHING), 0),
+    (Ask::Starts(2), 0),
+];
+
 /// A text in UTF-16.
 fn text(alloc: Global, text: &str) -> Option<WText> {
     let Ok(units) = text.encode_utf16().collect::<Vec<u16>>(alloc) else {

@@ -3,22 +3,19 @@
 ghost use Rattle.std.specs.Prelude.{◌≢◌};
 ghost use Rattle.scm_book.specs.Passes.{IsOf};
 
-use crate::books::{Stage, begin};
-use crate::children::ends_late;
-use crate::controls::stops_once;
-use crate::fates::Fates;
+use crate::feeds::stops_once;
 use crate::launches::fails_then_starts;
 use book_calls::Site;
 use process_runner::MemorySpawner;
 use scm_book::Pass;
 use std::alloc::Global;
 use std::sync::Wait;
+use test_books::{Fates, Stage, begin};
 
 /// What takes place.
 #[derive(Clone, Copy)]
 pub enum Play {
     FailsThenStarts,
-    EndsLate,
     StopsOnce,
 }
 
@@ -33,7 +30,6 @@ fn takes_place<R: Wait>(
 {
     match play {
         Play::FailsThenStarts => fails_then_starts(at, caller, spawner),
-        Play::EndsLate => ends_late(at, caller, spawner),
         Play::StopsOnce => stops_once(at, caller, spawner),
     }
 }
