@@ -93,12 +93,12 @@ impl MemorySink {
         ensures fails { result.fails ≡ fails.items }
         ensures faults { result.faults ≡ 0 }
     {
-        MemorySink::behind(Vec::new(alloc), piece, fails)
+        MemorySink::with_bytes(Vec::new(alloc), piece, fails)
     }
 
     /// Holds these bytes at first, and finds room in their vector. It takes so many bytes at a time
     /// at most, and one at least.
-    pub fn behind(bytes: Vec<u8>, piece: usize, fails: Vec<bool>) -> Self
+    pub fn with_bytes(bytes: Vec<u8>, piece: usize, fails: Vec<bool>) -> Self
         ensures held { result.held ≡ bytes.items }
         ensures room { result.room ≡ vec_capacity bytes - vec_len bytes }
         ensures piece { result.piece ≡ piece }

@@ -41,7 +41,7 @@ fn give(rest: &[u8], piece: usize, into: &mut [u8]) -> usize
 pub struct MemorySource {
     bytes: Vec<u8>,
     /// How many of the bytes were read.
-    behind: usize,
+    consumed: usize,
     piece: usize,
     fails: Vec<bool>,
     faults: u64,
@@ -54,13 +54,13 @@ impl Model for MemorySource {
     ghost Value = { GivingMemory };
 
     ghost view = { λ s. record {
-      left = drop s.behind s.bytes.items;
+      left = drop s.consumed s.bytes.items;
       piece = s.piece;
       fails = s.fails.items;
       faults = s.faults;
     } };
 
-    ghost invariant = { λ s. s.behind ≤ length s.bytes.items };
+    ghost invariant = { λ s. s.consumed ≤ length s.bytes.items };
 }
 
 impl MemorySource {
@@ -83,7 +83,7 @@ impl MemorySource {
     {
         MemorySource {
             bytes,
-            behind: 0,
+            consumed: 0,
             piece,
             fails,
             faults: 0,
@@ -110,9 +110,9 @@ impl Source for MemorySource {
         if is_to_fail(&mut self.fails) {
             return Err(fail(&mut self.faults));
         }
-        let rest = &self.bytes[self.behind..];
+        let rest = &self.bytes[self.consumed..];
         let count = give(rest, self.piece.max(1), into);
-        self.behind += count;
+        self.consumed += count;
         Ok(count)
     }
 }
