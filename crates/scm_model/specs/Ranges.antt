@@ -1,9 +1,10 @@
 -- The requests whose sizes and counts are in their ranges.
 use Rattle.std.specs.Prelude.{ℕ, Bool, false, true, not, ◌||◌, ◌==◌, nat_le, List, length, Option, None, Some}
 use Rattle.scm_model.specs.declared.codes.TheConstants.{MAX_CONFIG_SIZE, MAX_ENUM_SIZE, MAX_LOCK_STATUS_SIZE}
-use Rattle.scm_model.specs.declared.codes.TheConstants.{MAX_SECURITY_SIZE, SC_MAX_ACTIONS, SC_MAX_ARGUMENTS, SC_MAX_TRIGGERS, SERVICE_CONFIG_DELAYED_AUTO_START_INFO}
-use Rattle.scm_model.specs.declared.codes.TheConstants.{SERVICE_CONFIG_DESCRIPTION, SERVICE_CONFIG_FAILURE_ACTIONS}
-use Rattle.scm_model.specs.declared.codes.TheConstants.{SERVICE_CONFIG_FAILURE_ACTIONS_FLAG, SERVICE_CONFIG_TRIGGER_INFO}
+use Rattle.scm_model.specs.declared.codes.TheConstants.{MAX_SECURITY_SIZE, SC_MAX_ACTIONS, SC_MAX_ARGUMENTS, SC_MAX_TRIGGERS}
+use Rattle.scm_model.specs.declared.codes.TheConstants.{SERVICE_CONFIG_DELAYED_AUTO_START_INFO, SERVICE_CONFIG_DESCRIPTION}
+use Rattle.scm_model.specs.declared.codes.TheConstants.{SERVICE_CONFIG_FAILURE_ACTIONS, SERVICE_CONFIG_FAILURE_ACTIONS_FLAG}
+use Rattle.scm_model.specs.declared.codes.TheConstants.{SERVICE_CONFIG_TRIGGER_INFO}
 use Rattle.scm_model.specs.declared.flat.Action.{Action}
 use Rattle.scm_model.specs.declared.calls.Info.{Info}
 use Rattle.scm_model.specs.declared.calls.Info.TheVariants as info
