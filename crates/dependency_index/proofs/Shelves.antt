@@ -15,7 +15,7 @@ use Rattle.number_lists.proofs.Same.{same_laws}
 use Rattle.number_lists.proofs.Writes.{lookup_same}
 use Rattle.row_slab.specs.Rowed.{is_above, AreRisingBy}
 use Rattle.scm_model.specs.declared.flat.NeedRow.{NeedRow}
-use Rattle.scm_model.specs.Needs.{instead, added, numbers_of, with_row}
+use Rattle.scm_model.specs.Needs.{instead, numbers_of, with_row}
 use Rattle.dependency_index.specs.Kept.{key_of, is_row, AreOf, IsNext, SameNumbers}
 use Rattle.dependency_index.specs.declared.keeping.KeptLists.{KeptLists}
 use Rattle.dependency_index.proofs.Listing as listing

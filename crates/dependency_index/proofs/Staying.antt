@@ -1,5 +1,5 @@
 -- Room for a row stays while the texts of another are forgotten.
-use Rattle.std.proofs.Common.{ℕ, ◌≡◌, ◌≤◌, ◌<◌, ◌∙◌, true, false, List, [], ◌∷◌, Option, None, Some, refl, sym, arith, inl, inr}
+use Rattle.std.proofs.Common.{ℕ, ◌≡◌, ◌≤◌, ◌∙◌, true, false, List, [], ◌∷◌, Option, None, Some, refl, sym, arith, inl, inr}
 use Rattle.std.proofs.Common.{Result, Ok, Err, true≢false}
 use Rattle.std.specs.Prelude.{IfSome, OnOk, is_err}
 use Rattle.std.proofs.lemmas.Bool.{cases_Bool}

@@ -119,6 +119,7 @@ impl HandleTable {
     }
 
     /// A caller's handle with a number.
+    #[inline(always)]
     pub fn find(&self, caller: u64, number: u64) -> Option<&HandleRow>
         ensures row { option_copied result ≡ find (is_handle caller number) self.now.rows }
         ensures rising { AreRisingBy (λ row. row.number) self.now.rows }

@@ -54,6 +54,8 @@ pub exchanged_none : (found : Option Service) → is_some found ≡ false → No
 exchanged_none None none = refl
 exchanged_none (Some row) none = absurd cc
 
+pub ruleset exchanged = (exchanged_some, exchanged_none)
+
 abbrev secured : List ℕ → Secured
 secured security = record { security = security }
 

@@ -1,6 +1,6 @@
 -- Lists under texts, as services come, go and change.
-use Rattle.std.proofs.Common.{ℕ, ◌≡◌, ◌+◌, ◌<◌, ◌≤◌, ◌∙◌, Bool, true, false, not, cond, List, [], ◌∷◌, ◌++◌, Some, refl, sym, ap, find, filter}
-use Rattle.std.proofs.Common.{map, eqb, Option, None, arith}
+use Rattle.std.proofs.Common.{ℕ, ◌≡◌, ◌+◌, ◌<◌, ◌≤◌, ◌∙◌, Bool, true, false, not, cond, List, [], ◌∷◌, ◌++◌, Some, refl, sym, ap, find}
+use Rattle.std.proofs.Common.{filter, map, eqb, Option, None, arith}
 use Rattle.std.specs.List.{AllByRecursion}
 use Rattle.scm_text.specs.Fold.{same_text}
 use Rattle.scm_model.specs.declared.flat.Config.{Config}

@@ -50,7 +50,7 @@ impl Model for RecordTable {
     ghost invariant = { IsKept };
 }
 
-#[tactic(auto, using(crate::proofs::Finding::exchanged_some, crate::proofs::Finding::exchanged_none))]
+#[tactic(auto, using(crate::proofs::Finding::exchanged))]
 /// Gives the service with a number another configuration, and answers the one that it had.
 fn exchange(rows: &mut Rows<Service>, number: u64, config: Config) -> Option<Config>
     ensures config { result ≡ config_of_number rows.old.items number }

@@ -1,6 +1,6 @@
 -- The text of an entry is read as the entry.
-use Rattle.std.proofs.Common.{◌≡◌, ℕ, zero, suc, ◌+◌, ◌*◌, ◌^◌, ◌<◌, ◌≤◌, Bool, true, false, List, [], ◌∷◌, ◌++◌, length, take, drop, refl, sym, ap, ◌∙◌, arith}
-use Rattle.std.proofs.Common.{append_assoc, length-append, None, Ok, inl, inr}
+use Rattle.std.proofs.Common.{◌≡◌, ℕ, zero, suc, ◌+◌, ◌*◌, ◌^◌, ◌<◌, ◌≤◌, Bool, true, false, List, [], ◌∷◌, ◌++◌, length, take, drop, refl}
+use Rattle.std.proofs.Common.{sym, ap, ◌∙◌, arith, append_assoc, length-append, None, Ok, inl, inr}
 use Rattle.std.specs.Prelude.{◌==◌, All, bytes_eq, codes, nat_lt, not}
 use Rattle.std.specs.Fmt.{digits}
 use Rattle.std.specs.List.{AllByRecursion, flat_map, list_all}
@@ -12,7 +12,8 @@ use Rattle.scm_text.specs.Numbers.{has_bits}
 use Rattle.sddl.specs.declared.reading.Head.{Head}
 use Rattle.sddl.specs.declared.tables.Letters.{Letters}
 use Rattle.sddl.specs.Laws.{HasLetters}
-use Rattle.sddl.specs.Reading.{ace_at, ace_within, aces_from, begins, bits_at, bits_from, front_bit, has_byte, head_at, kind_at, list_at, rights_at}
+use Rattle.sddl.specs.Reading.{ace_at, ace_within, aces_from, begins, bits_at, bits_from, front_bit, has_byte, head_at, kind_at, list_at}
+use Rattle.sddl.specs.Reading.{rights_at}
 use Rattle.sddl.specs.Tables.{access_rights, ace_flags, all_rights}
 use Rattle.sddl.specs.Writing.{ace_text, head_text, kind_text, letters_text, rights_text, sid_text}
 use Rattle.sddl.proofs.Bits.{flags_back, rights_back}
@@ -158,7 +159,8 @@ ace_there text place ace rest short value letters e =
     )
     (ap (λ m. Ok (ace, m)) (omega (arith, length-append (head ++ sid) (codes ")"), length-append head sid)))
 
-begins_ace : (text : List ℕ) (place : ℕ) (ace : Ace) (rest : List ℕ) → drop place text ≡ ace_text ace ++ rest → has_byte 40 text place ≡ true
+begins_ace : (text : List ℕ) (place : ℕ) (ace : Ace) (rest : List ℕ)
+    → drop place text ≡ ace_text ace ++ rest → has_byte 40 text place ≡ true
 unfolding ace_text head_text
 begins_ace text place ace rest e = rw e refl
 

@@ -1,6 +1,6 @@
 -- Bits and their letters.
-use Rattle.std.proofs.Common.{◌≡◌, ℕ, ◌+◌, ◌*◌, ◌^◌, ◌<◌, Bool, true, false, List, [], ◌∷◌, ◌++◌, length, drop, cond, refl, sym, ap, ◌∙◌, arith, inl, inr}
-use Rattle.std.proofs.Common.{Option, Some, None}
+use Rattle.std.proofs.Common.{◌≡◌, ℕ, ◌+◌, ◌*◌, ◌^◌, ◌<◌, Bool, true, false, List, [], ◌∷◌, ◌++◌, length, drop, cond, refl, sym, ap, ◌∙◌}
+use Rattle.std.proofs.Common.{arith, inl, inr, Option, Some, None}
 use Rattle.std.specs.Prelude.{◌==◌, bit_and, bit_or, bytes_eq, is_some, nat_lt, unwrap_or}
 use Rattle.std.specs.Int.{bit_at}
 use Rattle.std.specs.List.{AllByRecursion, list_all}
@@ -35,8 +35,10 @@ one_or_none n k h =
     let l = bit_at-lt n k in
     elim (cases_Bool (bit_at n k == 0)) [
       | inl is ↦ p ∙ ap (λ x. x * 2 ^ k) (eqb-true (bit_at n k) 0 is) ∙ omega arith
-      | inr is ↦ absurd (eqb-false (bit_and n (2 ^ k)) (2 ^ k) h
-          (p ∙ ap (λ x. x * 2 ^ k) (let apart = eqb-false (bit_at n k) 0 is in let one : bit_at n k ≡ 1 = omega (arith, l, apart) in one) ∙ omega arith))
+      | inr is ↦
+          let apart = eqb-false (bit_at n k) 0 is in
+          let one : bit_at n k ≡ 1 = omega (arith, l, apart) in
+          absurd (eqb-false (bit_and n (2 ^ k)) (2 ^ k) h (p ∙ ap (λ x. x * 2 ^ k) one ∙ omega arith))
     ]
 
 with_bit : (g bits b r : ℕ) → has_bits bits b ≡ true → bit_or (bit_or g b) (bit_and bits r) ≡ bit_or g (bit_and bits (bit_or b r))
@@ -84,7 +86,8 @@ all_of all mask has =
 -- ## Letters
 
 -- where no letters begin, nothing is read
-pub ended : (table : List Letters) (got place : ℕ) (rest : List ℕ) → front_bit table rest ≡ None → bits_from table got place rest ≡ (got, place)
+pub ended : (table : List Letters) (got place : ℕ) (rest : List ℕ) → front_bit table rest ≡ None
+    → bits_from table got place rest ≡ (got, place)
 unfolding bits_from
 ended table got place [] none = refl
 ended table got place (a ∷ []) none = refl
@@ -101,7 +104,8 @@ pub letters_back : (table some : List Letters) → AllByRecursion (IsOf table) s
     → bits_from table got place (letters_text some bits ++ rest)
     ≡ (bit_or got (bit_and bits (bits_of some)), place + length (letters_text some bits))
 unfolding letters_text bits_of
-letters_back table [] are bits got place rest none = ended table got place rest none ∙ ap (λ n. (n, place)) (none_more got bits) ∙ ap (λ n. (bit_or got (bit_and bits 0), n)) (omega arith)
+letters_back table [] are bits got place rest none =
+    ended table got place rest none ∙ ap (λ n. (n, place)) (none_more got bits) ∙ ap (λ n. (bit_or got (bit_and bits 0), n)) (omega arith)
 letters_back table (it ∷ some) are bits got place rest none =
     let is = are.0 in
     let more = letters_text some bits in

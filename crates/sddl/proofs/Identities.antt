@@ -1,6 +1,6 @@
 -- The text of an identity is read as the identity.
-use Rattle.std.proofs.Common.{◌≡◌, ℕ, zero, suc, ◌+◌, ◌/◌, ◌%◌, ◌^◌, ◌<◌, ◌≤◌, Bool, true, false, List, [], ◌∷◌, ◌++◌, length, take, drop, get_or}
-use Rattle.std.proofs.Common.{refl, sym, ap, ◌∙◌, arith, append_assoc, length-append, Option, Some, None, Ok, inl, inr}
+use Rattle.std.proofs.Common.{◌≡◌, ℕ, zero, suc, ◌+◌, ◌/◌, ◌%◌, ◌^◌, ◌<◌, ◌≤◌, Bool, true, false, List, [], ◌∷◌, ◌++◌, length, take, drop}
+use Rattle.std.proofs.Common.{get_or, refl, sym, ap, ◌∙◌, arith, append_assoc, length-append, Option, Some, None, Ok, inl, inr}
 use Rattle.std.specs.Prelude.{◌==◌, ◌&&◌, not, nat_lt, bytes_eq, codes, decimal, find}
 use Rattle.std.specs.Char.{digit_value}
 use Rattle.std.specs.Fmt.{digit_glyph}
@@ -69,7 +69,8 @@ parts_there [] (suc n) text place rest le all h e = rw (no_hyphen text place res
 parts_there (part ∷ parts) zero text place rest le all h e = absurd (omega (arith, le))
 parts_there (part ∷ parts) (suc n) text place rest le all h e =
     let more = flat_map part_text parts ++ rest in
-    let here : drop place text ≡ 45 ∷ (decimal part ++ more) = e ∙ ap (λ l. 45 ∷ l) (append_assoc (decimal part) (flat_map part_text parts) rest) in
+    let grouped = append_assoc (decimal part) (flat_map part_text parts) rest in
+    let here : drop place text ≡ 45 ∷ (decimal part ++ more) = e ∙ ap (λ l. 45 ∷ l) grouped in
     let after : drop (place + 1) text ≡ decimal part ++ more = next text place (45 ∷ []) (decimal part ++ more) here in
     let stop = stops_there more (parts_end_number parts rest h) in
     let number = number_there text (place + 1) part more all.0 stop after in

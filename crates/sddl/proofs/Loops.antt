@@ -1,6 +1,6 @@
 -- Reading on after what was read, as loops do.
-use Rattle.std.proofs.Common.{◌≡◌, ℕ, zero, suc, ◌-◌, ◌+◌, ◌≤◌, ◌<◌, Bool, true, false, List, [], ◌∷◌, ◌++◌, length, take, drop, get_or, ◌^◌, Result, Ok, Err, refl, sym, ap, cond, inl, inr}
-use Rattle.std.proofs.Common.{◌∙◌, append_assoc, add-one, arith}
+use Rattle.std.proofs.Common.{◌≡◌, ℕ, zero, suc, ◌-◌, ◌+◌, ◌≤◌, ◌<◌, Bool, true, false, List, [], ◌∷◌, ◌++◌, length, take, drop, get_or}
+use Rattle.std.proofs.Common.{◌^◌, Result, Ok, Err, refl, sym, ap, cond, inl, inr, ◌∙◌, append_assoc, add-one, arith}
 use Rattle.std.specs.Char.{digit_value}
 use Rattle.std.specs.Prelude.{◌&&◌}
 use Rattle.std.specs.List.{list_all, take_while}
@@ -15,7 +15,8 @@ use Rattle.std.proofs.lemmas.Str.Parse.{digits_value-take-le}
 use Rattle.std.proofs.lemmas.List.{append-nil}
 use Rattle.sddl.specs.declared.fault.SddlFault.{SddlFault}
 use Rattle.sddl.specs.declared.fault.SddlFault.TheVariants.{Bad, OutOfMemory}
-use Rattle.sddl.specs.Reading.{FailsAt, ace_within, aces_from, after_byte, after_bytes, digits_at, has_byte, is_digit, number_at, onto, parts_from}
+use Rattle.sddl.specs.Reading.{FailsAt, ace_within, aces_from, after_byte, after_bytes, digits_at, has_byte, is_digit, number_at, onto}
+use Rattle.sddl.specs.Reading.{parts_from}
 use Rattle.sec_desc.specs.declared.value.Ace.{Ace}
 use Rattle.sec_desc.specs.Reading.{◌>>=◌}
 use Rattle.sec_desc.specs.Writing.{size_of_ace}

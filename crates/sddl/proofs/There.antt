@@ -23,7 +23,8 @@ next text place word rest h = sym (drop-drop (length word) place text) ∙ ap (d
 pub byte_there : (text : List ℕ) (place byte : ℕ) (rest : List ℕ) → drop place text ≡ byte ∷ rest → has_byte byte text place ≡ true
 byte_there text place byte rest h = rw h ((bytes_eq-Decides (byte ∷ []) (byte ∷ [])).1 refl)
 
-pub after_there : (text : List ℕ) (place byte : ℕ) (rest : List ℕ) → drop place text ≡ byte ∷ rest → after_byte byte text place ≡ Ok (place + 1)
+pub after_there : (text : List ℕ) (place byte : ℕ) (rest : List ℕ) → drop place text ≡ byte ∷ rest
+    → after_byte byte text place ≡ Ok (place + 1)
 after_there text place byte rest h = rw (byte_there text place byte rest h) refl
 
 pub word_there : (word text : List ℕ) (place : ℕ) (rest : List ℕ) → drop place text ≡ word ++ rest
@@ -83,8 +84,8 @@ short_hex : (n : ℕ) → n < 2 ^ 32 → length (digits 16 false n) ≤ 8
 unfolding digits
 short_hex n small = let more = length_hex 64 7 n [] (omega (arith, small)) in omega (arith, more)
 
-pub hex_there : (text : List ℕ) (place n : ℕ) (rest : List ℕ) → n < 2 ^ 32 → stops 16 rest ≡ true → drop place text ≡ digits 16 false n ++ rest
-    → hex_at text place ≡ Ok (n, place + length (digits 16 false n))
+pub hex_there : (text : List ℕ) (place n : ℕ) (rest : List ℕ) → n < 2 ^ 32 → stops 16 rest ≡ true
+    → drop place text ≡ digits 16 false n ++ rest → hex_at text place ≡ Ok (n, place + length (digits 16 false n))
 unfolding hex_at hex_number
 hex_there text place n rest small h e =
     let is = digits_is_IsNumeral 16 false (omega arith) (omega arith) n (omega arith) in

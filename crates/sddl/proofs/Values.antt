@@ -1,6 +1,6 @@
 -- What is read is a value of the types, and its list's size fits.
-use Rattle.std.proofs.Common.{◌≡◌, ℕ, zero, suc, ◌+◌, ◌≤◌, ◌<◌, ◌^◌, Bool, true, List, [], ◌∷◌, length, take, drop, Option, Some, None, Result, Ok, Err, refl, sym, ap}
-use Rattle.std.proofs.Common.{arith, inl, inr}
+use Rattle.std.proofs.Common.{◌≡◌, ℕ, zero, suc, ◌+◌, ◌≤◌, ◌<◌, ◌^◌, Bool, true, List, [], ◌∷◌, length, take, drop, Option, Some, None}
+use Rattle.std.proofs.Common.{Result, Ok, Err, refl, sym, ap, arith, inl, inr}
 use Rattle.std.specs.Prelude.{All, IfOk, IfSome, codes, find, nat_le, nat_lt, option_and_then, ◌&&◌}
 use Rattle.std.specs.List.{AllByRecursion, list_all}
 use Rattle.std.specs.Str.Parse.{digits_value}
@@ -16,9 +16,9 @@ use Rattle.sec_desc.specs.Writing.{IsAceValue, IsShort, IsSidValue, IsValue, IsW
 use Rattle.sddl.specs.declared.fault.SddlFault.{SddlFault}
 use Rattle.sddl.specs.declared.reading.Head.{Head}
 use Rattle.sddl.specs.declared.tables.KnownSid.{KnownSid}
-use Rattle.sddl.specs.Reading.{ReadsAs, ace_at, ace_within, aces_from, after_byte, after_bytes, at_end, authority_at, begins, bits_at, digits_at, fits, has_byte}
-use Rattle.sddl.specs.Reading.{head_at, hex_at, hex_number, is_digit, kind_at, known_at, list_at, long_at, number_at, pair_at, part_at, parts_from, rights_at, sddl_of, sid_at}
-use Rattle.sddl.specs.Reading.{six_bytes_at, within}
+use Rattle.sddl.specs.Reading.{ReadsAs, ace_at, ace_within, aces_from, after_byte, after_bytes, at_end, authority_at, begins, bits_at}
+use Rattle.sddl.specs.Reading.{digits_at, fits, has_byte, head_at, hex_at, hex_number, is_digit, kind_at, known_at, list_at, long_at}
+use Rattle.sddl.specs.Reading.{number_at, pair_at, part_at, parts_from, rights_at, sddl_of, sid_at, six_bytes_at, within}
 use Rattle.sddl.specs.Tables.{ace_flags, has_letters, known_by_letters, known_sids, parts_after}
 use Rattle.sddl.proofs.Bits.{flags_small, right_letters_small}
 use Rattle.sddl.proofs.Fitting.{bind_ok, ok_same, short_known, short_long}

@@ -224,7 +224,8 @@ IsItemRead old new (Err fault) read = FailsAt fault read
 
 -- the same of an entry that others before it leave room for
 abbrev pub IsAceRead : ℕ → List Ace → List Ace → Result (ℕ × ℕ) SddlFault → Result (Ace × ℕ) ℕ → Type 0
-IsAceRead size old new (Ok (grown, end)) read = (ace : Ace) × (read ≡ Ok (ace, end)) × (new ≡ old ++ ace ∷ []) × (grown ≡ size + size_of_ace ace)
+IsAceRead size old new (Ok (grown, end)) read = (ace : Ace) × (read ≡ Ok (ace, end)) × (new ≡ old ++ ace ∷ [])
+    × (grown ≡ size + size_of_ace ace)
 IsAceRead size old new (Err fault) read = FailsAt fault read
 
 abbrev pub nothing : Descriptor

@@ -221,7 +221,8 @@ fn append_aces(
     place: usize,
 ) -> Result<usize, SddlFault>
     requires { place ≤ length text.now }
-    ensures read { ReadsAs (λ end. (aces.new, end)) result (onto aces.old (list_at text.now place)) }
+    ensures read { ReadsAs (λ end. (aces.new, end)) result
+        (onto aces.old (list_at text.now place)) }
     ensures within { IfOk result (λ end. end ≤ length text.now) }
 {
     let mut size = 8;

@@ -4,7 +4,7 @@ use Rattle.std.specs.List.{flat_map}
 use Rattle.std.specs.Int.{w16, w32, to_le_bytes}
 use Rattle.scm_model.specs.declared.flat.ProcessStatus.{ProcessStatus}
 use Rattle.scm_model.specs.declared.flat.Service.{Service}
-use Rattle.scm_model.specs.declared.flat.Status.{Status}
+use Rattle.scm_model.specs.Statuses.{status_numbers}
 
 -- ## How much room it takes
 
@@ -31,10 +31,6 @@ numbers_bytes numbers = flat_map (to_le_bytes w32) numbers
 -- units of two bytes each, the low one first, and a zero
 unfoldable pub name_bytes : List ℕ → List ℕ
 name_bytes text = flat_map (to_le_bytes w16) text ++ to_le_bytes w16 0
-
--- as they follow each other in SERVICE_STATUS
-abbrev pub status_numbers : Status → List ℕ
-status_numbers s = s.kind ∷ s.state ∷ s.accepted ∷ s.win32 ∷ s.specific ∷ s.checkpoint ∷ s.hint ∷ []
 
 -- 36 bytes
 abbrev pub process_status_bytes : ProcessStatus → List ℕ

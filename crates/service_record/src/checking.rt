@@ -1,8 +1,8 @@
 ghost use Rattle.std.specs.Prelude.{◌≡◌, ◌==◌, ◌||◌, nat_lt, option_copied};
 ghost use Rattle.std.specs.List.{list_any};
-ghost use Rattle.service_record.specs.Checks.{check_change, check_new, has_bad_lists, has_bad_names};
-ghost use Rattle.service_record.specs.Checks.{has_bad_numbers, has_bad_texts, is_bad_account};
-ghost use Rattle.service_record.specs.Checks.{is_bad_name, is_longer, name_of_need};
+ghost use Rattle.service_record.specs.Checks.{check_change, check_new, has_bad_lists};
+ghost use Rattle.service_record.specs.Checks.{has_bad_names, has_bad_numbers, has_bad_texts};
+ghost use Rattle.service_record.specs.Checks.{is_bad_account, is_bad_name, is_longer, name_of_need};
 
 use super::lines::is_bad_line;
 use scm_model::codes::{

@@ -4,10 +4,10 @@ ghost use Rattle.std.specs.Int.{w16, to_le_bytes};
 ghost use Rattle.std.specs.List.{flat_map};
 ghost use Rattle.service_record.specs.Reading.{record_of};
 ghost use Rattle.service_record.specs.Spelling.{AreItems, IsAction, FitsBack, FitsEnd, FitsFront};
-ghost use Rattle.service_record.specs.Spelling.{FitsMiddle, IsConfig, IsNeed, IsTrigger, FitsNumber};
-ghost use Rattle.service_record.specs.Spelling.{FitsText, IsUnit, action, back, counted_items, end};
-ghost use Rattle.service_record.specs.Spelling.{flag, front, middle, need_bytes, number, encoding};
-ghost use Rattle.service_record.specs.Spelling.{text, trigger_bytes};
+ghost use Rattle.service_record.specs.Spelling.{FitsMiddle, IsConfig, IsNeed, IsTrigger};
+ghost use Rattle.service_record.specs.Spelling.{FitsNumber, FitsText, IsUnit, action, back};
+ghost use Rattle.service_record.specs.Spelling.{counted_items, end, flag, front, middle};
+ghost use Rattle.service_record.specs.Spelling.{need_bytes, number, encoding, text, trigger_bytes};
 
 use scm_model::{Action, Config, Need, Trigger};
 use scm_text::{Items, OutOfMemory, WText};

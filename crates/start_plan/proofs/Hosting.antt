@@ -42,7 +42,7 @@ any_found p q (y ∷ ys) x found holds =
 
 -- ## Another service of a process
 
-last_of : (a b c d e : Bool) → (a && b && (c && d && e)) ≡ true → e ≡ true
+pub last_of : (a b c d e : Bool) → (a && b && (c && d && e)) ≡ true → e ≡ true
 last_of true true true true e h = h
 last_of true true true false e h = absurd cc
 last_of true true false d e h = absurd cc

@@ -23,6 +23,7 @@ use Rattle.start_plan.specs.declared.field.Entering.TheVariants as entering
 use Rattle.start_plan.specs.declared.settling.Move.TheVariants as moves
 use Rattle.start_plan.proofs.Keeps.{Keeps, IsEntry, all_filter, all_succeed, is_entry, keeps_state, was_stopped}
 use Rattle.start_plan.proofs.Rows.{same_number, started_or}
+use Rattle.start_plan.proofs.Slots.{awaited_decided, plans_succeeded}
 use Rattle.scm_text.specs.Numbers.{has}
 
 -- ## States after an entering
@@ -181,6 +182,8 @@ from_still l f (plan ∷ plans) rests = rw (plan_still l f plan rests.0, from_st
 pub none_succeeded : (plans : List Plan) → map (succeeded []) plans ≡ plans
 none_succeeded [] = refl
 none_succeeded (plan ∷ plans) = ap (λ others. plan ∷ others) (none_succeeded plans)
+
+pub ruleset decided_slots = (plans_succeeded, awaited_decided, none_succeeded)
 
 pub all_still : (l : Limits) (f : Flat) (plans : List Plan) → AllByRecursion (Rests l f) plans
     → settle_all l f plans ≡ record { flat = f; plans = plans; hosted = [] }

@@ -9,7 +9,8 @@ overflow_mul-number c =
     let ds = c.args.digits.now in
     let i = c.loop-digit.digit-index in
     let so_far : c.loop-digit.number ≡ digits_value 16 (take i ds) = c.loop-digit.invariant in
-    record { fits = omega (arith, hex_small ds (i + 1) c.requires c.if-digits-gt8.false, digits_value_more 16 ds i c.loop-digit-test.true, so_far) }
+    let more = digits_value_more 16 ds i c.loop-digit-test.true in
+    record { fits = omega (arith, hex_small ds (i + 1) c.requires c.if-digits-gt8.false, more, so_far) }
 
 pub overflow_add-number : goal.overflow_add-number
 overflow_add-number c =

@@ -18,5 +18,5 @@ loop-byte-preserved c = record {
 
 pub returns-clause-read : goal.returns-clause-read
 returns-clause-read c =
-    bytes_end c.args.bytes.now c.args.text.now c.loop-byte.byte-index c.loop-byte.at (after_bytes c.args.bytes.now c.args.text.now c.args.place)
-    c.loop-byte-test.false c.loop-byte.invariant.read
+    bytes_end c.args.bytes.now c.args.text.now c.loop-byte.byte-index c.loop-byte.at
+    (after_bytes c.args.bytes.now c.args.text.now c.args.place) c.loop-byte-test.false c.loop-byte.invariant.read

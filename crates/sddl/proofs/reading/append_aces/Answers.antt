@@ -6,7 +6,8 @@ use Rattle.sddl.proofs.reading.append_aces.Goals as goal
 
 pub returns-then-not-has_byte-clause-read : goal.returns-then-not-has_byte-clause-read
 returns-then-not-has_byte-clause-read c =
-    aces_end c.loop.aces c.args.text.now (4096 - c.loop.counter) c.loop.size c.loop.at (onto c.args.aces.now (list_at c.args.text.now c.args.place))
+    aces_end c.loop.aces c.args.text.now (4096 - c.loop.counter) c.loop.size c.loop.at
+    (onto c.args.aces.now (list_at c.args.text.now c.args.place))
     (sym c.has_byte.ensures.value ∙ c.if-not-has_byte.true) c.loop.invariant.read
 
 pub returns-in_err-grown-clause-read : goal.returns-in_err-grown-clause-read

@@ -5,7 +5,8 @@ use Rattle.sddl.proofs.sids.append_parts.Goals as goal
 
 pub returns-then-not-has_byte-clause-read : goal.returns-then-not-has_byte-clause-read
 returns-then-not-has_byte-clause-read c =
-    parts_end c.loop.parts c.args.text.now (15 - c.loop.counter) c.loop.at (onto c.args.parts.now (parts_from 15 c.args.text.now c.args.place))
+    parts_end c.loop.parts c.args.text.now (15 - c.loop.counter) c.loop.at
+    (onto c.args.parts.now (parts_from 15 c.args.text.now c.args.place))
     (sym c.has_byte.ensures.value ∙ c.if-not-has_byte.true) c.loop.invariant.read
 
 pub loop-preserved : goal.loop-preserved
@@ -20,5 +21,6 @@ loop-preserved c =
 
 pub returns-else-has_byte-clause-read : goal.returns-else-has_byte-clause-read
 returns-else-has_byte-clause-read c =
-    parts_end c.loop.parts c.args.text.now (15 - c.loop.counter) c.loop.at (onto c.args.parts.now (parts_from 15 c.args.text.now c.args.place))
+    parts_end c.loop.parts c.args.text.now (15 - c.loop.counter) c.loop.at
+    (onto c.args.parts.now (parts_from 15 c.args.text.now c.args.place))
     (sym c.has_byte-2.ensures.value ∙ c.if-has_byte.false) c.loop.invariant.read

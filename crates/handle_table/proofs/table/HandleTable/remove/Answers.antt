@@ -34,7 +34,8 @@ invariant_of-self-2 c =
     let rising = c.len-len.ensures.rising in
     rw c.remove.ensures.items (record {
       services = λ (service : ℕ).
-          c.lower_kind.ensures.counts service ∙ ap (λ m. cond (is_of_service service gone.kind) (m - 1) m) (c.self.invariant.services service)
+          c.lower_kind.ensures.counts service
+          ∙ ap (λ m. cond (is_of_service service gone.kind) (m - 1) m) (c.self.invariant.services service)
           ∙ sym (lowered (is_row_of service) rows gone c.args.number rising found);
       callers = λ (caller : ℕ).
           c.lower.ensures.counts caller ∙ ap (λ m. cond (eqb gone.caller caller) (m - 1) m) (c.self.invariant.callers caller)

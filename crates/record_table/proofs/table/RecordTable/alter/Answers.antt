@@ -7,7 +7,8 @@ use Rattle.record_table.proofs.Rising.{altered_number, rising_map}
 use Rattle.record_table.proofs.table.RecordTable.alter.Goals as goal
 
 pub move_under-requires-clause-there : goal.move_under-requires-clause-there
-move_under-requires-clause-there g c = processes.its_pair c.self.inside.processes.items c.self.inside.rows.items c.args.number c.process_of-before.result
+move_under-requires-clause-there g c =
+    processes.its_pair c.self.inside.processes.items c.self.inside.rows.items c.args.number c.process_of-before.result
     c.process_of-after.result (g.C.Change.changed c.args.change.now) c.self.invariant.processes c.process_of-before.ensures
     (rw (← c.alter-is_found.ensures.items) c.process_of-after.ensures)
 
