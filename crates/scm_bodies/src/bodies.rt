@@ -35,6 +35,7 @@ pub enum Call {
 }
 
 /// The call of an opnum, if it is served.
+#[inline(always)]
 pub fn call_at(opnum: u16) -> Option<Call>
     ensures { result ≡ call_at opnum }
 {
@@ -91,14 +92,15 @@ fn shape_of(call: Call) -> &'static [Item]
     }
 }
 
-fn asked_by(alloc: Global, call: Call, values: &mut Values) -> Request
-    ensures { result ≡ request_from call values.old }
+fn asked_by(alloc: Global, call: Call, values: &mut Values) -> Result<Request, OutOfMemory>
+    ensures value { IfOk result (λ request. request ≡ request_from call values.old) }
+    ensures memory { ArePlain (shape_of call) → IsOk result }
 {
     match call {
-        Call::Plain(call) => scm_calls::request_of(alloc, call, values),
+        Call::Plain(call) => Ok(scm_calls::request_of(alloc, call, values)),
         Call::Config(call) => scm_calls_cfg::request_of(alloc, call, values),
-        Call::Enum(call) => scm_calls_enum::request_of(call, values),
-        Call::Security(call) => scm_calls_sec::request_of(alloc, call, values),
+        Call::Enum(call) => Ok(scm_calls_enum::request_of(call, values)),
+        Call::Security(call) => Ok(scm_calls_sec::request_of(alloc, call, values)),
     }
 }
 
@@ -136,7 +138,7 @@ fn read_by_values(
 {
     values.clear();
     read_body_into(alloc, shape_of(call), body, values)?;
-    Ok(asked_by(alloc, call, values))
+    Ok(asked_by(alloc, call, values)?)
 }
 
 /// The result of `read_request`, with values that serve body after body: none are made or dropped
@@ -258,6 +260,7 @@ pub fn read_reply(alloc: Global, call: Call, body: &[u8]) -> Result<Reply, BodyF
 
 /// Writes the body of a reply after what the buffer holds. If memory runs out, the buffer is given
 /// back as it was.
+#[inline(always)]
 pub fn write_reply(reply: &Reply, out: Buffer<u8>) -> Result<Buffer<u8>, (OutOfMemory, Buffer<u8>)>
     ensures ok { IfOk result (λ written. written.items ≡ out.items ++ reply_bytes reply.now) }
     ensures err { IfErr result (λ failed. failed.1.items ≡ out.items) }
@@ -289,6 +292,7 @@ fn bound_of(request: &Request) -> u32
 }
 
 /// The greatest length of the body of a reply that answers a request.
+#[inline(always)]
 pub fn reply_bound(request: &Request) -> u32
     // What is read is in its ranges. Beyond them no number of 32 bits may be great enough.
     requires { IsTrue (in_range request.now) }

@@ -243,19 +243,7 @@ fn put_status(
 ) -> Result<Buffer<u8>, (OutOfMemory, Buffer<u8>)>
     ensures { IsWritten (value.Handle handle ∷ status_values status.now) out result }
 {
-    write_handle(
-        handle,
-        &[
-            status.kind,
-            status.state,
-            status.accepted,
-            status.win32,
-            status.specific,
-            status.checkpoint,
-            status.hint,
-        ],
-        out,
-    )
+    write_handle(handle, &status.numbers(), out)
 }
 
 /// Writes a handle, a name and a number.

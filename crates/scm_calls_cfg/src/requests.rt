@@ -1,12 +1,13 @@
-ghost use Rattle.std.specs.Prelude.{◌≡◌, IsTrue};
+ghost use Rattle.std.specs.Prelude.{◌≡◌, IfOk, IsOk, IsTrue};
 ghost use Rattle.scm_shapes.specs.HandleBodies.{handle_body_values, is_handle_body};
+ghost use Rattle.scm_shapes.specs.Plain.{ArePlain};
 ghost use Rattle.scm_shapes.specs.Written.{IsWritten};
 ghost use Rattle.scm_calls_cfg.specs.Requests.{change_from, change_values, config_from};
 ghost use Rattle.scm_calls_cfg.specs.Requests.{config_shape, config_values, new_from, new_values};
 
 use crate::calls::Call;
 use scm_model::codes::MAX_CONFIG_SIZE;
-use scm_model::{ChangeService, NewService, Request};
+use scm_model::{Apart, ChangeService, NewService, Request};
 use scm_shapes::{HandleBody, Item, Piece, Values, write_handle, write_pieces};
 use scm_text::{Buffer, OutOfMemory};
 use std::alloc::Global;
@@ -123,20 +124,21 @@ pub fn request_of_handle_body(call: Call, body: HandleBody) -> Request
 }
 
 /// What is asked by the values of a body.
-pub fn request_of(alloc: Global, call: Call, values: &mut Values) -> Request
-    ensures { result ≡ config_from call values.old }
+pub fn request_of(alloc: Global, call: Call, values: &mut Values) -> Result<Request, OutOfMemory>
+    ensures value { IfOk result (λ request. request ≡ config_from call values.old) }
+    // No memory is taken for a handle and numbers.
+    ensures memory { ArePlain (config_shape call) → IsOk result }
 {
     match call {
-        Call::Change => Request::Change(change_of(values)),
-        Call::Create => Request::Create(new_of(alloc, values)),
-        Call::Change2 => Request::Change2 {
+        Call::Change => Ok(Request::Change(Apart::new(alloc, change_of(values))?)),
+        Call::Create => Ok(Request::Create(Apart::new(alloc, new_of(alloc, values))?)),
+        Call::Change2 => Ok(Request::Change2 {
             handle: values.handle(),
             info: values.info(),
-        },
-        Call::QueryConfig | Call::QueryConfig2 => request_of_handle_body(
-            call,
-            values.handle_body(),
-        ),
+        }),
+        Call::QueryConfig | Call::QueryConfig2 => {
+            Ok(request_of_handle_body(call, values.handle_body()))
+        }
     }
 }
 

@@ -40,9 +40,9 @@ listed_found argc body place pointer x fits points stands e =
     record {
       to_list = pointer.0;
       points = points;
-      behind_to_list = pointer.1;
+      after_to_list = pointer.1;
       to_list_stands = stands;
-      behind_count = a.0.1;
+      after_count = a.0.1;
       count_stands = subst (λ (n : ℕ). Stands IsNumber body pointer.1 n a.0.1) (eqb-true a.0.0 argc g.0)
           (number_spelled body (aligned pointer.1) (aligned pointer.1) a.0 fits a.1);
       words_stand = (record_exactly argc (λ pointers. Ok (pointing pointers)) words_of body fits a.0.1 x.0 x.1).0 g.1;
@@ -74,7 +74,7 @@ words_found body place x fits e =
     let w = within_found 1024 body place a.0 fits a.1 in
     record {
       argc = a.0.0;
-      behind_argc = a.0.1;
+      after_argc = a.0.1;
       argc_stands = w.stands;
       in_range = w.in_range;
       argv_stands = argv_by a.0.0 body a.0.1 b.0 (eqb b.0.0 0) x fits (number_spelled body (aligned a.0.1) (aligned a.0.1) b.0 fits b.1)
@@ -88,11 +88,11 @@ listed_read : (argc : ℕ) (body : List ℕ) (place : ℕ) (words : Option (List
 unfolding argv_at listed_at pointed_at
 listed_read argc body place words after fits h =
     rw (
-      number_read body (aligned place) (aligned place) h.to_list h.behind_to_list h.to_list_stands,
+      number_read body (aligned place) (aligned place) h.to_list h.after_to_list h.to_list_stands,
       ne_eqb h.to_list 0 (λ e. omega (arith, h.points, e)),
-      number_read body (aligned h.behind_to_list) (aligned h.behind_to_list) argc h.behind_count h.count_stands,
+      number_read body (aligned h.after_to_list) (aligned h.after_to_list) argc h.after_count h.count_stands,
       eq-eqb argc argc refl,
-      (record_exactly argc (λ pointers. Ok (pointing pointers)) words_of body fits h.behind_count words after).1 h.words_stand,
+      (record_exactly argc (λ pointers. Ok (pointing pointers)) words_of body fits h.after_count words after).1 h.words_stand,
     ) refl
 
 unlisted_read : (argc : ℕ) (body : List ℕ) (place : ℕ) (words : Option (List (List ℕ))) (after : ℕ) → IsUnlisted argc body place words after
@@ -105,10 +105,10 @@ pub words_read : (body : List ℕ) (place : ℕ) (words : Option (List (List ℕ
 unfolding words_at
 words_read body place words after fits h =
     elim h.argv_stands [
-      | inl u ↦ rw (within_read 1024 body place h.argc h.behind_argc h.argc_stands h.in_range)
-          (unlisted_read h.argc body h.behind_argc words after u)
-      | inr l ↦ rw (within_read 1024 body place h.argc h.behind_argc h.argc_stands h.in_range)
-          (listed_read h.argc body h.behind_argc words after fits l)
+      | inl u ↦ rw (within_read 1024 body place h.argc h.after_argc h.argc_stands h.in_range)
+          (unlisted_read h.argc body h.after_argc words after u)
+      | inr l ↦ rw (within_read 1024 body place h.argc h.after_argc h.argc_stands h.in_range)
+          (listed_read h.argc body h.after_argc words after fits l)
     ]
 
 -- ## Ranges
@@ -147,7 +147,7 @@ words_sent bytes place words after h =
           rw w.is (told_sent (list_any (λ pointer. eqb pointer 0) w.numbers) w.texts
           (record {
             few = few;
-            sent = (record_small h.argc (λ pointers. Ok (pointing pointers)) words_of bytes l.behind_count words
+            sent = (record_small h.argc (λ pointers. Ok (pointing pointers)) words_of bytes l.after_count words
                 after w).1;
           }))
     ]
@@ -182,8 +182,8 @@ list_put words h =
     let n = length words in
     let law = number_put n (omega (arith, h.few)) in
     let pointed = pointed_put words h in
-    let two = behind_both (put_number n) put_referent law.behind behind_referent in
-    let three = behind_both (λ (d : Draft). put_referent (put_number n d)) (put_number n) two law.behind in
+    let two = behind_both (put_number n) put_referent law.extends behind_referent in
+    let three = behind_both (λ (d : Draft). put_referent (put_number n d)) (put_number n) two law.extends in
     record {
       read = λ d rest referent.
           let d1 = put_number n d in
@@ -191,7 +191,7 @@ list_put words h =
           let d3 = put_number n d2 in
           let body = (put_record (replicate n None) words d3).bytes ++ rest in
           let held4 : Holds body (put_record (replicate n None) words d3) = (rest, refl) in
-          let held3 = held_back (put_record (replicate n None) words) pointed.behind body d3 held4 in
+          let held3 = held_back (put_record (replicate n None) words) pointed.extends body d3 held4 in
           let held2 = held_before number_at (put_number n) n body d2 law held3 in
           let next1 = law.next d referent in
           let next2 = referent_next d1 next1 in
@@ -204,8 +204,8 @@ list_put words h =
             eq-eqb n n refl,
             read_there (pointed_at n) (put_record (replicate n None) words) (Some words) body d3 pointed (law.next d2 next2) held4,
           ) refl;
-      behind = behind_both (λ (d : Draft). put_number n (put_referent (put_number n d)))
-          (put_record (replicate n None) words) three pointed.behind;
+      extends = behind_both (λ (d : Draft). put_number n (put_referent (put_number n d)))
+          (put_record (replicate n None) words) three pointed.extends;
       next = λ d referent. pointed.next _ (law.next _ (referent_next _ (law.next d referent)));
     }
 
@@ -225,7 +225,7 @@ short_put n le =
             le-leb n 1024 (omega (arith, le)),
             read_there number_at (put_number 0) 0 body d1 none (law.next d referent) (rest, refl),
           ) refl;
-      behind = behind_both (put_number n) (put_number 0) law.behind none.behind;
+      extends = behind_both (put_number n) (put_number 0) law.extends none.extends;
       next = λ d referent. none.next (put_number n d) (law.next d referent);
     }
 
@@ -233,12 +233,12 @@ pub words_put : (words : Option (List (List ℕ))) → IfSome words AreSent → 
 unfolding put_words
 words_put None h = let law = short_put 1 (omega arith) in record {
   read = λ d rest referent. law.read d rest referent;
-  behind = λ d. law.behind d;
+  extends = λ d. law.extends d;
   next = λ d referent. law.next d referent;
 }
 words_put (Some []) h = let law = short_put 0 (omega arith) in record {
   read = λ d rest referent. law.read d rest referent;
-  behind = λ d. law.behind d;
+  extends = λ d. law.extends d;
   next = λ d referent. law.next d referent;
 }
 words_put (Some (word ∷ words)) h =
@@ -246,6 +246,6 @@ words_put (Some (word ∷ words)) h =
     let law = list_put (word ∷ words) h in
     record {
       read = λ d rest referent. rw listed (law.read d rest referent);
-      behind = λ d. rw listed (law.behind d);
+      extends = λ d. rw listed (law.extends d);
       next = λ d referent. rw listed (law.next d referent);
     }

@@ -33,7 +33,7 @@ use Rattle.scm_shapes.specs.Levels.{trigger_head_at, TriggerHeadStands, trigger_
 use Rattle.scm_shapes.specs.Levels.{TriggerHeadsStand, listed_triggers_at, ListedTriggersStand, is_listed, listing_at, ListingStands}
 use Rattle.scm_shapes.specs.Levels.{triggers_of, triggers_at, TriggersStand, level_of, referent_at, ReferentStands, served_at, level_at}
 use Rattle.scm_shapes.specs.Levels.{LevelStands, info_at, InfoStands, count_of, put_failure_head, put_action, put_actions, put_failure}
-use Rattle.scm_shapes.specs.Levels.{put_trigger_head, put_subtype, put_listed_triggers, put_listing, put_triggers, put_referent_of}
+use Rattle.scm_shapes.specs.Levels.{put_trigger_head, put_subtype, put_trigger_list, put_listing, put_triggers, put_referent_of}
 use Rattle.scm_shapes.specs.Levels.{put_level, put_info, IsActionSent, IsTriggerSent}
 use Rattle.scm_shapes.proofs.Parts.{Exactly, number_exactly, within_exactly, made_exactly, then_exactly, both_exactly, checked_exactly}
 use Rattle.scm_shapes.proofs.Parts.{same_exactly, nonzero_exactly, if_exactly, for_each_exactly, counted_exactly, made_put, then_put}
@@ -144,8 +144,8 @@ made_points {A = A} make read_at level body place asked after law e =
     let a = bind_ok (read_at body place) (λ x. Ok (make x.0, x.1)) (asked, after) e in
     let pair : Info × ℕ = (make a.0.0, a.0.1) in
     let same : pair ≡ (asked, after) = ok_is pair (asked, after) a.2 in
-    let behind : a.0.1 ≡ after = ap (λ (p : Info × ℕ). p.1) same in
-    let read : read_at body place ≡ Ok (a.0.0, after) = a.1 ∙ ap (λ (n : ℕ). done (a.0.0, n)) behind in
+    let ends : a.0.1 ≡ after = ap (λ (p : Info × ℕ). p.1) same in
+    let read : read_at body place ≡ Ok (a.0.0, after) = a.1 ∙ ap (λ (n : ℕ). done (a.0.0, n)) ends in
     subst (λ (i : Info). Points level body place i after) (ap (λ (p : Info × ℕ). p.0) same) (law a.0.0 read)
 
 -- which of five numbers a level is
@@ -190,19 +190,19 @@ referent_read body place (info.Triggers list) after fits h = rw ((triggers_exact
 referent_read body place (info.Other level) after fits h = absurd h
 referent_read body place (info.Nothing level) after fits h = absurd h
 
--- what stands behind a level
+-- what stands after a level
 abbrev Levels : ℕ → List ℕ → ℕ → Info → ℕ → Type 0
 Levels level body place asked after = (level_of asked ≡ level) × LevelStands asked body place after
 
-levels_pointed : (level : ℕ) (body : List ℕ) (place behind : ℕ) (asked : Info) (after : ℕ) → NonzeroStands body place true behind
-    → Points level body behind asked after → Levels level body place asked after
-levels_pointed level body place behind (info.Description text) after points h = (h.0, (behind, points, h.1))
-levels_pointed level body place behind (info.Failure reset command actions) after points h = (h.0, (behind, points, h.1))
-levels_pointed level body place behind (info.Delayed on) after points h = (h.0, (behind, points, h.1))
-levels_pointed level body place behind (info.OnExit on) after points h = (h.0, (behind, points, h.1))
-levels_pointed level body place behind (info.Triggers list) after points h = (h.0, (behind, points, h.1))
-levels_pointed level body place behind (info.Other other) after points h = absurd h.1
-levels_pointed level body place behind (info.Nothing other) after points h = absurd h.1
+levels_pointed : (level : ℕ) (body : List ℕ) (place middle : ℕ) (asked : Info) (after : ℕ) → NonzeroStands body place true middle
+    → Points level body middle asked after → Levels level body place asked after
+levels_pointed level body place middle (info.Description text) after points h = (h.0, (middle, points, h.1))
+levels_pointed level body place middle (info.Failure reset command actions) after points h = (h.0, (middle, points, h.1))
+levels_pointed level body place middle (info.Delayed on) after points h = (h.0, (middle, points, h.1))
+levels_pointed level body place middle (info.OnExit on) after points h = (h.0, (middle, points, h.1))
+levels_pointed level body place middle (info.Triggers list) after points h = (h.0, (middle, points, h.1))
+levels_pointed level body place middle (info.Other other) after points h = absurd h.1
+levels_pointed level body place middle (info.Nothing other) after points h = absurd h.1
 
 points_exactly : (level : ℕ) (body : List ℕ) → IsBytes body → is_level level ≡ true → Exactly (referent_at level) (Points level) body
 points_exactly level body fits served = record {
@@ -219,14 +219,14 @@ zero_is : (n : ℕ) → false ≡ nonzero n → n ≡ 0
 zero_is n e = zero_by n (eqb n 0) refl e
 
 -- a pointer that is 0 asks for nothing, another for what it points to
-served_by : (level : ℕ) (body : List ℕ) (place behind after : ℕ) (points : Bool) (asked : Option Info) → is_level level ≡ true
-    → NonzeroStands body place points behind → IfStands points (Points level) body behind asked after
+served_by : (level : ℕ) (body : List ℕ) (place middle after : ℕ) (points : Bool) (asked : Option Info) → is_level level ≡ true
+    → NonzeroStands body place points middle → IfStands points (Points level) body middle asked after
     → Levels level body place (unwrap_or asked (info.Nothing level)) after
-served_by level body place behind after true (Some asked) served n h = levels_pointed level body place behind asked after n h
-served_by level body place behind after true None served n h = absurd h
-served_by level body place behind after false (Some asked) served n h = absurd h
-served_by level body place behind after false None served n h =
-    let zero : Stands IsNumber body place 0 behind = subst (λ (m : ℕ). Stands IsNumber body place m behind)
+served_by level body place middle after true (Some asked) served n h = levels_pointed level body place middle asked after n h
+served_by level body place middle after true None served n h = absurd h
+served_by level body place middle after false (Some asked) served n h = absurd h
+served_by level body place middle after false None served n h =
+    let zero : Stands IsNumber body place 0 middle = subst (λ (m : ℕ). Stands IsNumber body place m middle)
     (zero_is n.content n.is) n.there in
     (refl, (served, subst (λ (m : ℕ). Stands IsNumber body place 0 m) (sym h) zero))
 
@@ -239,7 +239,7 @@ served_found level body place asked after fits served e =
     (λ (points : Bool). IfStands points (Points level)) body (nonzero_exactly body fits)
     (λ points. if_exactly points _ _ body (points_exactly level body fits served))) in
     let h = law.found place asked after e in
-    subst (λ (i : Info). Levels level body place i after) (sym h.is) (served_by level body place h.there.behind after h.content.0
+    subst (λ (i : Info). Levels level body place i after) (sym h.is) (served_by level body place h.there.middle after h.content.0
     h.content.1 served h.there.first h.there.second)
 
 level_by : (b : Bool) (level : ℕ) (body : List ℕ) (place : ℕ) (asked : Info) (after : ℕ) → IsBytes body → is_level level ≡ b
@@ -250,8 +250,8 @@ level_by false level body place asked after fits served e =
     let pair : Info × ℕ = (info.Other level, place) in
     subst (λ (p : Info × ℕ). Levels level body place p.0 p.1) (ok_is pair (asked, after) e) (refl, (served, refl))
 
-pointed_read : (body : List ℕ) (place : ℕ) (asked : Info) (after : ℕ) → IsBytes body → is_level (level_of asked) ≡ true → (behind : ℕ)
-    × NonzeroStands body place true behind × ReferentStands asked body behind after
+pointed_read : (body : List ℕ) (place : ℕ) (asked : Info) (after : ℕ) → IsBytes body → is_level (level_of asked) ≡ true → (middle : ℕ)
+    × NonzeroStands body place true middle × ReferentStands asked body middle after
     → level_at (level_of asked) body place ≡ Ok (asked, after)
 unfolding level_at served_at
 pointed_read body place asked after fits served h = rw (
@@ -298,10 +298,10 @@ stands_of body place v after h =
     let level : v.0 ≡ level_of v.1.1 = sym s.second.0 in
     let again : v.1.0 ≡ level_of v.1.1 = eqb-true v.1.0 v.0 s.first.passes ∙ level in
     record {
-      behind = h.behind;
-      level_stands = subst (λ (n : ℕ). Stands IsNumber body place n h.behind) level h.first;
-      behind_again = s.behind;
-      again_stands = subst (λ (n : ℕ). Stands IsNumber body h.behind n s.behind) again s.first.there;
+      middle = h.middle;
+      level_stands = subst (λ (n : ℕ). Stands IsNumber body place n h.middle) level h.first;
+      after_again = s.middle;
+      again_stands = subst (λ (n : ℕ). Stands IsNumber body h.middle n s.middle) again s.first.there;
       stands = s.second.1;
     }
 
@@ -313,10 +313,10 @@ parts_of body place asked after h =
       content = (n, (n, asked));
       is = refl;
       there = record {
-        behind = h.behind;
+        middle = h.middle;
         first = h.level_stands;
         second = record {
-          behind = h.behind_again;
+          middle = h.after_again;
           first = record { passes = eq-eqb n n refl; there = h.again_stands };
           second = (refl, h.stands);
         };
@@ -355,7 +355,7 @@ if_actions : (count : ℕ) (body : List ℕ) (place : ℕ) (b : Bool) (actions :
     → IfStands b (ActionsStand count) body place actions after → AreActions actions
 if_actions count body place true (Some actions) after few h =
     let c = h.there.second in
-    let all : AllByRecursion IsActionSent h.content.1 = actions_sent body h.there.behind h.content.1 after c.stand in
+    let all : AllByRecursion IsActionSent h.content.1 = actions_sent body h.there.middle h.content.1 after c.stand in
     let n : length h.content.1 ≤ SC_MAX_ACTIONS = omega (arith, few, c.counted) in
     rw h.is (le-leb (length h.content.1) SC_MAX_ACTIONS n, all)
 if_actions count body place true None after few h = absurd h
@@ -369,8 +369,8 @@ failure_ranged body place asked after h =
     let tail = h.there.second in
     let few : h.content.0.count ≤ SC_MAX_ACTIONS = rw head.is numbers.second.second.second.first.in_range in
     let small : h.content.0.reset < 2 ^ 32 = rw head.is numbers.first.is.small in
-    let command = if_sent body tail.behind h.content.0.command h.content.1.1.0 tail.second.behind tail.second.first in
-    let actions = if_actions h.content.0.count body tail.second.behind h.content.0.listed h.content.1.1.1 after few tail.second.second in
+    let command = if_sent body tail.middle h.content.0.command h.content.1.1.0 tail.second.middle tail.second.first in
+    let actions = if_actions h.content.0.count body tail.second.middle h.content.0.listed h.content.1.1.1 after few tail.second.second in
     rw h.is (record { in_range = actions.0; sent = (small, (command, actions.1)) })
 
 -- the numbers of a trigger
@@ -425,10 +425,10 @@ listed_ranged count body place triggers after few h =
     let t = h.there in
     let heads = t.first in
     let c = heads.there.second in
-    let small : AllByRecursion IsHeadSmall h.content.0 = rw heads.is (heads_small body heads.there.behind heads.content.1 t.behind c.stand)
+    let small : AllByRecursion IsHeadSmall h.content.0 = rw heads.is (heads_small body heads.there.middle heads.content.1 t.middle c.stand)
     in
     let counted : length h.content.0 ≡ count = rw heads.is c.counted in
-    let all = triggers_sent body t.behind h.content.0 h.content.1 after small t.second in
+    let all = triggers_sent body t.middle h.content.0 h.content.1 after small t.second in
     rw h.is (all.0, omega (arith, few, counted, all.1))
 
 if_triggers : (count : ℕ) (body : List ℕ) (place : ℕ) (b : Bool) (triggers : Option (List TriggerIn)) (after : ℕ) → count ≤ SC_MAX_TRIGGERS
@@ -442,7 +442,7 @@ triggers_ranged : (body : List ℕ) (place : ℕ) (triggers : List TriggerIn) (a
     → AreTriggers triggers
 triggers_ranged body place triggers after h =
     let t = h.there in
-    rw h.is (if_triggers h.content.0.0 body t.behind h.content.0.1.0 h.content.1 after t.first.first.in_range t.second)
+    rw h.is (if_triggers h.content.0.0 body t.middle h.content.0.1.0 h.content.1 after t.first.first.in_range t.second)
 
 level_ranged : (body : List ℕ) (place : ℕ) (asked : Info) (after : ℕ) → level_of asked < 2 ^ 32 → LevelStands asked body place after
     → IsInfo asked
@@ -457,7 +457,7 @@ level_ranged body place (info.Triggers list) after lt h = let t = triggers_range
     record { in_range = le-leb (length list) SC_MAX_TRIGGERS t.1; sent = t.0 }
 
 pub info_ranged : (body : List ℕ) (place : ℕ) (asked : Info) (after : ℕ) → InfoStands body place asked after → IsInfo asked
-info_ranged body place asked after h = level_ranged body h.behind_again asked after h.level_stands.is.small h.stands
+info_ranged body place asked after h = level_ranged body h.after_again asked after h.level_stands.is.small h.stands
 
 -- ## What is written is read back
 
@@ -545,8 +545,8 @@ trigger_put trigger h = made_put (trigger_from (head_of trigger)) _ _ trigger.su
     (some_put (λ (uuid : List ℕ). length uuid ≡ 16) uuid_at put_uuid trigger.subtype uuid_put h.subtype)
 
 listed_put : (triggers : List TriggerIn) → length triggers ≤ SC_MAX_TRIGGERS → AllByRecursion IsTriggerSent triggers
-    → IsPutAs (listed_triggers_at (length triggers)) (put_listed_triggers triggers) triggers
-unfolding put_listed_triggers
+    → IsPutAs (listed_triggers_at (length triggers)) (put_trigger_list triggers) triggers
+unfolding put_trigger_list
 listed_put triggers few sent =
     let n = length triggers in
     let heads = each_put trigger_head_at put_trigger_head head_of triggers
@@ -581,13 +581,13 @@ triggers_put (trigger ∷ triggers) few sent =
     let list : List TriggerIn = trigger ∷ triggers in
     let n = length list in
     let some : eqb n 0 ≡ false = ne_eqb n 0 (λ e. omega (arith, e)) in
-    let listed = made_put (λ (l : List TriggerIn). Some l) (listed_triggers_at n) (put_listed_triggers list) list
+    let listed = made_put (λ (l : List TriggerIn). Some l) (listed_triggers_at n) (put_trigger_list list) list
     (listed_put list few sent) in
     let law = made_put triggers_of _ _ ((n, (true, 0)), Some list) (then_put listing_at listed_at (put_listing n true)
-    (put_listed_triggers list) (n, (true, 0)) (Some list) (listing_put n true few refl) listed) in
+    (put_trigger_list list) (n, (true, 0)) (Some list) (listing_put n true few refl) listed) in
     record {
       read = λ d rest referent. rw some (law.read d rest referent);
-      behind = λ d. rw some (law.behind d);
+      extends = λ d. rw some (law.extends d);
       next = λ d referent. rw some (law.next d referent);
     }
 
@@ -602,7 +602,7 @@ not_served level range served = other_not (is_level level) range served
 never : (level : ℕ) → IsTrue (info_in_range (info.Nothing level)) → is_level level ≡ false → ⊥
 never level range other = absurd cc
 
--- what is put behind a pointer is read there
+-- what is put after a pointer is read there
 pointed_put : (asked : Info) (put : Draft → Draft) → IsPutAs (referent_at (level_of asked)) put asked
     → IsPutAs (served_at (level_of asked)) (λ d. put (put_pointer true d)) asked
 unfolding served_at
@@ -655,7 +655,7 @@ level_put_by : (asked : Info) → IsInfo asked → (b : Bool) → is_level (leve
     → IsPutAs (level_at (level_of asked)) (put_level asked) asked
 unfolding level_at
 level_put_by asked h true served = let law = referent_put asked h served in
-    record { read = λ d rest referent. rw served (law.read d rest referent); behind = law.behind; next = law.next }
+    record { read = λ d rest referent. rw served (law.read d rest referent); extends = law.extends; next = law.next }
 level_put_by asked h false other = other_put asked h other
 
 level_put : (asked : Info) → IsInfo asked → IsPutAs (level_at (level_of asked)) (put_level asked) asked

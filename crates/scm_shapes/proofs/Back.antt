@@ -122,7 +122,7 @@ item_put _ _ h = absurd h
 
 values_put : (shape : List Item) (vs : List Value) → CanHoldAll shape vs → IsPutAs (values_at shape) (put_values vs) (map as_read vs)
 unfolding values_at put_values
-values_put [] [] h = record { read = λ d rest referent. refl; behind = λ d. ([], sym (append-nil d.bytes)); next = λ d referent. referent }
+values_put [] [] h = record { read = λ d rest referent. refl; extends = λ d. ([], sym (append-nil d.bytes)); next = λ d referent. referent }
 values_put (kind ∷ kinds) (v ∷ vs) h = both_put (item_at kind) (values_at kinds) _ (put_value v) (put_values vs) (as_read v)
     (map as_read vs) (as_read v ∷ map as_read vs) (item_put kind v h.0) (values_put kinds vs h.1) (λ m n. refl)
 values_put [] (v ∷ vs) h = absurd h
@@ -155,7 +155,8 @@ item_ranged item.UnkeptText body place v after h = rw h.is tt
 item_ranged item.SomeNumber body place v after h = rw h.is (pointed_small h.there.item h.content h.there.is)
 item_ranged item.SomeBytes body place v after h = rw h.is (pointed_short h.there.held_stands.item h.content h.there.held_stands.is)
 item_ranged item.UnkeptBytes body place v after h = rw h.is tt
-item_ranged (item.SizedArray most) body place v after h = rw h.is (record { in_range = h.there.in_range; small = h.there.held_stands.is.small })
+item_ranged (item.SizedArray most) body place v after h =
+    rw h.is (record { in_range = h.there.in_range; small = h.there.held_stands.is.small })
 item_ranged item.Bytes body place v after h = rw h.is h.there.is.small
 item_ranged item.Words body place v after h = rw h.is (words_sent body place h.content after h.there)
 item_ranged item.Lock body place v after h =
@@ -179,7 +180,7 @@ values_ranged [] body place (v ∷ vs) after h = absurd h
 values_ranged (kind ∷ kinds) body place [] after h = absurd h
 
 pub body_ranged : (shape : List Item) (body : List ℕ) (vs : List Value) → IsBody shape body vs → CanHoldAll shape vs
-body_ranged shape body vs h = values_ranged shape body 0 vs h.behind h.stand
+body_ranged shape body vs h = values_ranged shape body 0 vs h.end h.stand
 
 pub ranged_if : (shape : List Item) (body : List ℕ) (result : Result (List Value) BodyFault) → IsBytes body
     → Gives (λ v. v) result (body_values shape body) → IfOk result (λ vs. CanHoldAll shape vs)
@@ -207,4 +208,4 @@ values_same [] body place (v ∷ vs) after h = absurd h
 values_same (kind ∷ kinds) body place [] after h = absurd h
 
 pub body_same : (shape : List Item) (body : List ℕ) (vs : List Value) → IsBody shape body vs → map as_read vs ≡ vs
-body_same shape body vs h = values_same shape body 0 vs h.behind h.stand
+body_same shape body vs h = values_same shape body 0 vs h.end h.stand

@@ -1,4 +1,4 @@
--- Items one behind the other are read exactly where they stand, and texts that are written are read back.
+-- Items one after the other are read exactly where they stand, and texts that are written are read back.
 use Rattle.std.proofs.Common.{◌≡◌, ℕ, zero, suc, List, [], ◌∷◌, length, Ok, Result, refl, sym, ap, ◌∙◌, append_assoc, ◌++◌, subst, arith}
 use Rattle.std.specs.List.{AllByRecursion}
 use Rattle.std.proofs.lemmas.List.{append-nil}
@@ -43,12 +43,12 @@ pub each_sent : (bytes : List ℕ) (place : ℕ) (texts : List (List ℕ)) (afte
 each_sent bytes place [] after h = tt
 each_sent bytes place (text ∷ texts) after h = (text_sent h.1.item text h.1.is, each_sent bytes h.0 texts after h.2)
 
--- ## What is put behind a draft
+-- ## What is put after a draft
 
 abbrev pub Behind : (Draft → Draft) → Type 0
 Behind put = (d : Draft) → (more : List ℕ) × ((put d).bytes ≡ d.bytes ++ more)
 
--- what is behind a draft twice
+-- what is after a draft twice
 pub behind_both : (p q : Draft → Draft) → Behind p → Behind q → Behind (λ d. q (p d))
 behind_both p q first second d =
     let a = first d in
@@ -79,8 +79,8 @@ behind_each (text ∷ texts) = behind_both (put_text text) (put_each texts) (beh
 
 -- what holds a longer draft holds the shorter one
 pub held_back : (put : Draft → Draft) → Behind put → (body : List ℕ) (d : Draft) → Holds body (put d) → Holds body d
-held_back put behind body d held =
-    let b = behind d in
+held_back put extends body d held =
+    let b = extends d in
     (b.0 ++ held.0, held.1 ∙ ap (λ (l : List ℕ). l ++ held.0) b.1 ∙ append_assoc d.bytes b.0 held.0)
 
 -- ## Texts are read back

@@ -45,7 +45,7 @@ sized_array_found most body place x fits e =
     let size = within_found most body a.0.1 b.0 fits b.1 in
     subst (λ (y : List ℕ × ℕ). SizedArrayStands most body place y.0 y.1) g.1 (record {
       in_range = omega (arith, same, size.in_range);
-      behind_held = a.0.1;
+      after_held = a.0.1;
       held_stands = bytes_spelled body (aligned place) (aligned place) a.0 fits a.1;
       size_stands = subst (λ (n : ℕ). Stands IsNumber body a.0.1 n b.0.1) (sym same) size.stands;
     })
@@ -55,8 +55,8 @@ sized_array_read : (most : ℕ) (body : List ℕ) (place : ℕ) (held : List ℕ
 unfolding sized_array_at
 sized_array_read most body place held after h =
     rw (
-      bytes_read body (aligned place) (aligned place) held h.behind_held h.held_stands,
-      within_read most body h.behind_held (length held) after h.size_stands h.in_range,
+      bytes_read body (aligned place) (aligned place) held h.after_held h.held_stands,
+      within_read most body h.after_held (length held) after h.size_stands h.in_range,
       eq-eqb (length held) (length held) refl,
     ) refl
 
@@ -78,7 +78,7 @@ sized_found body place x fits e =
     in
     let g = guard_true (is_size a.0.0 b.0.0) (BadCount (aligned a.0.1)) (a.0.0, b.0.1) x b.2 in
     subst (λ (y : Option (List ℕ) × ℕ). SizedStands body place y.0 y.1) g.1 (record {
-      behind_held = a.0.1;
+      after_held = a.0.1;
       held_stands = some_bytes_spelled body (aligned place) a.0 fits a.1;
       size = b.0.0;
       size_stands = number_spelled body (aligned a.0.1) (aligned a.0.1) b.0 fits b.1;
@@ -90,8 +90,8 @@ sized_read : (body : List ℕ) (place : ℕ) (held : Option (List ℕ)) (after :
 unfolding sized_at
 sized_read body place held after h =
     rw (
-      some_bytes_read body (aligned place) held h.behind_held h.held_stands,
-      number_read body (aligned h.behind_held) (aligned h.behind_held) h.size after h.size_stands,
+      some_bytes_read body (aligned place) held h.after_held h.held_stands,
+      number_read body (aligned h.after_held) (aligned h.after_held) h.size after h.size_stands,
       is_size_of held h.size h.is_size,
     ) refl
 
@@ -214,7 +214,7 @@ body_found shape body vs fits e =
     let a = bind_ok (values_at shape body 0) (λ values. closed_at values.0 body values.1 >>= λ closed. Ok values.0) vs e in
     let b = bind_ok (closed_at a.0.0 body a.0.1) (λ closed. Ok a.0.0) vs a.2 in
     subst (IsBody shape body) (ok_is a.0.0 vs b.2) (record {
-      behind = a.0.1;
+      end = a.0.1;
       stand = values_found shape body 0 a.0 fits a.1;
       ends = closed_ends (leave_open a.0.0) body a.0.1 b.1;
     })
@@ -222,8 +222,8 @@ body_found shape body vs fits e =
 pub body_read : (shape : List Item) (body : List ℕ) (vs : List Value) → IsBytes body → IsBody shape body vs → body_values shape body ≡ Ok vs
 unfolding body_values closed_at
 body_read shape body vs fits h = rw (
-  values_read shape body 0 vs h.behind fits h.stand,
-  ends_closed (leave_open vs) body h.behind h.ends,
+  values_read shape body 0 vs h.end fits h.stand,
+  ends_closed (leave_open vs) body h.end h.ends,
 ) refl
 
 -- ## Values of a shape are of its kinds
@@ -257,7 +257,7 @@ values_fit [] body place (v ∷ vs) after h = absurd h
 values_fit (kind ∷ kinds) body place [] after h = absurd h
 
 pub body_fits : (shape : List Item) (body : List ℕ) (vs : List Value) → IsBody shape body vs → fitted shape vs ≡ vs
-body_fits shape body vs h = values_fit shape body 0 vs h.behind h.stand
+body_fits shape body vs h = values_fit shape body 0 vs h.end h.stand
 
 pub found_if : (shape : List Item) (body : List ℕ) (result : Result (List Value) BodyFault) → IsBytes body
     → Gives (λ v. v) result (body_values shape body) → IfOk result (λ vs. IsBody shape body vs)

@@ -1,4 +1,4 @@
--- Parts one behind the other, where one of them fails or none does.
+-- Parts one after the other, where one of them fails or none does.
 use Rattle.std.proofs.Common.{◌≡◌, ℕ, List, Option, Ok, refl, subst, ◌∙◌}
 use Rattle.scm_model.specs.declared.flat.Action.{Action}
 use Rattle.scm_model.specs.declared.calls.Info.TheVariants as info

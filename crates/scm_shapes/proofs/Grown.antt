@@ -13,11 +13,11 @@ use Rattle.ndr_body.proofs.Lengths.{length_with_item, length_put_number, length_
 use Rattle.ndr_body.proofs.Lengths.{length_some_text}
 use Rattle.scm_shapes.specs.Parts.{put_pointer, put_flag, put_if, put_all}
 use Rattle.scm_shapes.specs.Levels.{count_of, level_of, put_failure_head, put_action, put_actions, put_failure, put_trigger_head}
-use Rattle.scm_shapes.specs.Levels.{put_subtype, put_listed_triggers, put_listing, put_triggers, put_referent_of, put_level, put_info}
+use Rattle.scm_shapes.specs.Levels.{put_subtype, put_trigger_list, put_listing, put_triggers, put_referent_of, put_level, put_info}
 
--- ## So many bytes, behind a place that 4 divides
+-- ## So many bytes, after a place that 4 divides
 
--- where a part ends, so far behind a place that 4 divides
+-- where a part ends, so far after a place that 4 divides
 pub record Ends (put : Draft → Draft) : Type 0 where
   pub end : ℕ → ℕ
   pub grows : (k : ℕ) → k ≤ end k
@@ -98,8 +98,8 @@ pub ends_subtype : (trigger : TriggerIn) → Ends (put_subtype trigger)
 unfolding put_subtype
 ends_subtype trigger = ends_if put_uuid trigger.subtype ends_uuid
 
-ends_listed : (triggers : List TriggerIn) → Ends (put_listed_triggers triggers)
-unfolding put_listed_triggers
+ends_listed : (triggers : List TriggerIn) → Ends (put_trigger_list triggers)
+unfolding put_trigger_list
 ends_listed triggers = ends_both _ _ (ends_both _ _ (ends_number (length triggers)) (ends_all put_trigger_head triggers ends_trigger_head))
     (ends_all put_subtype triggers ends_subtype)
 
@@ -114,7 +114,7 @@ triggers_by false p q first second = second
 ends_triggers : (triggers : List TriggerIn) → Ends (put_triggers triggers)
 unfolding put_triggers
 ends_triggers triggers =
-    triggers_by (eqb (length triggers) 0) (put_listing 0 false) (λ (d : Draft). put_listed_triggers triggers
+    triggers_by (eqb (length triggers) 0) (put_listing 0 false) (λ (d : Draft). put_trigger_list triggers
     (put_listing (length triggers) true d)) (ends_listing 0 false)
     (ends_both _ _ (ends_listing (length triggers) true) (ends_listed triggers))
 
@@ -138,7 +138,7 @@ ends_level (info.Delayed on) = ends_both _ _ (ends_pointer true) (ends_referent 
 ends_level (info.OnExit on) = ends_both _ _ (ends_pointer true) (ends_referent (info.OnExit on))
 ends_level (info.Triggers list) = ends_both _ _ (ends_pointer true) (ends_referent (info.Triggers list))
 
--- what is asked has its own bytes behind the padding
+-- what is asked has its own bytes after the padding
 pub length_info : (asked : Info) (d : Draft) → length (put_info asked d).bytes ≡ aligned (length d.bytes)
     + length (put_info asked blank).bytes
 unfolding put_info
@@ -177,8 +177,8 @@ grown_heads triggers d = grown_by (put_all put_trigger_head triggers) (ends_all 
 pub grown_subtypes : (triggers : List TriggerIn) (d : Draft) → length d.bytes ≤ length (put_all put_subtype triggers d).bytes
 grown_subtypes triggers d = grown_by (put_all put_subtype triggers) (ends_all put_subtype triggers ends_subtype) d
 
-pub grown_listed : (triggers : List TriggerIn) (d : Draft) → length d.bytes ≤ length (put_listed_triggers triggers d).bytes
-grown_listed triggers d = grown_by (put_listed_triggers triggers) (ends_listed triggers) d
+pub grown_listed : (triggers : List TriggerIn) (d : Draft) → length d.bytes ≤ length (put_trigger_list triggers d).bytes
+grown_listed triggers d = grown_by (put_trigger_list triggers) (ends_listed triggers) d
 
 pub grown_referent : (asked : Info) (d : Draft) → length d.bytes ≤ length (put_referent_of asked d).bytes
 grown_referent asked d = grown_by (put_referent_of asked) (ends_referent asked) d
@@ -186,7 +186,7 @@ grown_referent asked d = grown_by (put_referent_of asked) (ends_referent asked) 
 pub grown_level : (asked : Info) (d : Draft) → length d.bytes ≤ length (put_level asked d).bytes
 grown_level asked d = grown_by (put_level asked) (ends_level asked) d
 
-pub ruleset grown = (
+pub ruleset all = (
   grown_number,
   grown_pointer,
   grown_text_if,
@@ -199,7 +199,7 @@ pub ruleset grown = (
   grown_level,
 )
 
--- ## Some one behind the other, as a loop puts them
+-- ## Some one after the other, as a loop puts them
 
 pub all_more : {A : Type 0} (put : A → Draft → Draft) (xs : List A) (i : ℕ) (x : A) (d : Draft) → i < length xs
     → put_all put (drop i xs) d ≡ put_all put (drop (i + 1) xs) (put (get_or xs i x) d)

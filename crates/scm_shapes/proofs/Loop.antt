@@ -1,4 +1,4 @@
--- Reading items one behind the other, as a loop does.
+-- Reading items one after the other, as a loop does.
 use Rattle.std.proofs.Common.{◌≡◌, ℕ, suc, false, ◌-◌, ◌+◌, ◌≤◌, ◌<◌, List, [], ◌∷◌, ◌++◌, length, get_or, drop, Result, Ok, Err, refl, sym}
 use Rattle.std.proofs.Common.{ap, subst, ◌∙◌, append_assoc, add-one, drop-cons, arith}
 use Rattle.std.specs.Prelude.{OnOk}
@@ -36,7 +36,7 @@ fails_on (BadCount place) read f h = rw h refl
 fails_on (Trailing place) read f h = rw h refl
 fails_on OutOfMemory read f h = tt
 
--- an item, and more behind it
+-- an item, and more after it
 abbrev consed : {A : Type 0} → Result (A × ℕ) BodyFault → (ℕ → Result (List A × ℕ) BodyFault) → Result (List A × ℕ) BodyFault
 consed item more = item >>= λ first. more first.1 >>= λ others. Ok (first.0 ∷ others.0, others.1)
 
@@ -157,7 +157,7 @@ pub index_done : (front : List Value) (shape : List Item) (i : ℕ) (body : List
 index_done front shape i body place total le so_far = step_done front (values_at (drop i shape) body place) total place
     (shape_done shape i body place le) so_far
 
--- referents one behind the other, as a loop writes them
+-- referents one after the other, as a loop writes them
 pub referent_more : (count i : ℕ) (d : Draft) → i < count → put_referents (count - i) d ≡ put_referents (count - (i + 1)) (put_referent d)
 referent_more count i d lt = let k : count - i ≡ suc (count - (i + 1)) = omega arith in rw k refl
 

@@ -1,4 +1,4 @@
--- Parts one behind the other are read exactly where they stand, and those that are written are read back.
+-- Parts one after the other are read exactly where they stand, and those that are written are read back.
 use Rattle.std.proofs.Common.{◌≡◌, ℕ, zero, suc, ◌<◌, ◌≤◌, ◌^◌, Bool, true, false, cond, eqb, List, [], ◌∷◌, ◌++◌, length, map, Option}
 use Rattle.std.proofs.Common.{Some, None, Result, Ok, Err, refl, sym, ap, subst, arith}
 use Rattle.std.specs.Prelude.{is_some, IfSome}
@@ -52,11 +52,11 @@ made_exactly {A = A} {B = B} make read_at There body law = record {
       let a = bind_ok (read_at body place) (λ x. Ok (make x.0, x.1)) (v, after) e in
       let pair : B × ℕ = (make a.0.0, a.0.1) in
       let same : pair ≡ (v, after) = ok_is pair (v, after) a.2 in
-      let behind : a.0.1 ≡ after = ap (λ (p : B × ℕ). p.1) same in
+      let ends : a.0.1 ≡ after = ap (λ (p : B × ℕ). p.1) same in
       record {
         content = a.0.0;
         is = sym (ap (λ (p : B × ℕ). p.0) same);
-        there = subst (λ (n : ℕ). There body place a.0.0 n) behind (law.found place a.0.0 a.0.1 a.1);
+        there = subst (λ (n : ℕ). There body place a.0.0 n) ends (law.found place a.0.0 a.0.1 a.1);
       };
   read = λ place v after h. rw (law.read place h.content after h.there, h.is) refl;
 }
@@ -72,9 +72,9 @@ then_exactly {A = A} {B = B} first_at First second_at Second body law1 law2 = re
       let b = bind_ok (second_at a.0.0 body a.0.1) (λ second. Ok ((a.0.0, second.0), second.1)) (v, after) a.2 in
       let pair : (A × B) × ℕ = ((a.0.0, b.0.0), b.0.1) in
       let stands : ThenStands First Second body place (a.0.0, b.0.0) b.0.1 =
-      record { behind = a.0.1; first = law1.found place a.0.0 a.0.1 a.1; second = (law2 a.0.0).found a.0.1 b.0.0 b.0.1 b.1 } in
+      record { middle = a.0.1; first = law1.found place a.0.0 a.0.1 a.1; second = (law2 a.0.0).found a.0.1 b.0.0 b.0.1 b.1 } in
       subst (λ (y : (A × B) × ℕ). ThenStands First Second body place y.0 y.1) {x = pair} (ok_is pair (v, after) b.2) stands;
-  read = λ place v after h. rw (law1.read place v.0 h.behind h.first, (law2 v.0).read h.behind v.1 after h.second) refl;
+  read = λ place v after h. rw (law1.read place v.0 h.middle h.first, (law2 v.0).read h.middle v.1 after h.second) refl;
 }
 
 pub both_exactly : {A B : Type 0} (first_at : Reads A) (First : List ℕ → ℕ → A → ℕ → Type 0) (second_at : Reads B) (Second : List ℕ → ℕ → B
@@ -113,8 +113,8 @@ if_found {A = A} true read_at There body place (Some v) after law e =
     let a = bind_ok (read_at body place) (λ x. Ok (some_of x)) (Some v, after) e in
     let same : some_of a.0 ≡ (Some v, after) = ok_is (some_of a.0) (Some v, after) a.2 in
     let value : a.0.0 ≡ v = some_in a.0.0 v (ap (λ (p : Option A × ℕ). p.0) same) in
-    let behind : a.0.1 ≡ after = ap (λ (p : Option A × ℕ). p.1) same in
-    subst (λ (n : ℕ). There body place v n) behind (subst (λ (w : A). There body place w a.0.1) value (law.found place a.0.0 a.0.1 a.1))
+    let ends : a.0.1 ≡ after = ap (λ (p : Option A × ℕ). p.1) same in
+    subst (λ (n : ℕ). There body place v n) ends (subst (λ (w : A). There body place w a.0.1) value (law.found place a.0.0 a.0.1 a.1))
 if_found {A = A} true read_at There body place None after law e =
     let a = bind_ok (read_at body place) (λ x. Ok (some_of x)) (None, after) e in
     let same : some_of a.0 ≡ (None, after) = ok_is (some_of a.0) (None, after) a.2 in
@@ -191,7 +191,7 @@ pub made_put : {A B : Type 0} (make : A → B) (read_at : Reads A) (put : Draft 
     → IsPutAs (made_at make read_at) put (make content)
 made_put make read_at put content law = record {
   read = λ d rest referent. rw (law.read d rest referent) refl;
-  behind = law.behind;
+  extends = law.extends;
   next = law.next;
 }
 
@@ -211,7 +211,7 @@ joined_put first_at second_at finish p q a b c law1 law2 join = record {
         read_there (second_at a) q b body d1 law2 (law1.next d referent) held2,
         join (length d1.bytes) (length (q d1).bytes),
       ) refl;
-  behind = behind_both p q law1.behind law2.behind;
+  extends = behind_both p q law1.extends law2.extends;
   next = λ d referent. law2.next (p d) (law1.next d referent);
 }
 
@@ -228,7 +228,7 @@ pub checked_put : {A : Type 0} (test : A → Bool) (read_at : Reads A) (put : Dr
     → IsPutAs (checked_at test read_at) put v
 checked_put test read_at put v passes law = record {
   read = λ d rest referent. rw (law.read d rest referent, passes) refl;
-  behind = law.behind;
+  extends = law.extends;
   next = law.next;
 }
 
@@ -239,13 +239,13 @@ pub within_put : (most n : ℕ) → n ≤ most → n < 2 ^ 32 → IsPutAs (withi
 unfolding within_at
 within_put most n le lt =
     let law = number_put n lt in
-    record { read = λ d rest referent. rw (law.read d rest referent, le-leb n most le) refl; behind = law.behind; next = law.next }
+    record { read = λ d rest referent. rw (law.read d rest referent, le-leb n most le) refl; extends = law.extends; next = law.next }
 
 pub pointer_put : (b : Bool) → IsPutAs nonzero_at (put_pointer b) b
 unfolding put_pointer
 pointer_put true = record {
   read = λ d rest referent. rw (referent_read ((put_referent d).bytes ++ rest) d referent (rest, refl), no_null d.next referent) refl;
-  behind = behind_referent;
+  extends = behind_referent;
   next = referent_next;
 }
 pointer_put false = made_put nonzero number_at (put_number 0) 0 (number_put 0 (omega arith))
@@ -260,7 +260,7 @@ pub nothing_put : {A : Type 0} (read_at : Reads A) (v : A) → ((body : List ℕ
     → IsPutAs read_at (λ d. d) v
 nothing_put read_at v law = record {
   read = λ d rest referent. law (d.bytes ++ rest) (length d.bytes);
-  behind = λ d. ([], sym (append-nil d.bytes));
+  extends = λ d. ([], sym (append-nil d.bytes));
   next = λ d referent. referent;
 }
 

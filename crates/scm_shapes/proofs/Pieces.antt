@@ -1,4 +1,4 @@
--- Writing pieces one behind the other, as a loop does.
+-- Writing pieces one after the other, as a loop does.
 use Rattle.std.proofs.Common.{◌≡◌, ◌≤◌, ◌<◌, ◌+◌, ℕ, List, length, map, get_or, drop, Option, None, refl}
 use Rattle.std.proofs.lemmas.List.{drop_all, drop_more}
 use Rattle.ndr_body.specs.Writing.{Draft, put_text}

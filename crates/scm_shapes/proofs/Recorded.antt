@@ -1,4 +1,4 @@
--- Numbers and the texts behind them are read exactly where they stand, and those that are written are read back.
+-- Numbers and the texts after them are read exactly where they stand, and those that are written are read back.
 use Rattle.std.proofs.Common.{◌≡◌, ℕ, ◌^◌, ◌<◌, List, [], ◌∷◌, ◌++◌, length, Option, None, Some, Result, Ok, Err, refl, subst, arith}
 use Rattle.std.specs.Prelude.{◌↔◌, IfSome}
 use Rattle.std.specs.List.{AllByRecursion}
@@ -43,7 +43,7 @@ module _ {A : Type 0} (count : ℕ) (told : List ℕ → Result ℕ ℕ) (make :
       let found : RecordStands count told make body place pair.0 pair.1 = record {
         numbers = a.0.0;
         counted = n.1;
-        behind = a.0.1;
+        middle = a.0.1;
         numbers_stand = n.0;
         texts = b.0.0;
         told_of = t.1;
@@ -56,11 +56,11 @@ module _ {A : Type 0} (count : ℕ) (told : List ℕ → Result ℕ ℕ) (make :
       → record_at count told make body place ≡ Ok (value, after)
   unfolding record_at
   record_read place value after h =
-      let numbers : each_at number_at count body place ≡ Ok (h.numbers, h.behind) =
-      subst (λ (n : ℕ). each_at number_at n body place ≡ Ok (h.numbers, h.behind)) h.counted
-      (each_read number_at (Stands IsNumber) body h.numbers place h.behind
+      let numbers : each_at number_at count body place ≡ Ok (h.numbers, h.middle) =
+      subst (λ (n : ℕ). each_at number_at n body place ≡ Ok (h.numbers, h.middle)) h.counted
+      (each_read number_at (Stands IsNumber) body h.numbers place h.middle
       (λ at y end s. number_read body (aligned at) (aligned at) y end s) h.numbers_stand) in
-      let texts = each_read text_at (Stands IsText) body h.texts h.behind after
+      let texts = each_read text_at (Stands IsText) body h.texts h.middle after
       (λ at y end s. text_read body (aligned at) (aligned at) y end s) h.texts_stand in
       rw (numbers, h.told_of, texts, h.is) refl
 
@@ -73,7 +73,7 @@ module _ {A : Type 0} (count : ℕ) (told : List ℕ → Result ℕ ℕ) (make :
 abbrev pub AreSmall : List (Option ℕ) → Type 0
 AreSmall marks = AllByRecursion (λ (mark : Option ℕ). IfSome mark (λ n. n < 2 ^ 32)) marks
 
--- what stands for marks behind a draft
+-- what stands for marks after a draft
 abbrev pub marked : List (Option ℕ) → Draft → List ℕ
 marked [] d = []
 marked (None ∷ marks) d = d.next ∷ marked marks (put_referent d)
@@ -131,7 +131,7 @@ record_put told make marks texts value small sent tells makes = record {
         texts_there texts body d1 sent (marks_next marks d small referent) held2,
         makes d referent,
       ) refl;
-  behind = behind_both (put_marks marks) (put_each texts) (marks_behind marks) (behind_each texts);
+  extends = behind_both (put_marks marks) (put_each texts) (marks_behind marks) (behind_each texts);
   next = λ d referent. texts_next texts (put_marks marks d) sent (marks_next marks d small referent);
 }
 
@@ -147,8 +147,8 @@ pub record_small : {A : Type 0} (count : ℕ) (told : List ℕ → Result ℕ �
     → (h : RecordStands count told make bytes place value after) → AllByRecursion (λ n. n < 2 ^ 32) h.numbers
     × AllByRecursion IsSent h.texts
 record_small count told make bytes place value after h = (
-  each_small bytes place h.numbers h.behind h.numbers_stand,
-  each_sent bytes h.behind h.texts after h.texts_stand,
+  each_small bytes place h.numbers h.middle h.numbers_stand,
+  each_sent bytes h.middle h.texts after h.texts_stand,
 )
 
 -- ## The state of a lock

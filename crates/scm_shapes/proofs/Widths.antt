@@ -31,7 +31,7 @@ unfolding put_sized
 length_sized None d = omega (arith, length_put_number 0 d, length_put_number 0 (put_number 0 d))
 length_sized (Some held) d = omega (arith, length_put_referent d, length_sized_array held (put_referent d))
 
--- texts behind a place that 4 divides
+-- texts after a place that 4 divides
 length_each : (texts : List (List ℕ)) (d : Draft) (base k : ℕ) → length d.bytes ≡ aligned base + k
     → length (put_each texts d).bytes ≡ aligned base + end_of (map text_width texts) k
 length_each [] d base k e = e

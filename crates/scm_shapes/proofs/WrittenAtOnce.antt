@@ -56,6 +56,10 @@ length_handle handle ns = omega (
   length_numbers ns,
 )
 
+pub ruleset numbers_written = (numbers_at_once, length_numbers)
+
+pub ruleset handle_written = (handle_at_once, length_handle)
+
 -- a handle in three parts: attributes, its number and zeros
 pub handle_in_parts : (front : List ℕ) (handle : ℕ) → ((front ++ 0 ∷ 0 ∷ 0 ∷ 0 ∷ []) ++ to_le_bytes w64 handle)
     ++ 0 ∷ 0 ∷ 0 ∷ 0 ∷ 0 ∷ 0 ∷ 0 ∷ 0 ∷ [] ≡ front ++ handle_bytes handle

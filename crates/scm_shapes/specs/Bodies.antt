@@ -18,9 +18,9 @@ use Rattle.scm_shapes.specs.Shapes.{leave_open}
 -- bytes, and their length of at most so much after them
 pub record SizedArrayStands (most : ℕ) (bytes : List ℕ) (place : ℕ) (held : List ℕ) (after : ℕ) : Type 0 where
   pub in_range : length held ≤ most
-  pub behind_held : ℕ
-  pub held_stands : Stands IsBytesOf bytes place held behind_held
-  pub size_stands : Stands IsNumber bytes behind_held (length held) after
+  pub after_held : ℕ
+  pub held_stands : Stands IsBytesOf bytes place held after_held
+  pub size_stands : Stands IsNumber bytes after_held (length held) after
 
 -- a size that follows bytes is their length, or any number if there are none
 abbrev pub IsSize : Option (List ℕ) → ℕ → Type 0
@@ -29,10 +29,10 @@ IsSize (Some held) size = length held ≡ size
 
 -- a unique pointer to bytes, and the size of these
 pub record SizedStands (bytes : List ℕ) (place : ℕ) (held : Option (List ℕ)) (after : ℕ) : Type 0 where
-  pub behind_held : ℕ
-  pub held_stands : Stands (IsPointed IsBytesOf) bytes place held behind_held
+  pub after_held : ℕ
+  pub held_stands : Stands (IsPointed IsBytesOf) bytes place held after_held
   pub size : ℕ
-  pub size_stands : Stands IsNumber bytes behind_held size after
+  pub size_stands : Stands IsNumber bytes after_held size after
   pub is_size : IsSize held size
 
 -- without a list: the words are empty where their count is 0, and else absent
@@ -44,19 +44,19 @@ pub record IsUnlisted (argc : ℕ) (bytes : List ℕ) (place : ℕ) (words : Opt
 pub record IsListed (argc : ℕ) (bytes : List ℕ) (place : ℕ) (words : Option (List (List ℕ))) (after : ℕ) : Type 0 where
   pub to_list : ℕ
   pub points : 0 < to_list
-  pub behind_to_list : ℕ
-  pub to_list_stands : Stands IsNumber bytes place to_list behind_to_list
-  pub behind_count : ℕ
-  pub count_stands : Stands IsNumber bytes behind_to_list argc behind_count
-  pub words_stand : RecordStands argc (λ pointers. Ok (pointing pointers)) words_of bytes behind_count words after
+  pub after_to_list : ℕ
+  pub to_list_stands : Stands IsNumber bytes place to_list after_to_list
+  pub after_count : ℕ
+  pub count_stands : Stands IsNumber bytes after_to_list argc after_count
+  pub words_stand : RecordStands argc (λ pointers. Ok (pointing pointers)) words_of bytes after_count words after
 
 -- at most 1,024 words
 pub record WordsStand (bytes : List ℕ) (place : ℕ) (words : Option (List (List ℕ))) (after : ℕ) : Type 0 where
   pub argc : ℕ
-  pub behind_argc : ℕ
-  pub argc_stands : Stands IsNumber bytes place argc behind_argc
+  pub after_argc : ℕ
+  pub argc_stands : Stands IsNumber bytes place argc after_argc
   pub in_range : argc ≤ 1024
-  pub argv_stands : IsUnlisted argc bytes behind_argc words after ⊎ IsListed argc bytes behind_argc words after
+  pub argv_stands : IsUnlisted argc bytes after_argc words after ⊎ IsListed argc bytes after_argc words after
 
 -- ## Shapes
 
@@ -81,13 +81,13 @@ ItemStands item.Info = Holds value.Info InfoStands
 -- items of these kinds stand one after the other
 abbrev pub ValuesStand : List Item → List ℕ → ℕ → List Value → ℕ → Type 0
 ValuesStand [] bytes place [] after = after ≡ place
-ValuesStand (kind ∷ kinds) bytes place (v ∷ vs) after = (behind : ℕ) × ItemStands kind bytes place v behind
-    × ValuesStand kinds bytes behind vs after
+ValuesStand (kind ∷ kinds) bytes place (v ∷ vs) after = (middle : ℕ) × ItemStands kind bytes place v middle
+    × ValuesStand kinds bytes middle vs after
 ValuesStand [] bytes place (v ∷ vs) after = ⊥
 ValuesStand (kind ∷ kinds) bytes place [] after = ⊥
 
 -- bytes are a body of this shape, and hold the values; any bytes may follow where these leave it open
 pub record IsBody (shape : List Item) (bytes : List ℕ) (values : List Value) : Type 0 where
-  pub behind : ℕ
-  pub stand : ValuesStand shape bytes 0 values behind
-  pub ends : IsTrue (leave_open values) ⊎ IsEnded bytes behind
+  pub end : ℕ
+  pub stand : ValuesStand shape bytes 0 values end
+  pub ends : IsTrue (leave_open values) ⊎ IsEnded bytes end

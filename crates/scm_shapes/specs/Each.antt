@@ -7,8 +7,8 @@ use Rattle.ndr_body.specs.Writing.{Draft, put_text}
 -- items stand one after the other
 abbrev pub EachStands : {A : Type 0} → (List ℕ → ℕ → A → ℕ → Type 0) → List ℕ → ℕ → List A → ℕ → Type 0
 EachStands There bytes place [] after = after ≡ place
-EachStands There bytes place (value ∷ values) after = (behind : ℕ) × There bytes place value behind
-    × EachStands There bytes behind values after
+EachStands There bytes place (value ∷ values) after = (middle : ℕ) × There bytes place value middle
+    × EachStands There bytes middle values after
 
 -- so many do
 pub record CountedStand {A : Type 0} (count : ℕ) (There : List ℕ → ℕ → A → ℕ → Type 0) (bytes : List ℕ) (place : ℕ) (values : List A)

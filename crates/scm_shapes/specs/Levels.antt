@@ -163,17 +163,17 @@ level_at level = if is_level level then served_at level else (λ body place. Ok 
 abbrev pub LevelStands : Info → List ℕ → ℕ → ℕ → Type 0
 LevelStands (info.Other level) bytes place after = (is_level level ≡ false) × (after ≡ place)
 LevelStands (info.Nothing level) bytes place after = (is_level level ≡ true) × Stands IsNumber bytes place 0 after
-LevelStands asked bytes place after = (behind : ℕ) × NonzeroStands bytes place true behind × ReferentStands asked bytes behind after
+LevelStands asked bytes place after = (middle : ℕ) × NonzeroStands bytes place true middle × ReferentStands asked bytes middle after
 
 unfoldable pub info_at : Reads Info
 info_at = made_at (λ v. v.1.1) (then_at number_at (λ level. both_at (same_at level) (level_at level)))
 
 pub record InfoStands (bytes : List ℕ) (place : ℕ) (asked : Info) (after : ℕ) : Type 0 where
-  pub behind : ℕ
-  pub level_stands : Stands IsNumber bytes place (level_of asked) behind
-  pub behind_again : ℕ
-  pub again_stands : Stands IsNumber bytes behind (level_of asked) behind_again
-  pub stands : LevelStands asked bytes behind_again after
+  pub middle : ℕ
+  pub level_stands : Stands IsNumber bytes place (level_of asked) middle
+  pub after_again : ℕ
+  pub again_stands : Stands IsNumber bytes middle (level_of asked) after_again
+  pub stands : LevelStands asked bytes after_again after
 
 -- ## Writing
 
@@ -201,15 +201,15 @@ put_trigger_head trigger d = put_number 0 (put_number trigger.items (put_pointer
 unfoldable pub put_subtype : TriggerIn → Draft → Draft
 put_subtype trigger d = put_if put_uuid trigger.subtype d
 
-unfoldable pub put_listed_triggers : List TriggerIn → Draft → Draft
-put_listed_triggers triggers d = put_all put_subtype triggers (put_all put_trigger_head triggers (put_number (length triggers) d))
+unfoldable pub put_trigger_list : List TriggerIn → Draft → Draft
+put_trigger_list triggers d = put_all put_subtype triggers (put_all put_trigger_head triggers (put_number (length triggers) d))
 
 unfoldable pub put_listing : ℕ → Bool → Draft → Draft
 put_listing count listed d = put_number 0 (put_pointer listed (put_number count d))
 
 unfoldable pub put_triggers : List TriggerIn → Draft → Draft
 put_triggers triggers d = if length triggers == 0 then put_listing 0 false d
-    else put_listed_triggers triggers (put_listing (length triggers) true d)
+    else put_trigger_list triggers (put_listing (length triggers) true d)
 
 -- the referent of a pointer
 unfoldable pub put_referent_of : Info → Draft → Draft

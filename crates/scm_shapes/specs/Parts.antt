@@ -63,9 +63,9 @@ nonzero_at = made_at nonzero number_at
 
 pub record ThenStands {A B : Type 0} (First : List ℕ → ℕ → A → ℕ → Type 0) (Second : A → List ℕ → ℕ → B → ℕ → Type 0) (bytes : List ℕ)
     (place : ℕ) (v : A × B) (after : ℕ) : Type 0 where
-  pub behind : ℕ
-  pub first : First bytes place v.0 behind
-  pub second : Second v.0 bytes behind v.1 after
+  pub middle : ℕ
+  pub first : First bytes place v.0 middle
+  pub second : Second v.0 bytes middle v.1 after
 
 abbrev pub BothStand : {A B : Type 0} → (List ℕ → ℕ → A → ℕ → Type 0) → (List ℕ → ℕ → B → ℕ → Type 0) → List ℕ → ℕ → A × B → ℕ → Type 0
 BothStand First Second = ThenStands First (λ first. Second)
@@ -90,8 +90,8 @@ IfStands false There bytes place None after = after ≡ place
 
 abbrev pub ForEachStands : {A B : Type 0} → (A → List ℕ → ℕ → B → ℕ → Type 0) → List A → List ℕ → ℕ → List B → ℕ → Type 0
 ForEachStands Stand [] bytes place [] after = after ≡ place
-ForEachStands Stand (x ∷ xs) bytes place (v ∷ vs) after = (behind : ℕ) × Stand x bytes place v behind
-    × ForEachStands Stand xs bytes behind vs after
+ForEachStands Stand (x ∷ xs) bytes place (v ∷ vs) after = (middle : ℕ) × Stand x bytes place v middle
+    × ForEachStands Stand xs bytes middle vs after
 ForEachStands Stand [] bytes place (v ∷ vs) after = ⊥
 ForEachStands Stand (x ∷ xs) bytes place [] after = ⊥
 

@@ -28,11 +28,11 @@ pub record RecordStands {A : Type 0} (count : ℕ) (told : List ℕ → Result �
     (place : ℕ) (value : A) (after : ℕ) : Type 0 where
   pub numbers : List ℕ
   pub counted : length numbers ≡ count
-  pub behind : ℕ
-  pub numbers_stand : EachStands (Stands IsNumber) bytes place numbers behind
+  pub middle : ℕ
+  pub numbers_stand : EachStands (Stands IsNumber) bytes place numbers middle
   pub texts : List (List ℕ)
   pub told_of : told numbers ≡ Ok (length texts)
-  pub texts_stand : EachStands (Stands IsText) bytes behind texts after
+  pub texts_stand : EachStands (Stands IsText) bytes middle texts after
   pub is : value ≡ make numbers texts
 
 -- ## Writing

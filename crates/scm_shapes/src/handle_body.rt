@@ -148,7 +148,7 @@ fn append_handle(out: &mut Buffer<u8>, handle: u64)
 
 /// Writes a body of numbers of 32 bits alone after what the buffer holds. When memory runs out the
 /// buffer is given back as it was.
-#[tactic(auto, using(crate::proofs::WrittenAtOnce::numbers_at_once, crate::proofs::WrittenAtOnce::length_numbers))]
+#[tactic(auto, using(crate::proofs::WrittenAtOnce::numbers_written))]
 pub fn write_numbers(
     numbers: &[u32],
     out: Buffer<u8>,
@@ -167,7 +167,7 @@ pub fn write_numbers(
 
 /// Writes a body of a context handle and numbers of 32 bits after what the buffer holds. When
 /// memory runs out the buffer is given back as it was.
-#[tactic(auto, using(crate::proofs::WrittenAtOnce::handle_at_once, crate::proofs::WrittenAtOnce::length_handle))]
+#[tactic(auto, using(crate::proofs::WrittenAtOnce::handle_written))]
 pub fn write_handle(
     handle: u64,
     numbers: &[u32],

@@ -1,5 +1,4 @@
-use super::apart::Apart;
-use scm_model::{Info, Shown};
+use scm_model::{Apart, Info, Shown};
 use scm_text::{Items, WText};
 
 /// A kind of item in a body.
@@ -56,7 +55,7 @@ pub enum Value {
     Words(Option<Items<WText>>),
     /// Whether it is held, by whom, and for how many seconds.
     Lock(u32, Option<WText>, u32),
-    Shown(Apart),
+    Shown(Option<Apart<Shown>>),
     Info(Info),
 }
 
@@ -76,6 +75,6 @@ pub enum Piece<'a> {
     Bytes(u32, &'a Items<u8>),
     Words(&'a Option<Items<WText>>),
     Lock(u32, &'a Option<WText>, u32),
-    Shown(&'a Option<Shown>),
+    Shown(&'a Option<Apart<Shown>>),
     Info(&'a Info),
 }

@@ -3,7 +3,7 @@ ghost use Rattle.ndr_body.specs.Writing.{put_text};
 ghost use Rattle.scm_shapes.specs.Parts.{put_all, put_flag, put_if, put_pointer};
 ghost use Rattle.scm_shapes.specs.Levels.{count_of, level_of, put_action, put_actions, put_failure};
 ghost use Rattle.scm_shapes.specs.Levels.{put_failure_head, put_info, put_level};
-ghost use Rattle.scm_shapes.specs.Levels.{put_listed_triggers, put_listing, put_referent_of};
+ghost use Rattle.scm_shapes.specs.Levels.{put_trigger_list, put_listing, put_referent_of};
 ghost use Rattle.scm_shapes.specs.Levels.{put_subtype, put_trigger_head, put_triggers};
 
 use ndr_body::NdrWriter;
@@ -56,7 +56,7 @@ fn count_of(actions: &Option<Items<Action>>) -> usize
 }
 
 /// The numbers of failure actions. The reboot message is left out.
-#[tactic(auto, using(crate::proofs::Grown::grown), unfolding(crate::specs::Levels::put_failure_head))]
+#[tactic(auto, using(crate::proofs::Grown::all), unfolding(crate::specs::Levels::put_failure_head))]
 fn put_failure_head(
     writer: &mut NdrWriter,
     reset: u32,
@@ -90,7 +90,7 @@ fn put_text_if(writer: &mut NdrWriter, text: &Option<WText>) -> Result<(), OutOf
     }
 }
 
-#[tactic(auto, using(crate::proofs::Grown::grown), unfolding(crate::specs::Levels::put_action))]
+#[tactic(auto, using(crate::proofs::Grown::all), unfolding(crate::specs::Levels::put_action))]
 fn put_action(writer: &mut NdrWriter, action: Action) -> Result<(), OutOfMemory>
     ensures front { writer.new.front ≡ writer.old.front }
     ensures ok { OnOk result (writer.new.draft ≡ put_action action writer.old.draft) }
@@ -116,7 +116,7 @@ fn put_each_action(writer: &mut NdrWriter, actions: &[Action]) -> Result<(), Out
 }
 
 /// The count of the actions, and then the actions.
-#[tactic(auto, using(crate::proofs::Grown::grown), unfolding(crate::specs::Levels::put_actions))]
+#[tactic(auto, using(crate::proofs::Grown::all), unfolding(crate::specs::Levels::put_actions))]
 fn put_actions_if(
     writer: &mut NdrWriter,
     actions: &Option<Items<Action>>,
@@ -134,7 +134,7 @@ fn put_actions_if(
     put_each_action(writer, actions.as_slice())
 }
 
-#[tactic(auto, using(crate::proofs::Grown::grown), unfolding(crate::specs::Levels::put_failure))]
+#[tactic(auto, using(crate::proofs::Grown::all), unfolding(crate::specs::Levels::put_failure))]
 fn put_failure(
     writer: &mut NdrWriter,
     reset: u32,
@@ -154,7 +154,7 @@ fn put_failure(
 }
 
 /// A trigger without its subtype.
-#[tactic(auto, using(crate::proofs::Grown::grown), unfolding(crate::specs::Levels::put_trigger_head))]
+#[tactic(auto, using(crate::proofs::Grown::all), unfolding(crate::specs::Levels::put_trigger_head))]
 fn put_trigger_head(writer: &mut NdrWriter, trigger: &TriggerIn) -> Result<(), OutOfMemory>
     ensures front { writer.new.front ≡ writer.old.front }
     ensures ok { OnOk result (writer.new.draft ≡ put_trigger_head trigger.now writer.old.draft) }
@@ -212,7 +212,7 @@ fn put_subtypes(writer: &mut NdrWriter, triggers: &[TriggerIn]) -> Result<(), Ou
 }
 
 /// A count, a pointer to the triggers, and a null pointer.
-#[tactic(auto, using(crate::proofs::Grown::grown), unfolding(crate::specs::Levels::put_listing))]
+#[tactic(auto, using(crate::proofs::Grown::all), unfolding(crate::specs::Levels::put_listing))]
 fn put_listing(writer: &mut NdrWriter, count: usize, listed: bool) -> Result<(), OutOfMemory>
     ensures front { writer.new.front ≡ writer.old.front }
     ensures ok { OnOk result (writer.new.draft ≡ put_listing count listed writer.old.draft) }
@@ -226,13 +226,13 @@ fn put_listing(writer: &mut NdrWriter, count: usize, listed: bool) -> Result<(),
 }
 
 /// The count of the triggers, the triggers, and then their subtypes.
-#[tactic(auto, using(crate::proofs::Grown::grown), unfolding(crate::specs::Levels::put_listed_triggers))]
-fn put_listed_triggers(writer: &mut NdrWriter, triggers: &[TriggerIn]) -> Result<(), OutOfMemory>
+#[tactic(auto, using(crate::proofs::Grown::all), unfolding(crate::specs::Levels::put_trigger_list))]
+fn put_trigger_list(writer: &mut NdrWriter, triggers: &[TriggerIn]) -> Result<(), OutOfMemory>
     ensures front { writer.new.front ≡ writer.old.front }
     ensures ok { OnOk result (writer.new.draft ≡
-        put_listed_triggers triggers.now writer.old.draft) }
+        put_trigger_list triggers.now writer.old.draft) }
     ensures space { writer.old.space ≤ writer.new.space }
-    ensures enough { length (put_listed_triggers triggers.now writer.old.draft).bytes ≤
+    ensures enough { length (put_trigger_list triggers.now writer.old.draft).bytes ≤
         writer.old.space → IsOk result }
 {
     writer.count(triggers.len())?;
@@ -241,7 +241,7 @@ fn put_listed_triggers(writer: &mut NdrWriter, triggers: &[TriggerIn]) -> Result
 }
 
 /// Triggers. No trigger needs no list.
-#[tactic(auto, using(crate::proofs::Grown::grown), unfolding(crate::specs::Levels::put_triggers))]
+#[tactic(auto, using(crate::proofs::Grown::all), unfolding(crate::specs::Levels::put_triggers))]
 fn put_triggers(writer: &mut NdrWriter, triggers: &[TriggerIn]) -> Result<(), OutOfMemory>
     ensures front { writer.new.front ≡ writer.old.front }
     ensures ok { OnOk result (writer.new.draft ≡ put_triggers triggers.now writer.old.draft) }
@@ -253,7 +253,7 @@ fn put_triggers(writer: &mut NdrWriter, triggers: &[TriggerIn]) -> Result<(), Ou
         return put_listing(writer, 0, false);
     }
     put_listing(writer, triggers.len(), true)?;
-    put_listed_triggers(writer, triggers)
+    put_trigger_list(writer, triggers)
 }
 
 /// What a pointer points to.
@@ -279,7 +279,7 @@ fn put_referent_of(writer: &mut NdrWriter, asked: &Info) -> Result<(), OutOfMemo
 }
 
 /// The arm of the union that the level selects.
-#[tactic(auto, using(crate::proofs::Grown::grown), unfolding(crate::specs::Levels::put_level))]
+#[tactic(auto, using(crate::proofs::Grown::all), unfolding(crate::specs::Levels::put_level))]
 fn put_level(writer: &mut NdrWriter, asked: &Info) -> Result<(), OutOfMemory>
     ensures front { writer.new.front ≡ writer.old.front }
     ensures ok { OnOk result (writer.new.draft ≡ put_level asked.now writer.old.draft) }
@@ -312,7 +312,7 @@ fn level_of(asked: &Info) -> u32
 }
 
 /// What is asked to be changed at one level.
-#[tactic(auto, using(crate::proofs::Grown::grown), unfolding(crate::specs::Levels::put_info))]
+#[tactic(auto, using(crate::proofs::Grown::all), unfolding(crate::specs::Levels::put_info))]
 pub fn put_info(writer: &mut NdrWriter, asked: &Info) -> Result<(), OutOfMemory>
     ensures front { writer.new.front ≡ writer.old.front }
     ensures ok { OnOk result (writer.new.draft ≡ put_info asked.now writer.old.draft) }

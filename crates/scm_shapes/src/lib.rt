@@ -2,7 +2,6 @@
 //! and written here.
 #![tactic(auto)]
 
-mod apart;
 mod handle_body;
 mod item;
 mod levels;
@@ -13,7 +12,6 @@ mod values;
 mod words;
 mod writing;
 
-pub use apart::Apart;
 pub use handle_body::{HandleBody, is_handle_body, read_handle_body, write_handle, write_numbers};
 pub use item::{Item, Piece, Value};
 pub use reading::{read_body, read_body_into};

@@ -7,7 +7,6 @@ ghost use Rattle.scm_shapes.specs.Plain.{IsPlain, ArePlain};
 ghost use Rattle.scm_shapes.specs.Bodies.{IsBody};
 ghost use Rattle.scm_shapes.specs.Laws.{CanHoldAll};
 
-use crate::apart::Apart;
 use crate::handle_body::{next_place, read_within};
 use crate::item::{Item, Value};
 use crate::levels::read_info;
@@ -100,10 +99,7 @@ fn read_item(reader: &mut NdrReader, alloc: Global, item: Item) -> Result<Value,
         }
         Item::Words => Ok(Value::Words(read_words(reader, alloc)?)),
         Item::Lock => read_lock(reader, alloc),
-        Item::Shown => {
-            let shown = read_shown(reader, alloc)?;
-            Ok(Value::Shown(Apart::new(alloc, shown)?))
-        }
+        Item::Shown => Ok(Value::Shown(read_shown(reader, alloc)?)),
         Item::Info => Ok(Value::Info(read_info(reader, alloc)?)),
     }
 }

@@ -12,7 +12,7 @@ ghost use Rattle.scm_shapes.specs.Records.{put_mark, put_marks, put_record};
 use crate::handle_body::next_place;
 use crate::item::Value;
 use ndr_body::{BodyFault, NdrReader, NdrWriter};
-use scm_model::Shown;
+use scm_model::{Apart, Shown};
 use scm_text::{OutOfMemory, WText};
 use std::alloc::Global;
 
@@ -151,10 +151,9 @@ fn read_texts(reader: &mut NdrReader, alloc: Global, heads: &Heads) -> Result<Sh
 }
 
 /// A configuration, or none where its numbers are 0. A number that doesn't fit to those before it
-/// is
-/// `BadCount` where it begins.
+/// is `BadCount` where it begins.
 #[tactic(auto, using(crate::proofs::Recorded::decides), unfolding(crate::specs::Records::shown_at, crate::specs::Records::record_at, crate::specs::Records::shown_texts_at))]
-pub fn read_shown(reader: &mut NdrReader, alloc: Global) -> Result<Option<Shown>, BodyFault>
+pub fn read_shown(reader: &mut NdrReader, alloc: Global) -> Result<Option<Apart<Shown>>, BodyFault>
     ensures value { Gives (λ v. (v, reader.new.place)) result
         (shown_at reader.old.body reader.old.place) }
     ensures body { reader.new.body ≡ reader.old.body }
@@ -164,7 +163,8 @@ pub fn read_shown(reader: &mut NdrReader, alloc: Global) -> Result<Option<Shown>
     if heads.is_blank() {
         Ok(None)
     } else if heads.is_pointed() {
-        Ok(Some(read_texts(reader, alloc, &heads)?))
+        let shown = read_texts(reader, alloc, &heads)?;
+        Ok(Some(Apart::new(alloc, shown)?))
     } else {
         Err(BodyFault::BadCount(start + heads.misfit()))
     }
@@ -261,7 +261,7 @@ fn put_texts(writer: &mut NdrWriter, shown: &Shown) -> Result<(), OutOfMemory>
 }
 
 #[tactic(auto, using(crate::proofs::Widths::grows), unfolding(crate::specs::Records::put_record))]
-pub fn put_shown(writer: &mut NdrWriter, shown: &Option<Shown>) -> Result<(), OutOfMemory>
+pub fn put_shown(writer: &mut NdrWriter, shown: &Option<Apart<Shown>>) -> Result<(), OutOfMemory>
     ensures front { writer.new.front ≡ writer.old.front }
     ensures ok { OnOk result (writer.new.draft ≡ put_record (shown_marks shown.now)
         (shown_texts shown.now) writer.old.draft) }

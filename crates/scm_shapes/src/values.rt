@@ -9,7 +9,7 @@ ghost use Rattle.scm_shapes.specs.HandleBodies.{handle_body_of};
 
 use crate::handle_body::HandleBody;
 use crate::item::Value;
-use scm_model::{Info, Shown};
+use scm_model::{Apart, Info, Shown};
 use scm_text::{Items, OutOfMemory, WText};
 use smallvec::SmallVec;
 use std::alloc::Global;
@@ -266,12 +266,12 @@ impl Values {
         }
     }
 
-    pub fn shown(&mut self) -> Option<Shown>
+    pub fn shown(&mut self) -> Option<Apart<Shown>>
         ensures value { result ≡ first_shown self.old }
         ensures rest { self.new ≡ rest self.old }
     {
         match self.take() {
-            Some(Value::Shown(shown)) => shown.into_shown(),
+            Some(Value::Shown(shown)) => shown,
             other => {
                 let_go(other);
                 None

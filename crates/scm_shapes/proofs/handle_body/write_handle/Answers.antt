@@ -9,9 +9,9 @@ returns-in-Ok c =
     let front = c.args.out.items in
     let handle = c.args.handle in
     let numbers = c.args.numbers.now in
-    let behind = c.append_handle.ensures.items ∙ ap (λ (held : List ℕ). held ++ handle_bytes handle) c.in-Ok.ensures.items in
+    let appended = c.append_handle.ensures.items ∙ ap (λ (held : List ℕ). held ++ handle_bytes handle) c.in-Ok.ensures.items in
     record {
-      ok = c.append_numbers.ensures ∙ ap (λ (held : List ℕ). held ++ flat_map number_bytes numbers) behind
+      ok = c.append_numbers.ensures ∙ ap (λ (held : List ℕ). held ++ flat_map number_bytes numbers) appended
           ∙ append_assoc front (handle_bytes handle) (flat_map number_bytes numbers)
           ∙ ap (λ (body : List ℕ). front ++ body) (sym (handle_at_once handle numbers));
       err = tt;
