@@ -19,7 +19,7 @@ use Rattle.rpc_session.specs.declared.session.SessionFault.TheVariants as faults
 use Rattle.rpc_pdu.specs.declared.pdu.PduKind.TheVariants.{Order}
 use Rattle.rpc_pdu.proofs.Settled.{settled}
 use Rattle.rpc_session.specs.Moves.{Move, Gives, Joins, OutOfOrder, Passes, session_move, Moved, HasPlace}
-use Rattle.rpc_session.specs.Pdus.{Part, BadAt, no_more, onto, by_read, pdus_behind, pdus_from}
+use Rattle.rpc_session.specs.Pdus.{Part, BadAt, no_more, onto, by_read, pdus_after, pdus_from}
 use Rattle.rpc_session.specs.Items.{Told, StreamEnd, AtRest, Unfinished, BadPdu, TooLong, ends_stream, before, told_after, told_of_pdus}
 use Rattle.rpc_session.specs.Items.{told_of, Seen, to_come, IsOpen, TellsEnd, StepComes, fault_by, TellSame, Comes, Gave, Says, given_by}
 use Rattle.rpc_session.specs.Items.{items, unbound, open_end, front_fault, fault_of_read, fault_of_move, IsStuck, TellsAgain}
@@ -27,39 +27,39 @@ use Rattle.rpc_session.specs.Held.{with_more}
 
 -- the bytes of a PDU are passed
 passed : (end : End) (k place : ℕ) (bytes : List ℕ) → k ≤ length bytes →
-    pdus_behind end k place bytes ≡ pdus_behind end 0 (place + k) (drop k bytes)
-unfolding pdus_behind
-passed end zero place bytes h = ap (λ p. pdus_behind end 0 p bytes) (omega arith)
+    pdus_after end k place bytes ≡ pdus_after end 0 (place + k) (drop k bytes)
+unfolding pdus_after
+passed end zero place bytes h = ap (λ p. pdus_after end 0 p bytes) (omega arith)
 passed end (suc k) place [] h = absurd (omega (arith, h))
 passed end (suc k) place (b ∷ bytes) h =
-    passed end k (place + 1) bytes (omega (arith, h)) ∙ ap (λ p. pdus_behind end 0 p (drop k bytes)) (omega arith)
+    passed end k (place + 1) bytes (omega (arith, h)) ∙ ap (λ p. pdus_after end 0 p (drop k bytes)) (omega arith)
 
 pub whole_first : (end : End) (place : ℕ) (bytes : List ℕ) (pdu : Pdu (List ℕ)) (u : ℕ) → pdu_at end bytes ≡ Whole pdu u → 16 ≤ u
     → u ≤ length bytes → pdus_from end place bytes ≡ onto (place, pdu) (pdus_from end (place + u) (drop u bytes))
-unfolding pdus_behind
+unfolding pdus_after
 whole_first end place [] pdu u is low high = absurd (omega (arith, low, high))
 whole_first end place (b ∷ bytes) pdu zero is low high = absurd (omega (arith, low))
 whole_first end place (b ∷ bytes) pdu (suc k) is low high =
-    ap (by_read (λ used. pdus_behind end (used - 1) (place + 1) bytes) place) is
-    ∙ ap (onto (place, pdu)) (ap (λ n. pdus_behind end n (place + 1) bytes) (omega arith)
+    ap (by_read (λ used. pdus_after end (used - 1) (place + 1) bytes) place) is
+    ∙ ap (onto (place, pdu)) (ap (λ n. pdus_after end n (place + 1) bytes) (omega arith)
     ∙ passed end k (place + 1) bytes (omega (arith, high))
-    ∙ ap (λ p. pdus_behind end 0 p (drop k bytes)) (omega arith))
+    ∙ ap (λ p. pdus_after end 0 p (drop k bytes)) (omega arith))
 
 pub bad_first : (end : End) (place : ℕ) (bytes : List ℕ) (kind : PduKind) → pdu_at end bytes ≡ Bad kind
     → pdus_from end place bytes ≡ no_more (BadAt place kind)
-unfolding pdus_behind pdu_at
+unfolding pdus_after pdu_at
 bad_first end place [] kind is = absurd (subst IsSettled (sym is) tt)
-bad_first end place (b ∷ bytes) kind is = ap (by_read (λ used. pdus_behind end (used - 1) (place + 1) bytes) place) is
+bad_first end place (b ∷ bytes) kind is = ap (by_read (λ used. pdus_after end (used - 1) (place + 1) bytes) place) is
 
 pub short_first : (end : End) (place b : ℕ) (bytes : List ℕ) (needed : ℕ) → pdu_at end (b ∷ bytes) ≡ Short needed
     → pdus_from end place (b ∷ bytes) ≡ no_more Part
-unfolding pdus_behind
-short_first end place b bytes needed is = ap (by_read (λ used. pdus_behind end (used - 1) (place + 1) bytes) place) is
+unfolding pdus_after
+short_first end place b bytes needed is = ap (by_read (λ used. pdus_after end (used - 1) (place + 1) bytes) place) is
 
 abbrev seen : State → ℕ → List ℕ → Seen
 seen s place rest = record { state = s; held = record { place = place; rest = rest } }
 
--- a whole PDU comes first, whatever comes behind it
+-- a whole PDU comes first, whatever follows it
 pub came : (s : State) (place : ℕ) (rest : List ℕ) (pdu : Pdu (List ℕ)) (u : ℕ) (more : List ℕ) → pdu_at Server rest ≡ Whole pdu u
     → pdu_at Server (rest ++ more) ≡ pdu_at Server rest → 16 ≤ u → u ≤ length rest
     → to_come (seen s place rest) more ≡ told_after (λ t. to_come (seen t (place + u) (drop u rest)) more) place (session_move s pdu)
@@ -100,7 +100,7 @@ nothing_held false = refl
 
 -- less than a PDU stands first
 pub open_at : (s : State) (place : ℕ) (rest : List ℕ) (needed : ℕ) → pdu_at Server rest ≡ Short needed → IsOpen (seen s place rest)
-unfolding to_come told_of_pdus pdus_behind
+unfolding to_come told_of_pdus pdus_after
 open_at s place [] needed is = nothing_held (is_some s.unfinished)
 open_at s place (b ∷ rest) needed is =
     let held : (length (b ∷ rest) == 0) ≡ false = grind arith in

@@ -166,7 +166,7 @@ HasPlace (Joins s) = Unit {0}
 HasPlace OutOfOrder = ⊥
 HasPlace (Passes n) = ⊥
 
--- What a session that took a PDU returned is the move. Want of memory leaves the state, and comes only where the PDU has its place.
+-- What a session that took a PDU returned is the move. An `OutOfMemory` leaves the state, and comes only where the PDU has its place.
 abbrev pub Moved : State → State → Result (Option Incoming) Refusal → Move → Type 0
 Moved old new (Ok (Some item)) move = move ≡ Gives item new
 Moved old new (Ok None) move = move ≡ Joins new

@@ -44,6 +44,7 @@ fn room(transmit: u16) -> usize
 }
 
 /// Writes a response by a buffer, in one call where the sink takes it at once.
+#[inline(always)]
 fn write_by<T: Sink>(
     sink: &mut T,
     buffer: &mut [u8],

@@ -14,6 +14,7 @@ ghost use Rattle.rpc_session.specs.Items.{TellsAgain};
 
 use crate::known::Known;
 use crate::replies::{write_fault, write_reply};
+use crate::spare::SpareBytes;
 use crate::state::{Incoming, Refusal, State};
 use outside::{Failed, Sink};
 use rpc_pdu::{PduKind, PduRead, read_pdu};
@@ -27,7 +28,7 @@ use thiserror::Error;
 pub struct Stream {
     bytes: Vec<u8>,
     /// How many of the bytes are consumed.
-    behind: usize,
+    used: usize,
     /// Where in the stream the next byte stands.
     place: u64,
 }
@@ -38,10 +39,10 @@ impl Model for Stream {
 
     ghost Value = { Held };
 
-    ghost view = { λ s. record { place = s.place; rest = drop s.behind s.bytes.items } };
+    ghost view = { λ s. record { place = s.place; rest = drop s.used s.bytes.items } };
 
-    ghost invariant = { λ s. (s.behind ≤ length s.bytes.items)
-        × (s.place + length s.bytes.items < 2 ^ 64 + s.behind) };
+    ghost invariant = { λ s. (s.used ≤ length s.bytes.items)
+        × (s.place + length s.bytes.items < 2 ^ 64 + s.used) };
 }
 
 /// Drops the front of this length.
@@ -60,7 +61,7 @@ impl Stream {
     {
         Stream {
             bytes: Vec::new(alloc),
-            behind: 0,
+            used: 0,
             place: 0,
         }
     }
@@ -69,7 +70,7 @@ impl Stream {
     pub fn rest(&self) -> &[u8]
         ensures { result.now ≡ self.now.rest }
     {
-        &self.bytes[self.behind..]
+        &self.bytes[self.used..]
     }
 
     /// The bytes that aren't consumed yet, without the first few.
@@ -78,7 +79,7 @@ impl Stream {
         ensures rest { result.now ≡ drop count self.now.rest }
         ensures bound { length self.now.rest < 2 ^ 64 }
     {
-        &self.bytes[self.behind + count..]
+        &self.bytes[self.used + count..]
     }
 
     /// Where the byte stands that comes after the next few.
@@ -95,13 +96,13 @@ impl Stream {
         ensures ok { OnOk result (self.new ≡ with_more self.old piece.now) }
         ensures err { OnErr result (self.new ≡ self.old) }
     {
-        let left = self.bytes.len() - self.behind;
+        let left = self.bytes.len() - self.used;
         if u64::MAX - self.place - (left as u64) < piece.len() as u64 {
             return Err(OutOfMemory);
         }
-        if left <= self.behind {
-            remove_front(&mut self.bytes, self.behind);
-            self.behind = 0;
+        if left <= self.used {
+            remove_front(&mut self.bytes, self.used);
+            self.used = 0;
         }
         if self.bytes.extend_from_slice(piece).is_err() {
             return Err(OutOfMemory);
@@ -114,7 +115,7 @@ impl Stream {
         requires { count ≤ length self.old.rest }
         ensures { self.new ≡ further self.old count }
     {
-        self.behind += count;
+        self.used += count;
         self.place += count as u64;
     }
 }
@@ -146,6 +147,7 @@ fn fault_of(place: u64, refusal: Refusal) -> SessionFault
 /// it gives, if it gives one.
 fn take_pdu(
     alloc: Global,
+    spare: &mut SpareBytes,
     state: &mut State,
     stream: &Stream,
     ahead: &mut usize,
@@ -169,7 +171,7 @@ fn take_pdu(
         PduRead::Short(_) => return Ok(None),
         PduRead::Bad(kind) => return Err(SessionFault::BadPdu(stream.place(*ahead), kind)),
     };
-    match state.take(alloc, &pdu) {
+    match state.take(alloc, spare, &pdu) {
         Ok(item) => {
             *ahead += used;
             Ok(Some(item))
@@ -181,6 +183,7 @@ fn take_pdu(
 /// Takes PDUs that stand ahead, up to the next item.
 fn find_item(
     alloc: Global,
+    spare: &mut SpareBytes,
     state: &mut State,
     stream: &Stream,
     ahead: &mut usize,
@@ -199,7 +202,7 @@ fn find_item(
     ensures joined { OnWant result (HasJoined state.old state.new) }
 {
     loop {
-        match take_pdu(alloc, state, stream, ahead) {
+        match take_pdu(alloc, spare, state, stream, ahead) {
             Ok(None) => return Ok(None),
             Ok(Some(Some(item))) => return Ok(Some(item)),
             Ok(Some(None)) => {}
@@ -212,6 +215,7 @@ fn find_item(
 /// given back.
 fn next_item(
     alloc: Global,
+    spare: &mut SpareBytes,
     state: &mut State,
     stream: &mut Stream,
 ) -> Result<Option<Incoming>, SessionFault>
@@ -231,7 +235,7 @@ fn next_item(
 {
     let joined = state.joined();
     let mut ahead = 0;
-    match find_item(alloc, state, stream, &mut ahead) {
+    match find_item(alloc, spare, state, stream, &mut ahead) {
         Ok(item) => {
             stream.pass(ahead);
             Ok(item)
@@ -256,6 +260,8 @@ fn next_item(
 pub struct Session {
     state: State,
     stream: Stream,
+    /// The memory of an item that was answered.
+    spare: SpareBytes,
 }
 
 impl Model for Session {
@@ -291,6 +297,7 @@ impl Session {
                 unfinished: None,
             },
             stream: Stream::new(alloc),
+            spare: SpareBytes::new(alloc),
         }
     }
 
@@ -335,7 +342,19 @@ impl Session {
         // was.
         ensures unchanged { OnWant result (self.new ≡ self.old) }
     {
-        next_item(alloc, &mut self.state, &mut self.stream)
+        next_item(alloc, &mut self.spare, &mut self.state, &mut self.stream)
+    }
+
+    /// Takes an item back after its answer. Its memory serves the next item, if it is at most
+    /// `KEPT_BYTES`, and is freed otherwise.
+    pub fn recycle(&mut self, item: Incoming)
+        ensures { self.new ≡ self.old }
+    {
+        let bytes = match item {
+            Incoming::Local(bytes) => bytes,
+            Incoming::Request(request) => request.body,
+        };
+        self.spare.keep(bytes.into_vec());
     }
 
     /// Whether the session holds no part of a PDU and no unfinished request.
@@ -361,6 +380,7 @@ impl Session {
     }
 
     /// Writes a body as the response fragments of a call.
+    #[inline(always)]
     pub fn reply<T: Sink>(
         &self,
         call: u32,

@@ -14,6 +14,7 @@ ghost use Rattle.rpc_session.specs.declared.state.Refusal.TheVariants.{OutOfMemo
 
 use crate::contexts::{Interface, answer_all};
 use crate::known::Known;
+use crate::spare::SpareBytes;
 use rpc_pdu::{Ack, Bind, FaultPdu, Nak, Pdu, RequestPdu, fault_pdu, write_pdu};
 use scm_text::{Items, OutOfMemory};
 use std::alloc::Global;
@@ -196,6 +197,7 @@ fn transmit(terms: Option<Terms>) -> u16
 }
 
 /// The item of a whole request, which is given back where there is no memory.
+#[inline(always)]
 fn item(alloc: Global, known: &Known, transmit: u16, u: Unfinished) -> Result<Incoming, Unfinished>
     ensures ok { IfOk result (λ item. item ≡ item_by
         (verdict_of known.now u.context u.opnum) transmit u) }
@@ -303,7 +305,12 @@ impl State {
     }
 
     /// Takes the first fragment of a request.
-    fn begin(&mut self, alloc: Global, r: &RequestPdu<&[u8]>) -> Result<Option<Incoming>, Refusal>
+    fn begin(
+        &mut self,
+        alloc: Global,
+        spare: &mut SpareBytes,
+        r: &RequestPdu<&[u8]>,
+    ) -> Result<Option<Incoming>, Refusal>
         requires bound { IsSome self.old.terms }
         requires free { self.old.unfinished ≡ None }
         ensures moved { Moved self.old self.new result
@@ -319,7 +326,7 @@ impl State {
             call: r.call,
             context: r.context,
             opnum: r.opnum,
-            body: Items::from_slice(alloc, r.stub)?,
+            body: spare.copy(alloc, r.stub)?,
         };
         if !r.last {
             self.unfinished = Some(request);
@@ -365,6 +372,7 @@ impl State {
     fn take_request(
         &mut self,
         alloc: Global,
+        spare: &mut SpareBytes,
         r: &RequestPdu<&[u8]>,
     ) -> Result<Option<Incoming>, Refusal>
         ensures moved { Moved self.old self.new result
@@ -379,7 +387,7 @@ impl State {
         match &self.unfinished {
             None => {
                 if r.first {
-                    self.begin(alloc, r)
+                    self.begin(alloc, spare, r)
                 } else {
                     Err(Refusal::Order)
                 }
@@ -394,16 +402,22 @@ impl State {
         }
     }
 
-    /// Takes a PDU: an item comes, or a fragment is joined. An `Err` leaves the state.
+    /// Takes a PDU: an item comes, or a fragment is joined. An `Err` leaves the state. The body of
+    /// a request lies in the spare memory if that is large enough.
     #[tactic(auto, unfolding(crate::specs::Moves::session_move))]
-    pub fn take(&mut self, alloc: Global, pdu: &Pdu<&[u8]>) -> Result<Option<Incoming>, Refusal>
+    pub fn take(
+        &mut self,
+        alloc: Global,
+        spare: &mut SpareBytes,
+        pdu: &Pdu<&[u8]>,
+    ) -> Result<Option<Incoming>, Refusal>
         ensures moved { Moved self.old self.new result (session_move self.old (seen_pdu pdu.now)) }
         ensures room { FitsSize self.old.terms → FitsSize self.new.terms }
         ensures kept { IfSome self.old.terms (λ terms. self.new.terms ≡ Some terms) }
         ensures transmit { IfOk result (IsFor self.new.terms) }
     {
         match pdu {
-            Pdu::Request(request) => self.take_request(alloc, request),
+            Pdu::Request(request) => self.take_request(alloc, spare, request),
             Pdu::Bind(bind) => self.take_bind(alloc, bind),
             Pdu::Alter(bind) => self.take_alter(alloc, bind),
             _ => Err(Refusal::Order),
