@@ -20,7 +20,8 @@ use Rattle.decimal_words.specs.Numbers.{decimal_number, if_below, number_below}
 use Rattle.decimal_words.proofs.Numbers.{number_is}
 use Rattle.child_link.specs.Words.{words_in, nth_word, word_code, word_number}
 use Rattle.child_link.specs.declared.lines.Reported.{Reported}
-use Rattle.child_link.specs.Lines.{IsLineOf, IsReport, fields_of, front_of, line_text, naming_fields, naming_in, numbers_in, report_in}
+use Rattle.scm_model.specs.Statuses.{status_numbers}
+use Rattle.child_link.specs.Lines.{IsLineOf, IsReport, front_of, line_text, naming_fields, naming_in, numbers_in, report_in}
 use Rattle.child_link.specs.Lines.{numbers_text, reported_of, stated, status_of_words}
 use Rattle.child_link.proofs.Splits.{IsOneWord, none_of, same_some, none_some, split_joined}
 
@@ -144,7 +145,7 @@ joined_short word (n ∷ numbers) wide =
 
 -- words that are read as a status are its numbers
 abbrev AreOf : List (List ℕ) → Status → Type 0
-AreOf words status = (words ≡ map decimal (fields_of status)) × AreSmall (fields_of status)
+AreOf words status = (words ≡ map decimal (status_numbers status)) × AreSmall (status_numbers status)
 
 status_read : (words : List (List ℕ)) (status : Status) → status_of_words words ≡ Some status → AreOf words status
 unfolding status_of_words
@@ -170,14 +171,14 @@ status_read words status e =
       A.0 ∙ ap (λ ws. decimal a.0 ∷ ws) (B.0 ∙ ap (λ ws. decimal b.0 ∷ ws) (C.0
           ∙ ap (λ ws. decimal c.0 ∷ ws) (D.0 ∙ ap (λ ws. decimal d.0 ∷ ws)
           (F.0 ∙ ap (λ ws. decimal f.0 ∷ ws) (G.0 ∙ ap (λ ws. decimal g.0 ∷ ws) (H.0 ∙ ap (λ ws. decimal h.0 ∷ ws) L)))))),
-      All-from_recursion (λ n. n < 2 ^ 32) (fields_of made) (A.1, (B.1, (C.1, (D.1, (F.1, (G.1, (H.1, tt))))))),
+      All-from_recursion (λ n. n < 2 ^ 32) (status_numbers made) (A.1, (B.1, (C.1, (D.1, (F.1, (G.1, (H.1, tt))))))),
     )
 
 -- and the numbers of a status are read as it
-status_again : (status : Status) → AreSmall (fields_of status) → status_of_words (map decimal (fields_of status)) ≡ Some status
+status_again : (status : Status) → AreSmall (status_numbers status) → status_of_words (map decimal (status_numbers status)) ≡ Some status
 unfolding status_of_words
 status_again status small =
-    let h = recursion_from_All (λ n. n < 2 ^ 32) (fields_of status) small in
+    let h = recursion_from_All (λ n. n < 2 ^ 32) (status_numbers status) small in
     rw (
       number_again status.kind h.0,
       number_again status.state h.1.0,
@@ -196,7 +197,7 @@ eight_is_none words eight = none_of (status_of_words words) (λ status e. omega 
 
 -- the numbers of a report's line
 abbrev HasNumbers : Reported → List ℕ → Type 0
-HasNumbers report numbers = (numbers ≡ naming_fields report) ⊎ ((report.service ≡ 0) × (numbers ≡ fields_of report.status))
+HasNumbers report numbers = (numbers ≡ naming_fields report) ⊎ ((report.service ≡ 0) × (numbers ≡ status_numbers report.status))
 
 -- words that are read as a report are its numbers
 record AreRead (words : List (List ℕ)) (report : Reported) : Type 0 where
@@ -204,7 +205,7 @@ record AreRead (words : List (List ℕ)) (report : Reported) : Type 0 where
   has : HasNumbers report numbers
   words_are : words ≡ map decimal numbers
   service : report.service < 2 ^ 64
-  small : AreSmall (fields_of report.status)
+  small : AreSmall (status_numbers report.status)
 
 naming_read : (words : List (List ℕ)) (report : Reported) → naming_in words ≡ Some report → AreRead words report
 unfolding naming_in
@@ -232,7 +233,7 @@ either_read words report (Some status) is e =
     let made : Reported = reported_of 0 status in
     subst (AreRead words) (same_some made report e)
     (record {
-      numbers = fields_of status;
+      numbers = status_numbers status;
       has = inr (refl, refl);
       words_are = h.0;
       service = omega arith;
@@ -244,14 +245,14 @@ unfolding numbers_in
 numbers_read words report e = either_read words report (status_of_words words) refl e
 
 -- and the numbers of a report are read as it
-naming_again : (report : Reported) → report.service < 2 ^ 64 → AreSmall (fields_of report.status)
+naming_again : (report : Reported) → report.service < 2 ^ 64 → AreSmall (status_numbers report.status)
     → naming_in (map decimal (naming_fields report)) ≡ Some report
 unfolding naming_in
 naming_again report service small =
     rw (number_is (decimal report.service) report.service service refl, status_again report.status small) refl
 
 numbers_again : (report : Reported) (numbers : List ℕ) → HasNumbers report numbers → report.service < 2 ^ 64
-    → AreSmall (fields_of report.status)
+    → AreSmall (status_numbers report.status)
     → numbers_in (map decimal numbers) ≡ Some report
 unfolding numbers_in
 numbers_again report numbers (inl named) service small =
@@ -269,7 +270,7 @@ record IsRead (text : List ℕ) (report : Reported) : Type 0 where
   has : HasNumbers report numbers
   text_is : text ≡ numbers_text numbers
   service : report.service < 2 ^ 64
-  small : AreSmall (fields_of report.status)
+  small : AreSmall (status_numbers report.status)
 
 words_read : (words : List (List ℕ)) (report : Reported) → report_in words ≡ Some report → IsRead (join_with_byte 32 words) report
 unfolding report_in
@@ -291,16 +292,17 @@ text_read text report e =
     subst (λ t. IsRead t report) (join_with_byte-slice_split 32 text) (words_read (words_in (Some text)) report e)
 
 -- the numbers of a report's line are few, and of 64 bits
-wide_in : (report : Reported) (numbers : List ℕ) → HasNumbers report numbers → report.service < 2 ^ 64 → AreSmall (fields_of report.status)
-    → AreWide numbers × (length numbers ≤ 8)
+wide_in : (report : Reported) (numbers : List ℕ) → HasNumbers report numbers → report.service < 2 ^ 64
+    → AreSmall (status_numbers report.status) → AreWide numbers × (length numbers ≤ 8)
 wide_in report numbers (inl named) service small =
+    let wide = are_wide (status_numbers report.status) small in
     subst (λ ns. AreWide ns × (length ns ≤ 8)) (sym named)
-    (All-cons (λ n. n < 2 ^ 64) report.service (fields_of report.status) service (are_wide (fields_of report.status) small), omega arith)
+    (All-cons (λ n. n < 2 ^ 64) report.service (status_numbers report.status) service wide, omega arith)
 wide_in report numbers (inr bare) service small =
-    subst (λ ns. AreWide ns × (length ns ≤ 8)) (sym bare.1) (are_wide (fields_of report.status) small, omega arith)
+    subst (λ ns. AreWide ns × (length ns ≤ 8)) (sym bare.1) (are_wide (status_numbers report.status) small, omega arith)
 
 text_again : (report : Reported) (numbers : List ℕ) → HasNumbers report numbers → report.service < 2 ^ 64
-    → AreSmall (fields_of report.status)
+    → AreSmall (status_numbers report.status)
     → report_in (words_in (Some (numbers_text numbers))) ≡ Some report
 unfolding report_in
 text_again report numbers has service small =
@@ -362,7 +364,7 @@ line_short line text short (inl ends) = omega (arith, short, ap length ends ∙ 
 line_short line text short (inr ends) = omega (arith, short, ap length ends ∙ length-append text (13 ∷ 10 ∷ []))
 
 stated_again : (line : List ℕ) (report : Reported) (numbers : List ℕ) → HasNumbers report numbers → report.service < 2 ^ 64
-    → AreSmall (fields_of report.status) → IsLineOf (numbers_text numbers) line
+    → AreSmall (status_numbers report.status) → IsLineOf (numbers_text numbers) line
     → stated line ≡ Some report
 unfolding stated
 stated_again line report numbers has service small ends =
@@ -377,11 +379,12 @@ pub read_back : (line : List ℕ) (report : Reported) → IsReport line report �
 read_back line report h =
     ⊎_elim (λ (named : IsLineOf (numbers_text (naming_fields report)) line).
     stated_again line report (naming_fields report) (inl refl) h.service h.small named)
-    (λ (bare : (report.service ≡ 0) × IsLineOf (numbers_text (fields_of report.status)) line).
-    stated_again line report (fields_of report.status) (inr (bare.0, refl)) h.service h.small bare.1) h.text
+    (λ (bare : (report.service ≡ 0) × IsLineOf (numbers_text (status_numbers report.status)) line).
+    stated_again line report (status_numbers report.status) (inr (bare.0, refl)) h.service h.small bare.1) h.text
 
 text_of : (line : List ℕ) (report : Reported) (numbers : List ℕ) → HasNumbers report numbers → IsLineOf (numbers_text numbers) line
-    → IsLineOf (numbers_text (naming_fields report)) line ⊎ ((report.service ≡ 0) × IsLineOf (numbers_text (fields_of report.status)) line)
+    → IsLineOf (numbers_text (naming_fields report)) line
+    ⊎ ((report.service ≡ 0) × IsLineOf (numbers_text (status_numbers report.status)) line)
 text_of line report numbers (inl named) ends = inl (subst (λ ns. IsLineOf (numbers_text ns) line) named ends)
 text_of line report numbers (inr bare) ends = inr (bare.0, subst (λ ns. IsLineOf (numbers_text ns) line) bare.1 ends)
 

@@ -9,14 +9,11 @@ use Rattle.scm_model.specs.declared.flat.Order.{Order}
 use Rattle.scm_model.specs.declared.flat.Status.{Status}
 use Rattle.scm_model.specs.declared.steps.Step.{Step}
 use Rattle.scm_model.specs.declared.steps.Step.TheVariants.{Report}
+use Rattle.scm_model.specs.Statuses.{status_numbers}
 use Rattle.child_link.specs.Words.{words_in, nth_word, word_code, word_number}
 use Rattle.child_link.specs.declared.lines.Reported.{Reported}
 
 -- ## Reports
-
--- the numbers of a status, in the order of SERVICE_STATUS
-abbrev pub fields_of : Status → List ℕ
-fields_of s = s.kind ∷ s.state ∷ s.accepted ∷ s.win32 ∷ s.specific ∷ s.checkpoint ∷ s.hint ∷ []
 
 abbrev pub reported_of : ℕ → Status → Reported
 reported_of service status = record { service = service; status = status }
@@ -27,11 +24,11 @@ numbers_text numbers = join_with_byte 32 (codes "STATUS" ∷ map decimal numbers
 
 -- the report of a status, which names no service
 abbrev pub report_text : Status → List ℕ
-report_text status = numbers_text (fields_of status)
+report_text status = numbers_text (status_numbers status)
 
 -- the numbers of a report that names its service
 abbrev pub naming_fields : Reported → List ℕ
-naming_fields report = report.service ∷ fields_of report.status
+naming_fields report = report.service ∷ status_numbers report.status
 
 -- numbers in decimal form, each after a space
 abbrev pub spaced : List ℕ → List ℕ
@@ -44,7 +41,7 @@ IsLineOf text line = (line ≡ text ++ 10 ∷ []) ⊎ (line ≡ text ++ 13 ∷ 1
 -- a line is a report: the service's number and the status, or the status alone, which names service 0
 pub record IsReport (line : List ℕ) (report : Reported) : Type 0 where
   pub service : report.service < 2 ^ 64
-  pub small : All (λ n. n < 2 ^ 32) (fields_of report.status)
+  pub small : All (λ n. n < 2 ^ 32) (status_numbers report.status)
   pub text : IsLineOf (numbers_text (naming_fields report)) line ⊎ ((report.service ≡ 0) × IsLineOf (report_text report.status) line)
   pub short : length line ≤ 4096
 

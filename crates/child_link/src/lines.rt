@@ -320,18 +320,9 @@ fn add_numbers(line: &mut Items<u8>, numbers: &[u32]) -> Result<(), OutOfMemory>
 pub fn report_line(alloc: Global, status: &Status) -> Result<Items<u8>, OutOfMemory>
     ensures { IfOk result (λ line. line ≡ report_text status.now ++ 10 ∷ []) }
 {
-    let numbers = [
-        status.kind,
-        status.state,
-        status.accepted,
-        status.win32,
-        status.specific,
-        status.checkpoint,
-        status.hint,
-    ];
     let mut line = Items::new(alloc);
     line.append(b"STATUS")?;
-    add_numbers(&mut line, &numbers)?;
+    add_numbers(&mut line, &status.numbers())?;
     line.append(b"\n")?;
     Ok(line)
 }

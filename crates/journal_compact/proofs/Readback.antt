@@ -36,7 +36,8 @@ can_create_all front [] begins fits = tt
 can_create_all front (config ∷ configs) begins fits =
     let next = subst CanBegin (sym (append_assoc front (config ∷ []) configs)) begins in
     let can = created_can front config (begins_front (front ++ config ∷ []) configs next) in
-    (All-head HasCreated config configs fits, can, can_create_all (front ++ config ∷ []) configs next (All-tail HasCreated config configs fits))
+    let more = can_create_all (front ++ config ∷ []) configs next (All-tail HasCreated config configs fits) in
+    (All-head HasCreated config configs fits, can, more)
 
 come_to : (front configs : List Config) → replayed front (map (held_in Second) (created_all configs)) ≡ front ++ configs
 come_to front [] = sym (append-nil front)

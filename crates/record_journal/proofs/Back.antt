@@ -38,8 +38,10 @@ name_back name fits =
 
 change_back : (form : Form) (change : Change) → HasEntryIn form change
     → change_in form (entry_kind change) (body_in form change) ≡ Some (held_in form change)
-change_back First (Created config) entry = ap (λ (r : Result Config ℕ). option_map Created (if_read r)) (config_back First config entry.body)
-change_back First (Changed config) entry = ap (λ (r : Result Config ℕ). option_map Changed (if_read r)) (config_back First config entry.body)
+change_back First (Created config) entry = ap (λ (r : Result Config ℕ). option_map Created (if_read r))
+    (config_back First config entry.body)
+change_back First (Changed config) entry = ap (λ (r : Result Config ℕ). option_map Changed (if_read r))
+    (config_back First config entry.body)
 change_back First (Removed name) entry = ap (λ (r : Result (List ℕ) ℕ). option_map Removed (if_read r)) (name_back name entry.body)
 change_back Second (Created config) entry = ap (λ (r : Result Config ℕ). option_map Created (if_read r))
     (config_back Second config entry.body)

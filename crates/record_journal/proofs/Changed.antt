@@ -1,7 +1,7 @@
 -- A journal with a changed byte is read with all its bytes, or not at all.
 use Rattle.std.proofs.Common.{ℕ, zero, suc, ◌≡◌, ◌∙◌, ◌<◌, ◌≤◌, ◌-◌, ◌+◌, ◌==◌, ◌||◌, not, Bool, true, false, cond, List, [], ◌∷◌, ◌++◌}
-use Rattle.std.proofs.Common.{◌&&◌, Option, None, Some, Ok, Err, take, drop, set, length, length-append, append_assoc, append-nil, refl, sym, ap}
-use Rattle.std.proofs.Common.{subst, arith, nat_lt, ltb-false, ltb-true, eqb, eqb-true, ne_eqb, ⊎_elim}
+use Rattle.std.proofs.Common.{◌&&◌, Option, None, Some, Ok, Err, take, drop, set, length, length-append, append_assoc, append-nil, refl}
+use Rattle.std.proofs.Common.{sym, ap, subst, arith, nat_lt, ltb-false, ltb-true, eqb, eqb-true, ne_eqb, ⊎_elim}
 use Rattle.std.specs.Prelude.{Result, is_ok, option_and_then, option_map}
 use Rattle.std.specs.Int.{w32, from_le_bytes}
 use Rattle.std.specs.List.{flat_map, starts_with}
@@ -120,7 +120,8 @@ abbrev HaveEntries : Form → List Change → Type 0
 HaveEntries form [] = Unit {0}
 HaveEntries form (change ∷ changes) = HasEntryIn form change × HaveEntries form changes
 
-have_entries : (form : Form) (configs : List Config) (changes : List Change) → AreReplayableIn form configs changes → HaveEntries form changes
+have_entries : (form : Form) (configs : List Config) (changes : List Change) → AreReplayableIn form configs changes
+    → HaveEntries form changes
 have_entries form configs [] can = tt
 have_entries form configs (change ∷ changes) can = (can.0, have_entries form (after_change configs (held_in form change)) changes can.2)
 
@@ -430,7 +431,8 @@ second_as_first : (c : Config) → IsConfig c → take_config_1 (encoding c) ≡
 second_as_first c fits = config_again_1 c (end c) (fits_1 c fits)
 
 not_whole : (form : Form) (c : Config) → HasConfig form c → if_read (whole_in (other form) (config_in form c)) ≡ None
-not_whole First c fits = ap if_read (whole_is Second (encoding_1 c)) ∙ ap (λ (r : Item Config). if_read (r >>= ended)) (first_as_second c fits)
+not_whole First c fits =
+    ap if_read (whole_is Second (encoding_1 c)) ∙ ap (λ (r : Item Config). if_read (r >>= ended)) (first_as_second c fits)
 not_whole Second c fits =
     let some : (length (end c) == 0) ≡ false = ne_eqb (length (end c)) 0
     (λ q. absurd (let long = end_long c in omega (arith, q, long))) in

@@ -146,7 +146,8 @@ reads_first bytes part second first =
     let old = all_from First [] (drop 8 bytes) in
     let new = all_from Second [] (drop 8 bytes) in
     let of_first = starts_with eqb bytes (header_of First) in
-    ap (λ b. replay_of size [] (cond b (Ok (none_more Second size)) (cond (starts_with eqb bytes header) new (cond of_first old none)))) part
+    let whole = cond (starts_with eqb bytes header) new (cond of_first old none) in
+    ap (λ b. replay_of size [] (cond b (Ok (none_more Second size)) whole)) part
     ∙ ap (λ b. replay_of size [] (cond b new (cond of_first old none))) second
     ∙ ap (λ b. replay_of size [] (cond b old none)) first
     ∙ ap (λ (rest : List ℕ). replay_of size [] (all_from First [] rest)) (sym (rest_of bytes))

@@ -47,7 +47,7 @@ pub record Stood : Type 0 where
 abbrev pub stood : Form → List ℕ → Stood
 stood form bytes = record { bytes = bytes; form = form }
 
--- bytes that end in this form, where they are told
+-- bytes that end in this form, if they are known
 abbrev pub stood_in : Form → Option (List ℕ) → Option Stood
 stood_in form told = option_map (stood form) told
 

@@ -4,12 +4,10 @@ ghost use Rattle.std.specs.Prelude.{is_some, option_copied, option_to_list};
 ghost use Rattle.std.specs.Prelude.{IfNone, IfOk, OnErr, OnOk};
 ghost use Rattle.std.specs.List.{AllByRecursion, list_any};
 ghost use Rattle.scm_text.specs.Fold.{same_text};
-ghost use Rattle.scm_model.specs.Changes.{new_service};
 ghost use Rattle.scm_model.specs.declared.steps.Change.TheVariants.{Created, Changed};
 ghost use Rattle.row_slab.specs.Rowed.{AreRisingBy};
 ghost use Rattle.record_table.specs.Recorded.{first_with, is_displayed, is_named, number_of};
 ghost use Rattle.record_table.specs.Recorded.{reserved};
-ghost use Rattle.scm_rules.specs.Create.{new_status};
 ghost use Rattle.record_journal.specs.Entries.{can_replay, has_name, is_fit, shows_as};
 ghost use Rattle.record_journal.specs.Opening.{CanBegin};
 ghost use Rattle.record_journal.specs.Replay.{after_change, replaced_by};
@@ -17,8 +15,7 @@ ghost use Rattle.record_journal.specs.Services.{configs_of};
 
 use crate::numbered::closes;
 use record_table::RecordTable;
-use scm_model::codes::{ERROR_SERVICE_NEVER_STARTED, SERVICE_STOPPED};
-use scm_model::{Change, Config, Service, Status};
+use scm_model::{Change, Config, Service};
 use scm_text::{Buffer, Items, OutOfMemory, WText, same};
 use service_record::check_new;
 use std::alloc::Global;
@@ -165,32 +162,6 @@ fn can_replay(
     }
 }
 
-/// A service that never ran.
-fn never_run(alloc: Global, number: u64, config: Config) -> Service
-    ensures { result ≡ new_service number config (new_status config.kind) }
-{
-    let status = Status {
-        kind: config.kind,
-        state: SERVICE_STOPPED,
-        accepted: 0,
-        win32: ERROR_SERVICE_NEVER_STARTED,
-        specific: 0,
-        checkpoint: 0,
-        hint: 0,
-    };
-    Service {
-        number,
-        config,
-        status,
-        marked: false,
-        process: 0,
-        failures: 0,
-        last_failure: 0,
-        asked: false,
-        security: Items::new(alloc),
-    }
-}
-
 /// Makes room for a service with this configuration, and gives it a number.
 fn reserve_number(table: &mut RecordTable, config: &Config) -> Result<u64, OutOfMemory>
     ensures ok { OnOk result (table.new ≡ reserved table.old config.now) }
@@ -210,7 +181,7 @@ fn create(table: &mut RecordTable, alloc: Global, config: Config) -> Result<(), 
 {
     match reserve_number(table, &config) {
         Ok(number) => {
-            table.insert(never_run(alloc, number, config));
+            table.insert(Service::never_run(alloc, number, config));
             Ok(())
         }
         Err(OutOfMemory) => {

@@ -23,8 +23,8 @@ enum Place<F: Drop> {
     File(F),
 }
 
-/// Bytes in a file, or in memory where none is opened. It tells nothing of them, and says nothing of
-/// crashes: a plain file may lose its end in one, or have other bytes there. What it appends or
+/// Bytes in a file, or in memory where none is opened. It tells nothing of them, and says nothing
+/// of crashes: a plain file may lose its end in one, or have other bytes there. What it appends or
 /// cuts has reached the disk before it answers. It holds the file alone, by an exclusive lock that
 /// ends with it: a file that another process or keeper holds can't be opened.
 #[derive(Drop)]

@@ -9,7 +9,7 @@ use Rattle.rpc_pdu.specs.declared.pdu.Pdu.{Pdu}
 use Rattle.rpc_pdu.specs.declared.pdu.PduKind.{PduKind}
 use Rattle.rpc_pdu.specs.declared.pdu.PduRead.TheVariants.{Whole, Short, Bad as BadPdu}
 use Rattle.rpc_pdu.specs.Pdu.{pdu_at}
-use Rattle.rpc_session.specs.Pdus.{Cut, CutEnd, Nothing, Part, BadAt, no_more, onto, pdus_behind, pdus_from}
+use Rattle.rpc_session.specs.Pdus.{Cut, CutEnd, Nothing, Part, BadAt, no_more, onto, pdus_after, pdus_from}
 use Rattle.rpc_session.proofs.Telling.{whole_first, bad_first, short_first}
 use Rattle.sc_words.specs.declared.command.Command.{Command}
 use Rattle.sc_client.specs.declared.held.Held.{Held}
@@ -82,7 +82,7 @@ no_pdu c t h kind goes is stays = λ text more.
 
 from_part : (c : Command) (t : Talk) (place : ℕ) (bytes : List ℕ) (needed : ℕ) → is_over c t ≡ false → pdu_at Client bytes ≡ Short needed
     → (text : List ℕ) → followed_of c (pdus_from Client place bytes) t text ≡ record { talk = t; text = text; ending = Early }
-unfolding pdus_behind
+unfolding pdus_after
 from_part c t place [] needed goes is = λ text. at_end c Nothing t text goes
 from_part c t place (b ∷ bytes) needed goes is = λ text.
     ap (λ cut. followed_of c cut t text) (short_first Client place b bytes needed is) ∙ at_end c Part t text goes

@@ -1,21 +1,10 @@
 ghost use Rattle.std.specs.Prelude.{◌≡◌, ◌≤◌, ◌<◌, ◌^◌, ◌++◌, IfOk, OnOk, drop, length, take};
-ghost use Rattle.sc_client.specs.Requests.{bind_text, fragmented, opnum_of, request_fragment};
+ghost use Rattle.sc_client.specs.Requests.{bind_text, fragmented, request_fragment};
 ghost use Rattle.sc_client.specs.Requests.{request_fragments, request_text};
 
 use rpc_pdu::{Bind, Pdu, RequestPdu, write_pdu};
 use scm_bodies::write_request;
 use scm_model::Request;
-use scm_model::codes::{
-    R_CHANGE_SERVICE_CONFIG_W, R_CHANGE_SERVICE_CONFIG2_W, R_CLOSE_NOTIFY_HANDLE,
-    R_CLOSE_SERVICE_HANDLE, R_CONTROL_SERVICE, R_CREATE_SERVICE_W, R_DELETE_SERVICE,
-    R_ENUM_DEPENDENT_SERVICES_W, R_ENUM_SERVICES_STATUS_W, R_GET_NOTIFY_RESULTS,
-    R_GET_SERVICE_DISPLAY_NAME_W, R_GET_SERVICE_KEY_NAME_W, R_LOCK_SERVICE_DATABASE,
-    R_NOTIFY_SERVICE_STATUS_CHANGE, R_OPEN_SC_MANAGER_W, R_OPEN_SERVICE_W,
-    R_QUERY_SERVICE_CONFIG_W, R_QUERY_SERVICE_CONFIG2_W, R_QUERY_SERVICE_LOCK_STATUS_W,
-    R_QUERY_SERVICE_OBJECT_SECURITY, R_QUERY_SERVICE_STATUS, R_QUERY_SERVICE_STATUS_EX,
-    R_SET_SERVICE_OBJECT_SECURITY, R_SET_SERVICE_STATUS, R_START_SERVICE_W,
-    R_UNLOCK_SERVICE_DATABASE,
-};
 use scm_text::{Items, OutOfMemory};
 use std::alloc::Global;
 
@@ -58,40 +47,6 @@ pub fn bind_text(alloc: Global) -> Result<Items<u8>, OutOfMemory>
     };
     write_pdu(&Pdu::Bind(bind), &mut text)?;
     Ok(text)
-}
-
-/// The method of a request.
-fn opnum_of(request: &Request) -> u16
-    ensures { result ≡ opnum_of request.now }
-{
-    match request {
-        Request::Close { .. } => R_CLOSE_SERVICE_HANDLE,
-        Request::Control { .. } => R_CONTROL_SERVICE,
-        Request::Delete { .. } => R_DELETE_SERVICE,
-        Request::Lock { .. } => R_LOCK_SERVICE_DATABASE,
-        Request::QuerySecurity { .. } => R_QUERY_SERVICE_OBJECT_SECURITY,
-        Request::SetSecurity { .. } => R_SET_SERVICE_OBJECT_SECURITY,
-        Request::QueryStatus { .. } => R_QUERY_SERVICE_STATUS,
-        Request::SetStatus { .. } => R_SET_SERVICE_STATUS,
-        Request::Unlock { .. } => R_UNLOCK_SERVICE_DATABASE,
-        Request::Change(_) => R_CHANGE_SERVICE_CONFIG_W,
-        Request::Create(_) => R_CREATE_SERVICE_W,
-        Request::OpenManager { .. } => R_OPEN_SC_MANAGER_W,
-        Request::OpenService { .. } => R_OPEN_SERVICE_W,
-        Request::QueryConfig { .. } => R_QUERY_SERVICE_CONFIG_W,
-        Request::QueryLock { .. } => R_QUERY_SERVICE_LOCK_STATUS_W,
-        Request::Start { .. } => R_START_SERVICE_W,
-        Request::DisplayName { .. } => R_GET_SERVICE_DISPLAY_NAME_W,
-        Request::KeyName { .. } => R_GET_SERVICE_KEY_NAME_W,
-        Request::EnumDependents { .. } => R_ENUM_DEPENDENT_SERVICES_W,
-        Request::EnumServices { .. } => R_ENUM_SERVICES_STATUS_W,
-        Request::Change2 { .. } => R_CHANGE_SERVICE_CONFIG2_W,
-        Request::QueryConfig2 { .. } => R_QUERY_SERVICE_CONFIG2_W,
-        Request::QueryStatusEx { .. } => R_QUERY_SERVICE_STATUS_EX,
-        Request::Notify { .. } => R_NOTIFY_SERVICE_STATUS_CHANGE,
-        Request::GetNotify { .. } => R_GET_NOTIFY_RESULTS,
-        Request::CloseNotify { .. } => R_CLOSE_NOTIFY_HANDLE,
-    }
 }
 
 /// The front of some bytes in a fragment, and the rest after it.
@@ -163,5 +118,5 @@ pub fn request_text(alloc: Global, call: u32, request: &Request) -> Result<Items
     if u32::try_from(body.len()).is_err() {
         return Err(OutOfMemory);
     }
-    fragmented(alloc, call, opnum_of(request), body.as_slice())
+    fragmented(alloc, call, request.opnum(), body.as_slice())
 }

@@ -81,11 +81,11 @@ pub fn rows<'a>(
         if rest.len() < size {
             return Ok(found);
         }
-        let (row, behind) = rest.split_at(size);
+        let (row, after) = rest.split_at(size);
         if found.push(row).is_err() {
             return Err(OutOfMemory);
         }
-        rest = behind;
+        rest = after;
     }
     Ok(found)
 }

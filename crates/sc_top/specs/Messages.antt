@@ -1,5 +1,5 @@
 -- The names and the sentences of codes (MS-ERREF, "Win32 Error Codes").
-use Rattle.std.specs.Prelude.{ℕ, ◌==◌, nat_lt, List, codes, if◌then◌else◌}
+use Rattle.std.specs.Prelude.{ℕ, ◌==◌, ◌++◌, nat_lt, List, codes, if◌then◌else◌}
 use Rattle.scm_model.specs.declared.codes.TheConstants.{ERROR_ACCESS_DENIED, ERROR_CANTWRITE, ERROR_CIRCULAR_DEPENDENCY}
 use Rattle.scm_model.specs.declared.codes.TheConstants.{ERROR_DATABASE_DOES_NOT_EXIST, ERROR_DEPENDENT_SERVICES_RUNNING}
 use Rattle.scm_model.specs.declared.codes.TheConstants.{ERROR_DUPLICATE_SERVICE_NAME, ERROR_FILE_NOT_FOUND, ERROR_GEN_FAILURE}
@@ -46,8 +46,12 @@ start_message code =
     else if code == ERROR_SERVICE_NO_THREAD then codes "ERROR_SERVICE_NO_THREAD: A thread could not be created for the service."
     else if code == ERROR_SERVICE_DATABASE_LOCKED then codes "ERROR_SERVICE_DATABASE_LOCKED: The service database is locked."
     else if code == ERROR_SERVICE_ALREADY_RUNNING then codes "ERROR_SERVICE_ALREADY_RUNNING: An instance of the service is already running."
-    else if code == ERROR_INVALID_SERVICE_ACCOUNT then codes "ERROR_INVALID_SERVICE_ACCOUNT: The account name is invalid or does not exist, or the password is invalid for the account name specified."
-    else if code == ERROR_SERVICE_DISABLED then codes "ERROR_SERVICE_DISABLED: The service cannot be started, either because it is disabled or because it has no enabled devices associated with it."
+    else if code == ERROR_INVALID_SERVICE_ACCOUNT
+    then codes "ERROR_INVALID_SERVICE_ACCOUNT: The account name is invalid or does not exist, "
+    ++ codes "or the password is invalid for the account name specified."
+    else if code == ERROR_SERVICE_DISABLED
+    then codes "ERROR_SERVICE_DISABLED: The service cannot be started, either because it is disabled "
+    ++ codes "or because it has no enabled devices associated with it."
     else if code == ERROR_CIRCULAR_DEPENDENCY then codes "ERROR_CIRCULAR_DEPENDENCY: Circular service dependency was specified."
     else if code == ERROR_SERVICE_DOES_NOT_EXIST
     then codes "ERROR_SERVICE_DOES_NOT_EXIST: The specified service does not exist as an installed service."

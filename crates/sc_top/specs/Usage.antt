@@ -6,10 +6,16 @@ use Rattle.sc_words.specs.declared.verb.Verb.{Verb}
 use Rattle.sc_words.specs.declared.verb.Verb.TheVariants as verb
 use Rattle.sc_words.specs.Words.{verb_named}
 
+-- what a creation and a change may state of a service
+abbrev pub configuration : List ℕ
+configuration =
+    codes "[type= own|share] [start= auto|demand|disabled|delayed-auto] [error= ignore|normal|severe|critical] "
+    ++ codes "[group= GROUP] [tag= yes|no] [depend= NAME/+GROUP/...] [DisplayName= NAME] [obj= LocalSystem]"
+
 -- a verb and its arguments
 abbrev pub usage : Verb → List ℕ
-usage verb.Create = codes "create NAME binPath= PATH [type= own|share] [start= auto|demand|disabled|delayed-auto] [error= ignore|normal|severe|critical] [group= GROUP] [tag= yes|no] [depend= NAME/+GROUP/...] [DisplayName= NAME] [obj= LocalSystem]"
-usage verb.Config = codes "config NAME [binPath= PATH] [type= own|share] [start= auto|demand|disabled|delayed-auto] [error= ignore|normal|severe|critical] [group= GROUP] [tag= yes|no] [depend= NAME/+GROUP/...] [DisplayName= NAME] [obj= LocalSystem]"
+usage verb.Create = codes "create NAME binPath= PATH " ++ configuration
+usage verb.Config = codes "config NAME [binPath= PATH] " ++ configuration
 usage verb.Description = codes "description NAME TEXT"
 usage verb.Failure = codes "failure NAME [reset= SECONDS|INFINITE actions= none|restart|reboot|run/MILLISECONDS/...] [command= TEXT]"
 usage verb.Start = codes "start NAME [ARGUMENT ...]"

@@ -203,5 +203,5 @@ by_units [] e = tt
 by_units (x ∷ xs) e = let p = or_none (x == 0) (list_any (λ u. u == 0) xs) e in (some_unit x p.0, by_units xs p.1)
 
 -- where no unit is 0
-pub none_is_zero : (xs : List ℕ) → list_any (λ u. u == 0) xs ≡ false → All (λ u. 0 < u) xs
-none_is_zero xs e = All-from_recursion (λ u. 0 < u) xs (by_units xs e)
+pub no_zero : (xs : List ℕ) → list_any (λ u. u == 0) xs ≡ false → All (λ u. 0 < u) xs
+no_zero xs e = All-from_recursion (λ u. 0 < u) xs (by_units xs e)

@@ -12,15 +12,15 @@ use Rattle.scm_model.specs.declared.codes.TheConstants.{DELETE, MAX_CONFIG_SIZE,
 use Rattle.scm_model.specs.declared.codes.TheConstants.{SC_MANAGER_CREATE_SERVICE, SC_MANAGER_ENUMERATE_SERVICE}
 use Rattle.scm_model.specs.declared.codes.TheConstants.{SC_MANAGER_QUERY_LOCK_STATUS, SC_STATUS_PROCESS_INFO}
 use Rattle.scm_model.specs.declared.codes.TheConstants.{SERVICE_CONFIG_DELAYED_AUTO_START_INFO, SERVICE_CONFIG_DESCRIPTION}
-use Rattle.scm_model.specs.declared.codes.TheConstants.{SERVICE_CONFIG_FAILURE_ACTIONS, SERVICE_CONFIG_FAILURE_ACTIONS_FLAG, SERVICE_CONFIG_TRIGGER_INFO}
-use Rattle.scm_model.specs.declared.codes.TheConstants.{SERVICE_ENUMERATE_DEPENDENTS, SERVICE_QUERY_CONFIG, SERVICE_STATE_ALL}
-use Rattle.scm_model.specs.declared.codes.TheConstants.{SERVICE_WIN32_SHARE_PROCESS, SERVICE_ALL_ACCESS, SERVICE_AUTO_START}
-use Rattle.scm_model.specs.declared.codes.TheConstants.{SERVICE_CHANGE_CONFIG, SERVICE_CONTROL_CONTINUE, SERVICE_CONTROL_INTERROGATE}
-use Rattle.scm_model.specs.declared.codes.TheConstants.{SERVICE_CONTROL_NETBINDDISABLE, SERVICE_CONTROL_PARAMCHANGE, SERVICE_CONTROL_PAUSE}
-use Rattle.scm_model.specs.declared.codes.TheConstants.{SERVICE_CONTROL_STOP, SERVICE_DEMAND_START, SERVICE_DISABLED, SERVICE_ERROR_NORMAL}
-use Rattle.scm_model.specs.declared.codes.TheConstants.{SERVICE_INTERROGATE, SERVICE_NO_CHANGE, SERVICE_PAUSE_CONTINUE}
-use Rattle.scm_model.specs.declared.codes.TheConstants.{SERVICE_QUERY_STATUS, SERVICE_START, SERVICE_STOP, SERVICE_USER_DEFINED_CONTROL}
-use Rattle.scm_model.specs.declared.codes.TheConstants.{SERVICE_WIN32_OWN_PROCESS}
+use Rattle.scm_model.specs.declared.codes.TheConstants.{SERVICE_CONFIG_FAILURE_ACTIONS, SERVICE_CONFIG_FAILURE_ACTIONS_FLAG}
+use Rattle.scm_model.specs.declared.codes.TheConstants.{SERVICE_CONFIG_TRIGGER_INFO, SERVICE_ENUMERATE_DEPENDENTS, SERVICE_QUERY_CONFIG}
+use Rattle.scm_model.specs.declared.codes.TheConstants.{SERVICE_STATE_ALL, SERVICE_WIN32_SHARE_PROCESS, SERVICE_ALL_ACCESS}
+use Rattle.scm_model.specs.declared.codes.TheConstants.{SERVICE_AUTO_START, SERVICE_CHANGE_CONFIG, SERVICE_CONTROL_CONTINUE}
+use Rattle.scm_model.specs.declared.codes.TheConstants.{SERVICE_CONTROL_INTERROGATE, SERVICE_CONTROL_NETBINDDISABLE}
+use Rattle.scm_model.specs.declared.codes.TheConstants.{SERVICE_CONTROL_PARAMCHANGE, SERVICE_CONTROL_PAUSE, SERVICE_CONTROL_STOP}
+use Rattle.scm_model.specs.declared.codes.TheConstants.{SERVICE_DEMAND_START, SERVICE_DISABLED, SERVICE_ERROR_NORMAL, SERVICE_INTERROGATE}
+use Rattle.scm_model.specs.declared.codes.TheConstants.{SERVICE_NO_CHANGE, SERVICE_PAUSE_CONTINUE, SERVICE_QUERY_STATUS, SERVICE_START}
+use Rattle.scm_model.specs.declared.codes.TheConstants.{SERVICE_STOP, SERVICE_USER_DEFINED_CONTROL, SERVICE_WIN32_OWN_PROCESS}
 use Rattle.sec_desc.specs.declared.codes.TheConstants.{DACL_SECURITY_INFORMATION, READ_CONTROL}
 use Rattle.sc_words.specs.declared.calls.Heard.{Heard}
 use Rattle.sc_words.specs.declared.calls.Heard.TheVariants as heard

@@ -26,7 +26,9 @@ use scm_model::codes::{
     SERVICE_QUERY_CONFIG, SERVICE_QUERY_STATUS, SERVICE_START, SERVICE_STATE_ALL, SERVICE_STOP,
     SERVICE_USER_DEFINED_CONTROL, SERVICE_WIN32_OWN_PROCESS, SERVICE_WIN32_SHARE_PROCESS,
 };
-use scm_model::{Action, ChangeService, Info, NewService, Reply, Request, TriggerIn, copy_texts};
+use scm_model::{
+    Action, Apart, ChangeService, Info, NewService, Reply, Request, TriggerIn, copy_texts,
+};
 use scm_text::{Items, OutOfMemory, WText};
 use sec_desc::codes::{DACL_SECURITY_INFORMATION, READ_CONTROL};
 use std::alloc::Global;
@@ -391,14 +393,14 @@ impl Command {
                     return Ok(delay(handle, settings));
                 }
                 let new = creation(alloc, &self.name, settings, handle)?;
-                Ok(Request::Create(new))
+                Ok(Request::Create(Apart::new(alloc, new)?))
             }
             Task::Config(settings) => {
                 if method == Method::ChangeServiceConfig2 {
                     return Ok(delay(handle, settings));
                 }
                 let change = change(alloc, settings, handle)?;
-                Ok(Request::Change(change))
+                Ok(Request::Change(Apart::new(alloc, change)?))
             }
             Task::Description(text) => Ok(Request::Change2 {
                 handle,

@@ -387,10 +387,10 @@ pub fn closed(task: &Task, heard: &[Heard]) -> usize
     ensures { result ≡ closed task.now heard.now }
 {
     let taken = progress_of(calls_of(task), heard).taken;
-    let behind = heard.len().saturating_sub(taken);
+    let left = heard.len().saturating_sub(taken);
     match stage_of(task, heard) {
         Stage::Asks(_) => 0,
-        Stage::Failed(_, _) => behind.saturating_sub(1),
-        Stage::Done => behind,
+        Stage::Failed(_, _) => left.saturating_sub(1),
+        Stage::Done => left,
     }
 }

@@ -15,7 +15,7 @@ use sc_lines::{
     Appended, Line, add_config, add_description, add_failure, add_flag, add_lines, add_listing,
     add_lock, add_process, add_security, add_status, add_triggers, is_on,
 };
-use scm_model::{Reply, Shown};
+use scm_model::{Apart, Reply, Shown};
 use scm_text::{Items, OutOfMemory, WText};
 use std::alloc::Global;
 
@@ -102,7 +102,7 @@ fn add_some_config(
     text: &mut Items<u8>,
     alloc: Global,
     name: &WText,
-    config: &Option<Shown>,
+    config: &Option<Apart<Shown>>,
     bytes: &[u8],
 ) -> Appended
     ensures { OnOk result (text.new ≡ text.old ++ shown_text name.now config.now bytes.now) }

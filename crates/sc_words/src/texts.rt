@@ -23,7 +23,7 @@ fn has_zero(units: &[u16]) -> bool
 }
 
 /// A word as a text, if no unit of it is 0.
-#[tactic(auto, unfolding(crate::specs::Texts::word_text), using(crate::proofs::Lists::none_is_zero))]
+#[tactic(auto, unfolding(crate::specs::Texts::word_text), using(crate::proofs::Lists::no_zero))]
 pub fn word_text(alloc: Global, word: &str) -> Result<Option<WText>, OutOfMemory>
     ensures { IfOk result (λ text. text ≡ word_text word.now) }
 {

@@ -8,7 +8,7 @@ use Rattle.record_journal.specs.declared.opening.JournalFault.TheVariants as fau
 use Rattle.record_journal.specs.declared.replaying.Replay.{Replay}
 use Rattle.journal_compact.specs.Compact.{compact_replay, compact_text}
 
--- what holds of a content before and now, if it is told
+-- what holds of a content before and now, if it is known
 abbrev pub IfHeld : (List ℕ → List ℕ → Type 0) → (old now : Option (List ℕ)) → Type 0
 IfHeld P None now = Unit {0}
 IfHeld P (Some old) None = ⊥
@@ -38,7 +38,7 @@ pub record HasJournalCause {T : Type 0} (before now : ℕ) (result : Result T Jo
 
 -- ## Its compact text
 
--- a text is the compact text of the replay of a journal, if that is told, and its own replay has the same configurations
+-- a text is the compact text of the replay of a journal, if that is known, and its own replay has the same configurations
 pub record IsCompactOf (journal : Option (List ℕ)) (bytes : List ℕ) : Type 0 where
   pub replay : Replay
   pub read : IfSome journal (λ stood. read_journal stood ≡ Ok replay)

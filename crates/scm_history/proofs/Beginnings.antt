@@ -15,7 +15,6 @@ use Rattle.scm_model.specs.declared.steps.Kept.{Kept}
 use Rattle.scm_model.specs.declared.steps.Step.{Step}
 use Rattle.scm_model.specs.declared.steps.Step.TheVariants.{Call, Report, Ended, LaunchTaken, ControlTaken}
 use Rattle.scm_model.specs.Changes.{with_moment}
-use Rattle.scm_model.specs.Outcomes.{CallResult}
 use Rattle.scm_model.specs.Purge.{purged}
 use Rattle.scm_model.specs.Rows.{is_caller, held_service}
 use Rattle.start_plan.specs.Decided.{code_of, is_numbered}
@@ -27,7 +26,6 @@ use Rattle.scm_rules.specs.Needs.{start_order}
 use Rattle.scm_rules.specs.Reports.{report_answer, report_told, reporting}
 use Rattle.scm_rules.specs.Start.{new_plan, start_done, start_verdict, with_plan, with_start}
 use Rattle.scm_rules.specs.Steps.{answered_by, at_moment, effect_of, finished, left_by, may, step_of}
-use Rattle.scm_rules.specs.Verdicts.{told_refused}
 use Rattle.scm_runs.proofs.Along.{Gives}
 use Rattle.scm_runs.proofs.Handles.{not_nobody}
 use Rattle.scm_runs.proofs.Plans.{IsPlan, all_weaker}
@@ -36,6 +34,7 @@ use Rattle.scm_history.specs.Begun.{BeginsOwn, LawOfBegun, IsPlanFor}
 use Rattle.scm_history.specs.Plans.{IsPlanOf}
 use Rattle.scm_history.proofs.Lasting.{sides}
 use Rattle.scm_history.proofs.Plans.{IsThere, caller_in, lasts, target_in}
+use Rattle.scm_history.proofs.Refusals.{start_refused}
 use Rattle.scm_model.specs.Found.{if_found}
 use Rattle.scm_runs.proofs.Founds.{control_begins, launch_begins}
 use Rattle.scm_runs.proofs.Calls.{start_held}
@@ -98,10 +97,7 @@ of_start l f moment caller handle words append s there =
     let g = with_moment f moment in
     let number = f.next.plan in
     let done = start_done g caller handle words in
-    let refusal : CallResult = record {
-      reply = told_refused g caller (request.Start handle words) (start_verdict g caller handle words);
-      flat = g;
-    } in
+    let refusal = start_refused g caller handle words in
     elim (start_verdict g caller handle words == 0) as (λ b. (start_verdict g caller handle words == 0) ≡ b
     → IfSome (plan_made (finished (settled l (cond b done refusal).flat)
     (cond b (answer.Begun number) (answer.Reply (cond b done refusal).reply))).answer)

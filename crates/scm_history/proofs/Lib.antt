@@ -4,6 +4,7 @@ pub mod Effects
 pub mod Processes
 pub mod Callers
 pub mod Lasting
+pub mod Refusals
 pub mod Numbers
 pub mod Plans
 pub mod Begun

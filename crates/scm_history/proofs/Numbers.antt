@@ -3,7 +3,6 @@ use Rattle.std.proofs.Common.{ℕ, ◌≡◌, ◌∙◌, ◌<◌, ◌≤◌, ◌
 use Rattle.std.proofs.Common.{arith, leb, leb-true, leb-false, eqb-true, unwrap_or, []}
 use Rattle.std.specs.Prelude.{IfSome, is_some}
 use Rattle.scm_model.specs.declared.flat.Flat.{Flat}
-use Rattle.scm_model.specs.Outcomes.{CallResult}
 use Rattle.scm_model.specs.declared.flat.Limits.{Limits}
 use Rattle.scm_model.specs.declared.flat.Plan.{Plan}
 use Rattle.scm_model.specs.declared.calls.Request.{Request}
@@ -31,6 +30,7 @@ use Rattle.scm_history.proofs.Finds.{find_push, is_some-map, none_filter}
 use Rattle.scm_history.proofs.Lasting.{Allows, Lasts, coded_sides, end_none, of_step, report_none, settled_sides, sides, control_none}
 use Rattle.scm_history.proofs.Lasting.{launch_none}
 use Rattle.scm_history.proofs.Processes.{after_effect, none_effect, process_rises}
+use Rattle.scm_history.proofs.Refusals.{start_refused}
 use Rattle.scm_runs.proofs.Frames.{framed}
 use Rattle.scm_model.specs.Found.{if_found}
 use Rattle.scm_runs.proofs.Founds.{opened_keeps, started_keeps, notify_apart}
@@ -127,10 +127,7 @@ begun_call : (l : Limits) (f : Flat) (moment caller : ℕ) (asked : Request) (ap
 begun_call l f moment caller (request.Start handle words) append =
     let g = with_moment f moment in
     let done = start_done g caller handle words in
-    let refusal : CallResult = record {
-      reply = told_refused g caller (request.Start handle words) (start_verdict g caller handle words);
-      flat = g;
-    } in
+    let refusal = start_refused g caller handle words in
     elim (start_verdict g caller handle words == 0) as (λ b. (start_verdict g caller handle words == 0) ≡ b
     → IfSome (plan_made (cond b (answer.Begun f.next.plan) (answer.Reply (cond b done refusal).reply)))
     (IsGiven f.next.plan (cond b done refusal).flat.next.plan)) [

@@ -21,6 +21,7 @@ use Rattle.scm_rules.specs.Reports.{reporting}
 use Rattle.scm_rules.specs.Launches.{currents, first_wanted, launched_if, taken_if, with_fallen, without_process}
 use Rattle.scm_rules.specs.Steps.{at_moment, effect_of, step_of}
 use Rattle.scm_runs.proofs.Along.{Gives}
+use Rattle.scm_runs.proofs.Effects.{process_up}
 use Rattle.scm_runs.proofs.Frames.{finished_keeps}
 use Rattle.scm_runs.proofs.Lists.{map_same}
 use Rattle.scm_runs.proofs.Sound.{Sound}
@@ -28,7 +29,7 @@ use Rattle.scm_rules.specs.Named.{names_process, takes_process, is_it}
 use Rattle.scm_history.specs.Places.{PlacesStay, process_numbers, those_not_meant, those_that_stay}
 use Rattle.scm_history.specs.Processes.{apart_from_controls}
 use Rattle.scm_history.proofs.Effects.{of_call, of_raise, released_apart, sent_apart}
-use Rattle.scm_history.proofs.Processes.{IsOf, launches, process_effect, takes}
+use Rattle.scm_history.proofs.Processes.{IsOf, launches, takes}
 use Rattle.std.proofs.lemmas.Bool.{or_left}
 use Rattle.scm_model.proofs.Found.{found_keeps}
 use Rattle.scm_runs.proofs.Failing.{all_failing_apart, failing_apart}
@@ -243,7 +244,7 @@ effect_grown l f moment Tick = ticked_by (Grown f.next.process f.processes) l (r
   runs = λ g row there can h. one_grown f.next.process f.processes g 0 false h _ refl refl;
   reboots = λ g h. record { new = h.new; listed = h.listed; given = h.given; up = h.up };
 }) (with_moment f moment) (none_new f.next.process (with_moment f moment) (omega arith))
-effect_grown l f moment step = none_new f.next.process (effect_of l (at_moment f moment step) step).flat (process_effect l f moment step)
+effect_grown l f moment step = none_new f.next.process (effect_of l (at_moment f moment step) step).flat (process_up l f moment step)
 
 step_grown : (l : Limits) (f : Flat) (moment : ℕ) (step : Step) → Grown f.next.process (rows_left l f moment step)
     (step_of l f moment step).flat

@@ -22,6 +22,7 @@ use Rattle.scm_rules.specs.Reports.{reporting}
 use Rattle.scm_rules.specs.Launches.{currents, first_wanted, launched_if, process_of, taken_if, with_fallen, without_process}
 use Rattle.scm_rules.specs.Steps.{at_moment, effect_of, finished, step_of}
 use Rattle.scm_runs.proofs.Along.{Gives}
+use Rattle.scm_runs.proofs.Effects.{process_up}
 use Rattle.scm_runs.proofs.Frames.{finished_keeps}
 use Rattle.scm_runs.proofs.Lists.{find_filter}
 use Rattle.scm_runs.proofs.Sound.{Sound}
@@ -209,28 +210,6 @@ none_effect l f moment (Raised caller subtype) number low none =
     ∙ none
 none_effect l f moment step number low none = none
 
--- it gives back no number
-pub process_effect : (l : Limits) (f : Flat) (moment : ℕ) (step : Step)
-    → f.next.process ≤ (effect_of l (at_moment f moment step) step).flat.next.process
-process_effect l f moment (Call caller asked append) = (let e = (of_call l (with_moment f moment) caller asked append).next_process in
-    omega (arith, e))
-process_effect l f moment (Report process service status) = failing_apart (λ (g : Flat). f.next.process ≤ g.next.process)
-    (failed_by status (reporting f process service)) _ (omega arith)
-process_effect l f moment (Ended process) =
-    all_failing_apart (λ (g : Flat). f.next.process ≤ g.next.process) (currents process f.services)
-    (with_fallen (with_moment f moment) process ERROR_PROCESS_ABORTED) (omega arith)
-process_effect l f moment Tick =
-    ticked_by (λ (g : Flat). f.next.process ≤ g.next.process) l
-    (record {
-      spends = λ g row is up. up;
-      starts = λ g row there can up. up;
-      runs = λ g row there can up. omega (arith, up);
-      reboots = λ g up. up;
-    }) (with_moment f moment) (omega arith)
-process_effect l f moment (Raised caller subtype) = (let e = (of_raise l (with_moment f moment) caller subtype).next_process in
-    omega (arith, e))
-process_effect l f moment step = omega arith
-
 -- ## Settling
 
 stays_as : (l : Limits) (bound number : ℕ) (row : Option Process) → number < bound → Keeps l (IsAs bound number row) (λ plan. Unit {0})
@@ -261,7 +240,7 @@ pub after_effect : (l : Limits) (f : Flat) (moment : ℕ) (step : Step) (number 
     → process_of (step_of l f moment step).flat number ≡ process_of (effect_of l (at_moment f moment step) step).flat number
 after_effect l f moment step number low =
     let done = effect_of l (at_moment f moment step) step in
-    finished_as (settled l done.flat) done.answer number ∙ settled_as l done.flat f.next.process number low (process_effect l f moment step)
+    finished_as (settled l done.flat) done.answer number ∙ settled_as l done.flat f.next.process number low (process_up l f moment step)
 
 -- ## Steps
 
@@ -292,4 +271,4 @@ process_rises l f moment step =
     let done = effect_of l (at_moment f moment step) step in
     finished_keeps (λ g. f.next.process ≤ g.next.process) (λ g plans h. h) (settled l done.flat) done.answer
     (keeps_all l (λ g. f.next.process ≤ g.next.process) (λ plan. Unit {0}) (up l f.next.process) done.flat done.flat.plans
-    (process_effect l f moment step) (all_units done.flat.plans)).flat
+    (process_up l f moment step) (all_units done.flat.plans)).flat

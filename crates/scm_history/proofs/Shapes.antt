@@ -17,7 +17,6 @@ use Rattle.scm_model.specs.declared.steps.Kept.{Kept}
 use Rattle.scm_model.specs.declared.steps.Step.{Step}
 use Rattle.scm_model.specs.declared.steps.Step.TheVariants.{Call, EndStart, Report, Ended, ControlTaken, LaunchTaken, Raised}
 use Rattle.scm_model.specs.Changes.{with_moment}
-use Rattle.scm_model.specs.Outcomes.{CallResult}
 use Rattle.start_plan.specs.Decided.{code_of}
 use Rattle.start_plan.specs.Settle.{settled}
 use Rattle.status_machine.specs.Moves.{takes}
@@ -31,6 +30,7 @@ use Rattle.scm_runs.proofs.Along.{Gives}
 use Rattle.scm_runs.proofs.Calls.{by_verdict}
 use Rattle.scm_runs.proofs.Sound.{Sound}
 use Rattle.scm_history.specs.Shapes.{HasShape, IsAnswered, IsReplied, LawOfShapes, is_reply_to, IsControl, is_notice, is_page}
+use Rattle.scm_history.proofs.Refusals.{start_refused}
 use Rattle.scm_runs.proofs.Founds.{launch_is}
 use Rattle.scm_runs.proofs.Processes.{first_of}
 use Rattle.scm_rules.specs.Launches.{currents, first_wanted, is_by}
@@ -84,10 +84,7 @@ of_call : (l : Limits) (f : Flat) (moment caller : ℕ) (asked : Request) (appen
 of_call l f moment caller (request.Start handle words) append =
     let g = with_moment f moment in
     let done = start_done g caller handle words in
-    let refusal : CallResult = record {
-      reply = told_refused g caller (request.Start handle words) (start_verdict g caller handle words);
-      flat = g;
-    } in
+    let refusal = start_refused g caller handle words in
     elim (start_verdict g caller handle words == 0) as (λ b. IsAnswered f (request.Start handle words)
     (finished (settled l (cond b done refusal).flat) (cond b (answer.Begun f.next.plan)
     (answer.Reply (cond b done refusal).reply))).answer) [

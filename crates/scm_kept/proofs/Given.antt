@@ -173,54 +173,46 @@ changed_units f change old fits is = record {
   triggers = is.triggers;
 }
 
-with_flags : (old : Config) (on_exit delayed : Bool) (triggers : List Trigger) → All IsTrigger triggers → HasUnits old
-    → HasUnits (record old { on_exit = on_exit; delayed = delayed; triggers = triggers })
-with_flags old on_exit delayed triggers each is = record {
+-- a configuration in which a change at one level may be new
+with_level : (old : Config) {description command : List ℕ} {reset : ℕ} {actions : List Action} {on_exit delayed : Bool}
+    {triggers : List Trigger} → HasUnits old → AreUnits description → FitsNumber reset → All FitsDelay actions → AreUnits command
+    → All IsTrigger triggers → HasUnits (record old {
+      description = description;
+      reset = reset;
+      actions = actions;
+      command = command;
+      on_exit = on_exit;
+      delayed = delayed;
+      triggers = triggers;
+    })
+with_level old is description reset actions command triggers = record {
   name = is.name;
   display = is.display;
   path = is.path;
   group = is.group;
   tag = is.tag;
   needs = is.needs;
-  description = is.description;
-  reset = is.reset;
-  actions = is.actions;
-  command = is.command;
-  triggers = each;
+  description = description;
+  reset = reset;
+  actions = actions;
+  command = command;
+  triggers = triggers;
 }
+
+with_flags : (old : Config) (on_exit delayed : Bool) (triggers : List Trigger) → All IsTrigger triggers → HasUnits old
+    → HasUnits (record old { on_exit = on_exit; delayed = delayed; triggers = triggers })
+with_flags old on_exit delayed triggers each is = with_level old is is.description is.reset is.actions is.command each
 
 with_actions : (old : Config) (reset : ℕ) (actions : List Action) (command : Option (List ℕ)) → FitsNumber reset → All FitsDelay actions
     → IsTextIn command → HasUnits old
     → HasUnits (record old { reset = reset; actions = actions; command = unwrap_or command old.command })
-with_actions old reset actions command fits each given is = record {
-  name = is.name;
-  display = is.display;
-  path = is.path;
-  group = is.group;
-  tag = is.tag;
-  needs = is.needs;
-  description = is.description;
-  reset = fits;
-  actions = each;
-  command = given_or command old.command given is.command;
-  triggers = is.triggers;
-}
+with_actions old reset actions command fits each given is =
+    with_level old is is.description fits each (given_or command old.command given is.command) is.triggers
 
 with_description : (old : Config) (text : Option (List ℕ)) → IsTextIn text → HasUnits old
     → HasUnits (record old { description = unwrap_or text old.description })
-with_description old text given is = record {
-  name = is.name;
-  display = is.display;
-  path = is.path;
-  group = is.group;
-  tag = is.tag;
-  needs = is.needs;
-  description = given_or text old.description given is.description;
-  reset = is.reset;
-  actions = is.actions;
-  command = is.command;
-  triggers = is.triggers;
-}
+with_description old text given is =
+    with_level old is (given_or text old.description given is.description) is.reset is.actions is.command is.triggers
 
 -- a subtype that is absent is of 16 bytes too
 subtype_is : (given : Option (List ℕ)) → IfSome given IsSubtype → IsSubtype (unwrap_or given zero_subtype)

@@ -14,8 +14,8 @@ use Rattle.scm_model.specs.declared.steps.Form.{Form}
 use Rattle.scm_model.specs.declared.steps.Form.TheVariants.{First, Second}
 use Rattle.record_journal.specs.Bearing.{Borne, Stood, Tail, piece_after}
 use Rattle.record_journal.specs.declared.journal.Journal.{Journal}
-use Rattle.record_journal.specs.Entries.{IsPart, all_from, can_replay, entries_from, first_of, is_part_header, last_of, none_more, read_journal}
-use Rattle.record_journal.specs.Entries.{replay_of}
+use Rattle.record_journal.specs.Entries.{IsPart, all_from, can_replay, entries_from, first_of, is_part_header, last_of, none_more}
+use Rattle.record_journal.specs.Entries.{read_journal, replay_of}
 use Rattle.record_journal.specs.Format.{HasEntry, entry_bytes, header, header_of, switch, turn_from}
 use Rattle.record_journal.specs.Replay.{after_change}
 use Rattle.record_journal.proofs.Back.{switch_back}
@@ -53,7 +53,8 @@ parted_behind head tail front more is long =
     let size = length-take-le n front long in
     let all : head ++ tail ≡ take n front ++ (drop n front ++ more) = is
     ∙ ap (λ (xs : List ℕ). xs ++ more) (sym (take-append-drop n front)) ∙ append_assoc (take n front) (drop n front) more in
-    let same : head ≡ take n front = sym (take_at head tail n refl) ∙ ap (take n) all ∙ take_at (take n front) (drop n front ++ more) n size in
+    let same : head ≡ take n front = sym (take_at head tail n refl) ∙ ap (take n) all
+    ∙ take_at (take n front) (drop n front ++ more) n size in
     record {
       headed = sym (take-append-drop n front) ∙ ap (λ (xs : List ℕ). xs ++ drop n front) (sym same);
       rest = sym (drop_at head tail n refl) ∙ ap (drop n) all ∙ drop_at (take n front) (drop n front ++ more) n size;

@@ -73,13 +73,15 @@ change_read form kind body change fits =
     let second = cond (kind == 2) (option_map Changed (if_read (whole_in form body))) other in
     elim (kind == 1) as (λ b. cond b (option_map Created (if_read (whole_in form body))) second ≡ Some change → HasFields change) [
       | true ↦ λ e. config_read Created (λ config is. is) form body change (whole_in form body) fits refl e
-      | false ↦ elim (kind == 2) as (λ b. cond b (option_map Changed (if_read (whole_in form body))) other ≡ Some change → HasFields change) [
-        | true ↦ λ e. config_read Changed (λ config is. is) form body change (whole_in form body) fits refl e
-        | false ↦ elim (kind == 3) as (λ b. cond b (option_map Removed (if_read (name_of body))) None ≡ Some change → HasFields change) [
-          | true ↦ λ e. name_read change (name_of body) e
-          | false ↦ λ e. absurd cc
-        ]
-      ]
+      | false ↦ elim (kind == 2) as
+          (λ b. cond b (option_map Changed (if_read (whole_in form body))) other ≡ Some change → HasFields change) [
+            | true ↦ λ e. config_read Changed (λ config is. is) form body change (whole_in form body) fits refl e
+            | false ↦ elim (kind == 3) as
+                (λ b. cond b (option_map Removed (if_read (name_of body))) None ≡ Some change → HasFields change) [
+                  | true ↦ λ e. name_read change (name_of body) e
+                  | false ↦ λ e. absurd cc
+                ]
+          ]
     ]
 
 same_said : (a b : Said) → Some a ≡ Some b → a ≡ b
@@ -188,7 +190,10 @@ entries_fit bytes fits =
       | false ↦ elim (starts_with eqb bytes header) as (λ b. HaveFields (cond b (all_from Second [] (drop 8 bytes)) first)) [
         | true ↦ all_read Second bytes fits
         | false ↦ elim (starts_with eqb bytes (header_of First)) as
-            (λ b. HaveFields (cond b (all_from First [] (drop 8 bytes)) (Err (length bytes)))) [ true ↦ all_read First bytes fits | false ↦ tt ]
+            (λ b. HaveFields (cond b (all_from First [] (drop 8 bytes)) (Err (length bytes)))) [
+              | true ↦ all_read First bytes fits
+              | false ↦ tt
+            ]
       ]
     ]
 

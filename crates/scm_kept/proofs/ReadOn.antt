@@ -14,9 +14,9 @@ use Rattle.scm_model.specs.declared.steps.Form.{Form}
 use Rattle.scm_model.specs.declared.steps.Form.TheVariants.{First, Second}
 use Rattle.service_record.specs.Reading.{Item, take_number}
 use Rattle.record_journal.specs.Bearing.{Stood, piece_after, stood}
-use Rattle.record_journal.specs.Entries.{Entries, Whole, after_said, all_from, can_replay, entries, entries_from, first_of, followed, form_after}
-use Rattle.record_journal.specs.Entries.{if_read, is_part_header, is_unfinished, last_of, none_more, read_journal, replay_of, replayable, said_in}
-use Rattle.record_journal.specs.Entries.{whole_entry, with_body, with_change, with_said}
+use Rattle.record_journal.specs.Entries.{Entries, Whole, after_said, all_from, can_replay, entries, entries_from, first_of, followed}
+use Rattle.record_journal.specs.Entries.{form_after, if_read, is_part_header, is_unfinished, last_of, none_more, read_journal, replay_of}
+use Rattle.record_journal.specs.Entries.{replayable, said_in, whole_entry, with_body, with_change, with_said}
 use Rattle.record_journal.specs.Format.{HasEntry, entry_bytes, entry_in, header, header_of, piece, switch, turn_from}
 use Rattle.record_journal.specs.Replay.{after_change, replayed}
 use Rattle.record_journal.specs.declared.reading.Said.{Said}
@@ -160,7 +160,8 @@ behind form configs bytes whole (Says change) later p done r = record {
   left = r.left;
   count = suc r.count;
   few = one_longer p.front r.front r.count p.some r.few;
-  any = λ m x. entry_first (further r.count m) form configs bytes whole (Says change) r.front x p done ∙ ap (with_change change) (r.any m x);
+  any = λ m x.
+      entry_first (further r.count m) form configs bytes whole (Says change) r.front x p done ∙ ap (with_change change) (r.any m x);
 }
 behind form configs bytes whole Turns later p done r = record {
   front = p.front ++ r.front;
@@ -230,7 +231,8 @@ standing_with bytes form configs x more left after s reads =
     let read : all_from s.first [] rest ≡ Ok (record { changes = s.changes ++ more; left = left; form = after }) =
     ap (λ n. entries_from n s.first [] rest) (sym all) ∙ s.any m x ∙ ap (with_changes s.changes) (reads m enough)
     ∙ with_are s.changes more left after in
-    let whole : bytes ++ x ≡ header_of s.first ++ rest = ap (λ (xs : List ℕ). xs ++ x) s.headed ∙ append_assoc (header_of s.first) s.front x in
+    let whole : bytes ++ x ≡ header_of s.first ++ rest = ap (λ (xs : List ℕ). xs ++ x) s.headed
+    ∙ append_assoc (header_of s.first) s.front x in
     let size = length (bytes ++ x) in
     ap (λ (xs : List ℕ). replay_of size [] (entries xs)) whole
     ∙ ap (replay_of size []) (headed s.first rest ∙ read)
@@ -305,7 +307,8 @@ of_header first rest replay is =
     let head = header_of first in
     let p = replay_is (length (head ++ rest)) (all_from first [] rest) replay is in
     let r = reaches (length rest) first [] rest p.0 p.1 in
-    let parts : head ++ rest ≡ (head ++ r.front) ++ r.last = ap (λ (xs : List ℕ). head ++ xs) r.parts ∙ sym (append_assoc head r.front r.last) in
+    let parts : head ++ rest ≡ (head ++ r.front) ++ r.last = ap (λ (xs : List ℕ). head ++ xs) r.parts
+    ∙ sym (append_assoc head r.front r.last) in
     let long = length-append (head ++ r.front) r.last in
     let size = ap length parts in
     let left = r.left in

@@ -116,7 +116,8 @@ pub alike_same : (a b : Config) → config_alike a b ≡ true → a ≡ b
 alike_same a b e =
     let parts = and_parts (front_alike a b && middle_alike a b) (end_alike a b) e in
     let both = and_parts (front_alike a b) (middle_alike a b) parts.0 in
-    let f5 = and_parts (is_text a.name b.name && is_text a.display b.display && a.kind == b.kind && a.start == b.start && a.error == b.error)
+    let f5 = and_parts
+    (is_text a.name b.name && is_text a.display b.display && a.kind == b.kind && a.start == b.start && a.error == b.error)
     (is_text a.path b.path) both.0 in
     let f4 = and_parts (is_text a.name b.name && is_text a.display b.display && a.kind == b.kind && a.start == b.start) (a.error == b.error)
     f5.0 in

@@ -70,9 +70,11 @@ pub fn what_a_run_keeps_is_read(
     ensures reopened { IsReopened (record { bytes = journal.now; form = form })
         limits.now opening.now steps.now }
     ensures left { (j : Journal) (now : List ℕ) →
-        IsLeftSo (record { bytes = journal.now; form = form }) limits.now opening.now steps.now j now }
+        IsLeftSo (record { bytes = journal.now; form = form })
+        limits.now opening.now steps.now j now }
     ensures cut { MayFollow limits.now opening.now steps.now next.now → (size : ℕ) →
-        IsReopenedCut (record { bytes = journal.now; form = form }) limits.now opening.now steps.now next.now.1 size }
+        IsReopenedCut (record { bytes = journal.now; form = form })
+        limits.now opening.now steps.now next.now.1 size }
 {
     bytes_fit(journal);
     steps_fit(steps.as_slice());

@@ -333,11 +333,11 @@ stopped_behind f g limit process service number is =
     let stop = order_to service 1 in
     elim (one_behind limit process stop number g.processes) as (λ _. IsStopped f
     (record g { processes = map (controlled_if limit process stop) g.processes }) number) [
-      | inl same ↦ record { orders = is.orders; only = is.only; behind = same ∙ is.behind }
+      | inl same ↦ record { orders = is.orders; only = is.only; appended = same ∙ is.appended }
       | inr more ↦ record {
         orders = is.orders ++ stop ∷ [];
         only = All-push (λ (order : Order). order.code ≡ 1) is.orders stop is.only refl;
-        behind = more ∙ ap (λ orders. orders ++ stop ∷ []) is.behind ∙ append_assoc (controls_of f number) is.orders (stop ∷ []);
+        appended = more ∙ ap (λ orders. orders ++ stop ∷ []) is.appended ∙ append_assoc (controls_of f number) is.orders (stop ∷ []);
       }
     ]
 
@@ -345,14 +345,14 @@ stops_raised : (l : Limits) (f : Flat) (moment caller : ℕ) (subtype : List ℕ
     → IsStopped f (step_of l f moment (Raised caller subtype)).flat number
 stops_raised l f moment caller subtype number =
     let is = raised_by (λ (g : Flat). IsStopped f g number) l subtype (record {
-      starts = λ g row there can s. record { orders = s.orders; only = s.only; behind = s.behind };
+      starts = λ g row there can s. record { orders = s.orders; only = s.only; appended = s.appended };
       stops = λ g row action there is which gets s. stopped_behind f g l.controls row.process row.number number s;
     }) (with_moment f moment) caller (record {
       orders = [];
       only = All-nil (λ (order : Order). order.code ≡ 1);
-      behind = sym (append-nil (controls_of f number));
+      appended = sym (append-nil (controls_of f number));
     }) in
-    record { orders = is.orders; only = is.only; behind = waiting_after l f moment (Raised caller subtype) number ∙ is.behind }
+    record { orders = is.orders; only = is.only; appended = waiting_after l f moment (Raised caller subtype) number ∙ is.appended }
 
 of_controls : (l : Limits) (f : Flat) (moment : ℕ) (step : Step) → IsValid l f → Known f → IsTrue (may l f moment step)
     → OfControls l f step (step_of l f moment step).answer (step_of l f moment step).flat

@@ -122,7 +122,7 @@ IsReleased before after report (Some row) = is_stopped_by report row ≡ true
 pub record IsStopped (before after : Flat) (number : ℕ) : Type 0 where
   pub orders : List Order
   pub only : All (λ (order : Order). order.code ≡ SERVICE_CONTROL_STOP) orders
-  pub behind : controls_of after number ≡ controls_of before number ++ orders
+  pub appended : controls_of after number ≡ controls_of before number ++ orders
 
 abbrev pub OfControls : Limits → Flat → Step → Answer → Flat → Type 0
 OfControls l before (Call caller (request.Control handle control) append) told after =

@@ -20,8 +20,9 @@ use Rattle.scm_model.specs.Outcomes.{CallResult}
 use Rattle.scm_model.specs.declared.codes.TheConstants.{ERROR_ACCESS_DENIED, ERROR_CIRCULAR_DEPENDENCY, ERROR_DUPLICATE_SERVICE_NAME}
 use Rattle.scm_model.specs.declared.codes.TheConstants.{ERROR_INVALID_HANDLE, ERROR_INVALID_NAME, ERROR_INVALID_PARAMETER}
 use Rattle.scm_model.specs.declared.codes.TheConstants.{ERROR_INVALID_SERVICE_ACCOUNT, ERROR_NOT_ENOUGH_QUOTA, ERROR_SERVICE_EXISTS}
-use Rattle.scm_model.specs.declared.codes.TheConstants.{ERROR_SERVICE_MARKED_FOR_DELETE, ERROR_SERVICE_NEVER_STARTED}
-use Rattle.scm_model.specs.declared.codes.TheConstants.{SC_MANAGER_CREATE_SERVICE, SERVICE_STOPPED}
+use Rattle.scm_model.specs.declared.codes.TheConstants.{ERROR_SERVICE_MARKED_FOR_DELETE}
+use Rattle.scm_model.specs.declared.codes.TheConstants.{SC_MANAGER_CREATE_SERVICE}
+pub use Rattle.scm_model.specs.Statuses.{new_status}
 use Rattle.service_record.specs.Checks.{check_new}
 use Rattle.scm_rules.specs.Rights.{manager_lacks}
 use Rattle.scm_rules.specs.OpenService.{service_granted}
@@ -74,18 +75,6 @@ created_config f new = tagged_config (tag_of f (unwrap_or new.group []) new.tag)
 -- whether a tag is asked for without a group
 abbrev pub tags_nothing : NewService → Bool
 tags_nothing new = is_some new.tag && length (unwrap_or new.group []) == 0
-
--- never run yet
-abbrev pub new_status : ℕ → Status
-new_status kind = record {
-  kind = kind;
-  state = SERVICE_STOPPED;
-  accepted = 0;
-  win32 = ERROR_SERVICE_NEVER_STARTED;
-  specific = 0;
-  checkpoint = 0;
-  hint = 0;
-}
 
 -- ## Refusals
 

@@ -19,7 +19,7 @@ use Rattle.scm_rules.specs.Rights.{manager_lacks}
 
 -- whether a service comes after a number, has one of the types and is in one of the states
 abbrev pub is_asked : ℕ → ℕ → ℕ → Service → Bool
-is_asked kinds states behind row = nat_lt behind row.number && not (bit_and kinds row.config.kind == 0) && is_in_states states row
+is_asked kinds states after row = nat_lt after row.number && not (bit_and kinds row.config.kind == 0) && is_in_states states row
 
 -- those after the number at which the call resumes, in order of their numbers
 abbrev pub services_asked : Flat → ℕ → ℕ → Option ℕ → List Service

@@ -17,9 +17,9 @@ state_of_behind : (l : Limits) (f : Flat) (front rest : List Entry) → run_stat
 state_of_behind l f [] rest = refl
 state_of_behind l f (e ∷ front) rest = state_of_behind l (step_of l f e.0 e.1).flat front rest
 
-pub state_behind : (l : Limits) (f : Flat) (front rest : List Entry) → state l f (front ++ rest) ≡ state l (state l f front) rest
+pub state_appended : (l : Limits) (f : Flat) (front rest : List Entry) → state l f (front ++ rest) ≡ state l (state l f front) rest
 unfolding state
-state_behind l f front rest = state_of_behind l f front rest
+state_appended l f front rest = state_of_behind l f front rest
 
 pub state_more : (l : Limits) (f : Flat) (es : List Entry) (e : Entry) → state l f (es ++ e ∷ []) ≡ (step_of l (state l f es) e.0 e.1).flat
 unfolding state
@@ -43,7 +43,7 @@ unfolding state
 state_is l f es = refl
 
 pub states : (l : Limits) (f : Flat) → LawOfStates l f
-states l f = record { none = state_none l f; more = state_more l f; behind = state_behind l f }
+states l f = record { none = state_none l f; more = state_more l f; appended = state_appended l f }
 
 pub answers : (l : Limits) (f : Flat) → LawOfAnswers l f
 answers l f = record { told = told l f; none = none_told l f }

@@ -12,6 +12,7 @@ use Rattle.scm_model.specs.declared.flat.Service.{Service}
 use Rattle.scm_model.specs.Processes.{is_shared, process_of}
 use Rattle.scm_model.specs.Purge.{leaves, purged}
 use Rattle.start_plan.specs.Hosting.{HaveNone, IsHosted, is_beside}
+use Rattle.start_plan.proofs.Hosting.{last_of}
 use Rattle.start_plan.specs.Hosts.{is_sharing}
 use Rattle.scm_runs.proofs.Sound.{Sound}
 
@@ -53,13 +54,6 @@ pub lives_stays : (g : Flat) (row : Service) → process_of g 0 ≡ None → (ro
 lives_stays g row zero none shared =
     stays_by row.marked _ row.status.state (ne_eqb row.status.state 1 (λ stopped. absurd (let one =
     sym (ap (λ n. is_shared (process_of g n)) (none stopped) ∙ ap is_shared zero) ∙ shared in cc)))
-
-last_of : (a b c d e : Bool) → (a && b && (c && d && e)) ≡ true → e ≡ true
-last_of true true true true e h = h
-last_of true true true false e h = absurd cc
-last_of true true false d e h = absurd cc
-last_of true false c d e h = absurd cc
-last_of false b c d e h = absurd cc
 
 -- whoever has its process beside this one stays
 beside_stays : (g : Flat) (row : Service) (rows : List Service) → process_of g 0 ≡ None

@@ -97,11 +97,13 @@ zip_map R g (x ∷ xs) each = (All-head (λ y. R y (g y)) x xs each, zip_map R g
 
 -- ## Services
 
-same_row : (f : Flat) (step : Step) (told : Answer) (row : Service) → marks f step told row.number ≡ false
-    → Remains f step told row row
-same_row f step told row unmarked = record {
+-- a service that changes only in whether it is marked, which the step says, and in whether it is to be told to start
+remains : (f : Flat) (step : Step) (told : Answer) (row : Service) (marked asked : Bool)
+    → marked ≡ (row.marked || marks f step told row.number)
+    → Remains f step told row (record row { marked = marked; asked = asked })
+remains f step told row marked asked is = record {
   same = record {
-    row = ap (λ (marked : Bool). record row { marked = marked }) (or_false row.marked ∙ ap (λ marked. row.marked || marked) (sym unmarked));
+    row = ap (λ (m : Bool). record row { marked = m; asked = asked }) is;
     state = λ same quiet. refl;
     config = λ other. (refl, refl);
     security = λ other. refl;
@@ -110,6 +112,11 @@ same_row f step told row unmarked = record {
   };
   process = λ quiet. inl refl;
 }
+
+same_row : (f : Flat) (step : Step) (told : Answer) (row : Service) → marks f step told row.number ≡ false
+    → Remains f step told row row
+same_row f step told row unmarked =
+    remains f step told row row.marked row.asked (or_false row.marked ∙ ap (λ marked. row.marked || marked) (sym unmarked))
 
 -- a step that changes rows one by one
 stood_mapped : (f : Flat) (step : Step) (told : Answer) (g : Service → Service) → ((row : Service) → (g row).number ≡ row.number)
@@ -382,17 +389,9 @@ stood_taken f step told moment found report none unmarked t =
 
 marked_row : (f : Flat) (caller handle : ℕ) (append : Kept) (one row : Service) → held_service f caller handle ≡ Some one
     → Remains f (Call caller (request.Delete handle) append) (answer.Reply (reply.Code 0)) row (marked_if one.number row)
-marked_row f caller handle append one row is = record {
-  same = record {
-    row = ap (λ found. record row { marked = row.marked || is_number_of found row.number }) (sym is);
-    state = λ same quiet. refl;
-    config = λ other. (refl, refl);
-    security = λ other. refl;
-    name = refl;
-    failures = λ fine. (refl, refl);
-  };
-  process = λ quiet. inl refl;
-}
+marked_row f caller handle append one row is =
+    remains f (Call caller (request.Delete handle) append) (answer.Reply (reply.Code 0)) row (row.marked || row.number == one.number)
+    row.asked (ap (λ found. row.marked || is_number_of found row.number) (sym is))
 
 stood_marked : (f : Flat) (moment caller handle : ℕ) (append : Kept) → Stood f (Call caller (request.Delete handle) append)
     (answer.Reply (reply.Code 0)) (delete_done (with_moment f moment) caller handle).flat.services
@@ -618,18 +617,8 @@ unasked_row : (f : Flat) (step : Step) (told : Answer) (number : ℕ) (row : Ser
     → Remains f step told row (unasked_if number row)
 unasked_row f step told number row unmarked =
     unasked_or (Remains f step told row) number row
-    (record {
-      same = record {
-        row = ap (λ (marked : Bool). record row { asked = false; marked = marked })
-            (or_false row.marked ∙ ap (λ marked. row.marked || marked) (sym (unmarked row.number)));
-        state = λ same quiet. refl;
-        config = λ other. (refl, refl);
-        security = λ other. refl;
-        name = refl;
-        failures = λ fine. (refl, refl);
-      };
-      process = λ quiet. inl refl;
-    }) (same_row f step told row (unmarked row.number))
+    (remains f step told row row.marked false (or_false row.marked ∙ ap (λ marked. row.marked || marked) (sym (unmarked row.number))))
+    (same_row f step told row (unmarked row.number))
 
 stood_sent : (f : Flat) (process : ℕ) (told : Answer) → Stood f (ControlTaken process) told (unasked_in (first_asked f process) f.services)
 stood_sent f process told =

@@ -168,21 +168,18 @@ Beside f g = g ≡ record f {
 pub still_beside : (f g : Flat) (n : ℕ) (words : List (List ℕ)) → Beside f g → Beside f (with_entered g n words)
 still_beside f g n words beside = at (host g n)
   where
+    with_rest : Flat → Flat
+    with_rest h = record h {
+      services = g.services;
+      processes = g.processes;
+      wanted = g.wanted;
+      registrations = g.registrations;
+      next = record h.next { process = g.next.process };
+    }
+
     at : (o : Option ℕ) → Beside f (entered_at g n words o)
-    at None = ap (λ (h : Flat). entered_at (record h {
-      services = g.services;
-      processes = g.processes;
-      wanted = g.wanted;
-      registrations = g.registrations;
-      next = record h.next { process = g.next.process };
-    }) n words None) beside
-    at (Some process) = ap (λ (h : Flat). entered_at (record h {
-      services = g.services;
-      processes = g.processes;
-      wanted = g.wanted;
-      registrations = g.registrations;
-      next = record h.next { process = g.next.process };
-    }) n words (Some process)) beside
+    at None = ap (λ (h : Flat). entered_at (with_rest h) n words None) beside
+    at (Some process) = ap (λ (h : Flat). entered_at (with_rest h) n words (Some process)) beside
 
 -- a process that was listed before the next one, or none
 abbrev AreOurs : ℕ → List Process → List Process → Type 0

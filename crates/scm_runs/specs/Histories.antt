@@ -1,4 +1,4 @@
--- What histories come to, in terms of their steps.
+-- What histories result in, in terms of their steps.
 use Rattle.std.specs.Prelude.{ℕ, ◌≡◌, ◌≤◌, ◌++◌, List, [], ◌∷◌, None, Some, length}
 use Rattle.scm_model.specs.declared.flat.Flat.{Flat}
 use Rattle.scm_model.specs.declared.flat.Limits.{Limits}
@@ -11,7 +11,7 @@ use Rattle.scm_rules.specs.Steps.{step_of}
 pub record LawOfStates (l : Limits) (f : Flat) : Type 0 where
   pub none : state l f [] ≡ f
   pub more : (es : List Entry) (e : Entry) → state l f (es ++ e ∷ []) ≡ (step_of l (state l f es) e.0 e.1).flat
-  pub behind : (front rest : List Entry) → state l f (front ++ rest) ≡ state l (state l f front) rest
+  pub appended : (front rest : List Entry) → state l f (front ++ rest) ≡ state l (state l f front) rest
 
 -- the answer to an entry is that of its step in the state before it, whatever comes later
 pub record LawOfAnswers (l : Limits) (f : Flat) : Type 0 where

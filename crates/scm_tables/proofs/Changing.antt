@@ -1,7 +1,6 @@
 -- What changes of processes do to a row, by its number.
-use Rattle.std.proofs.Common.{ℕ, ◌≡◌, ◌≢◌, ◌∙◌, ◌<◌, ◌≤◌, ◌+◌, ◌==◌, ◌&&◌, ◌||◌, ◌++◌, nat_lt, not, Bool, cond, true, false, List, [], ◌∷◌, Some}
-use Rattle.std.proofs.Common.{ap, arith, drop}
-use Rattle.std.proofs.Common.{filter, find, get_or, length, map, refl, sym, eq-eqb}
+use Rattle.std.proofs.Common.{ℕ, ◌≡◌, ◌≢◌, ◌∙◌, ◌<◌, ◌≤◌, ◌+◌, ◌==◌, ◌&&◌, ◌||◌, ◌++◌, nat_lt, not, Bool, cond, true, false, List, [], ◌∷◌}
+use Rattle.std.proofs.Common.{Some, ap, arith, drop, filter, find, get_or, length, map, refl, sym, eq-eqb}
 use Rattle.std.specs.Prelude.{option_map, slice_get}
 use Rattle.std.specs.List.{list_any}
 use Rattle.std.proofs.lemmas.Bool.{ne_eqb}

@@ -1,7 +1,6 @@
 -- What the changes keep of texts and of the numbers of plans.
 use Rattle.std.proofs.Common.{ℕ, ◌≡◌, ◌+◌, ◌<◌, ◌==◌, ◌&&◌, not, Bool, true, false, cond, ap, Option, None, List, [], ◌∷◌, ◌++◌, filter}
-use Rattle.std.proofs.Common.{map, get_or, sym, refl, subst}
-use Rattle.std.proofs.Common.{arith, ◌∙◌}
+use Rattle.std.proofs.Common.{map, get_or, length, sym, refl, subst, arith, ◌∙◌, ◌≤◌}
 use Rattle.std.specs.Prelude.{All, is_some}
 use Rattle.std.specs.List.{AllByRecursion}
 use Rattle.std.proofs.lemmas.List.Elements.{All-from_recursion, All-map}
@@ -31,6 +30,7 @@ use Rattle.scm_tables.specs.Places.{HasPlaces}
 use Rattle.scm_tables.specs.Failed.{fallen_at}
 use Rattle.scm_tables.specs.Inside.{IsKept, IsKeptPlan}
 use Rattle.scm_tables.specs.Processed.{Processed}
+use Rattle.scm_tables.specs.Rooms.{AreRooms}
 use Rattle.scm_tables.specs.Tabled.{HasShort, HasShortTexts}
 use Rattle.scm_tables.specs.declared.tables.Tables.TheInside.{Inside}
 
@@ -216,21 +216,30 @@ other_plans kept next rows index acyclic marked limit processes tried wide start
   rooms = rw (wide, starts, commands) kept.rooms;
 }
 
+-- lists that differ only in who leaves, in what is searched, in processes and in commands are kept where there is room
+pub other_rooms : {t u : Inside} → IsKept t
+    → record u { leaving = t.leaving; searched = t.searched; processes = t.processes; commands = t.commands } ≡ t
+    → u.leaving.items ≡ t.leaving.items → length u.services.services ≤ length u.leaving.items + u.leaving.room
+    → u.limits.processes ≤ u.processes.capacity → AreRooms u.start_room u.starts.items u.commands.items → IsKept u
+other_rooms kept rest leaving marks room rooms =
+    let same = subst IsKept (sym rest) kept in
+    record {
+      rising = same.rising;
+      texts = same.texts;
+      secured = same.secured;
+      index = same.index;
+      needs = same.needs;
+      marked = leaving ∙ same.marked;
+      marks = marks;
+      room = room;
+      plans = same.plans;
+      pending = same.pending;
+      untried = same.untried;
+      dues = same.dues;
+      rooms = rooms;
+    }
+
 -- lists that differ in processes are kept where there is room for as many, and the next one has the same number
 pub other_processes : {t : Inside} → IsKept t → (all : Processed) → {new : Processed} → all ≡ new → new.next ≡ t.processes.next
     → new.capacity ≡ t.processes.capacity → IsKept (record t { processes = all })
-other_processes kept all is next capacity = record {
-  rising = kept.rising;
-  texts = kept.texts;
-  secured = kept.secured;
-  index = kept.index;
-  needs = kept.needs;
-  marked = kept.marked;
-  marks = kept.marks;
-  room = rw (is, capacity) kept.room;
-  plans = kept.plans;
-  pending = kept.pending;
-  untried = kept.untried;
-  dues = kept.dues;
-  rooms = kept.rooms;
-}
+other_processes kept all is next capacity = other_rooms kept refl refl kept.marks (rw (is, capacity) kept.room) kept.rooms

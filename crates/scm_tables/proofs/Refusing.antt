@@ -1,5 +1,5 @@
 -- What is refused, or finds nothing, changes nothing.
-use Rattle.std.proofs.Common.{ℕ, ◌≡◌, ◌≢◌, ◌∙◌, ◌<◌, ◌==◌, ◌&&◌, suc, Bool, true, false, cond, not, List, [], ◌∷◌, Option, None, Some, find}
+use Rattle.std.proofs.Common.{ℕ, ◌≡◌, ◌∙◌, ◌<◌, ◌==◌, ◌&&◌, suc, true, false, cond, not, List, [], ◌∷◌, Option, None, Some, find}
 use Rattle.std.proofs.Common.{filter, map, drop, ap, sym, refl, subst, arith, inl, inr, eq-eqb, eqb-true}
 use Rattle.std.specs.Prelude.{AllPairs, option_map}
 use Rattle.std.specs.List.{AllByRecursion}
@@ -13,7 +13,6 @@ use Rattle.scm_model.specs.declared.flat.Registration.{Registration}
 use Rattle.scm_model.specs.declared.flat.Service.{Service}
 use Rattle.scm_model.specs.declared.flat.Status.{Status}
 use Rattle.scm_model.specs.declared.steps.Answer.TheVariants as answer
-use Rattle.scm_model.specs.Notices.{pid_of}
 use Rattle.scm_model.specs.Processes.{currents, is_by}
 use Rattle.scm_model.specs.Rows.{service_of}
 use Rattle.status_machine.specs.Moves.{takes}

@@ -1,4 +1,5 @@
-ghost use Rattle.std.specs.Prelude.{◌≡◌, ◌<◌, ◌≤◌, ◌==◌, ◌&&◌, find, option_copied, All, AllPairs, Some};
+ghost use Rattle.std.specs.Prelude.{◌≡◌, ◌<◌, ◌≤◌, ◌==◌, ◌&&◌, find, option_copied, All, AllPairs};
+ghost use Rattle.std.specs.Prelude.{Some};
 ghost use Rattle.scm_model.specs.Processes.{is_by};
 ghost use Rattle.start_plan.specs.Hosts.{host, host_at, is_sharing};
 ghost use Rattle.scm_tables.specs.Listed.{process_shown, processes_in};

@@ -30,7 +30,6 @@ ghost use Rattle.scm_rules.specs.Delete.{is_marked};
 ghost use Rattle.scm_rules.specs.Rights.{mask_lacks};
 
 pub use noticing::with_pid;
-pub use opening::new_status;
 pub use running::status_in;
 use scm_model::Service;
 pub use tables::Tables;

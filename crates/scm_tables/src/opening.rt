@@ -1,59 +1,16 @@
 ghost use Rattle.std.specs.Prelude.{◌≡◌, ◌≤◌, ◌<◌, ◌+◌, ◌^◌, ◌++◌, ◌∷◌, [], AllPairs, IfOk, OnOk};
 ghost use Rattle.std.specs.Prelude.{length};
 ghost use Rattle.std.specs.List.{AllByRecursion};
-ghost use Rattle.scm_model.specs.Changes.{new_service};
-ghost use Rattle.scm_rules.specs.Create.{new_status};
 ghost use Rattle.scm_rules.specs.Opening.{services_from, starts_from};
 ghost use Rattle.scm_tables.specs.Started.{dues_from, moment_of};
 ghost use Rattle.start_triggers.specs.Order.{auto_rows};
 
 use due_list::DueList;
 use record_table::RecordTable;
-use scm_model::codes::{ERROR_SERVICE_NEVER_STARTED, SERVICE_STOPPED};
-use scm_model::{Config, DueKind, Service, Status};
+use scm_model::{Config, DueKind, Service};
 use scm_text::{Items, OutOfMemory, WText};
 use start_triggers::{AutoStart, auto_starts};
 use std::alloc::Global;
-
-/// The status of a service that never ran: STOPPED, with `ERROR_SERVICE_NEVER_STARTED` (1077).
-pub fn new_status(kind: u32) -> Status
-    ensures { result ≡ new_status kind }
-{
-    Status {
-        kind,
-        state: SERVICE_STOPPED,
-        accepted: 0,
-        win32: ERROR_SERVICE_NEVER_STARTED,
-        specific: 0,
-        checkpoint: 0,
-        hint: 0,
-    }
-}
-
-/// A service that has no process.
-pub fn new_service(alloc: Global, number: u64, config: Config, status: Status) -> Service
-    ensures { result ≡ new_service number config status }
-{
-    Service {
-        number,
-        config,
-        status,
-        marked: false,
-        process: 0,
-        failures: 0,
-        last_failure: 0,
-        asked: false,
-        security: Items::new(alloc),
-    }
-}
-
-/// A service that never ran.
-fn never_run(alloc: Global, number: u64, config: Config) -> Service
-    ensures { result ≡ new_service number config (new_status config.kind) }
-{
-    let status = new_status(config.kind);
-    new_service(alloc, number, config, status)
-}
 
 /// A service for each configuration, in order, with numbers from 1 on.
 pub fn services_of(alloc: Global, configs: Items<Config>) -> Result<Vec<Service>, OutOfMemory>
@@ -62,7 +19,10 @@ pub fn services_of(alloc: Global, configs: Items<Config>) -> Result<Vec<Service>
     let mut rows = Vec::new(alloc);
     for config in configs.into_vec() {
         let number = rows.len() as u64 + 1;
-        if rows.push(never_run(alloc, number, config)).is_err() {
+        if rows
+            .push(Service::never_run(alloc, number, config))
+            .is_err()
+        {
             return Err(OutOfMemory);
         }
     }

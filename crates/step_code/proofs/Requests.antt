@@ -16,7 +16,8 @@ use Rattle.scm_model.specs.declared.codes.TheConstants.{R_QUERY_SERVICE_LOCK_STA
 use Rattle.scm_model.specs.declared.codes.TheConstants.{R_QUERY_SERVICE_STATUS, R_QUERY_SERVICE_STATUS_EX, R_UNLOCK_SERVICE_DATABASE}
 use Rattle.step_code.specs.declared.requests_read.Common.{Common}
 use Rattle.step_code.specs.Codes.{n4, n8, some, list, text, byte_list, joined, status, action, info_code, common_code}
-use Rattle.step_code.specs.Codes.{change_code, create_code, opnum, fields, request_code}
+use Rattle.scm_model.specs.Opnums.{opnum}
+use Rattle.step_code.specs.Codes.{change_code, create_code, fields, request_code}
 use Rattle.step_code.specs.Fits.{Is4, Is8, IsAbsentOr, IsText, IsByteList, IsInfo, IsChange, IsNew, IsRequest}
 use Rattle.step_code.specs.Reading.{◌>>=◌, byte_at, failure_at, info_at, common_at, change_at, create_at, set_security_at, set_status_at}
 use Rattle.step_code.specs.Reading.{enum_services_at, open_manager_at, start_at, change2_at, by_name, named_at, by_numbers, numbers_at}

@@ -18,7 +18,8 @@ use Rattle.scm_model.specs.declared.codes.TheConstants.{R_SET_SERVICE_OBJECT_SEC
 use Rattle.scm_model.specs.declared.codes.TheConstants.{R_UNLOCK_SERVICE_DATABASE}
 use Rattle.step_code.specs.declared.requests_read.Common.{Common}
 use Rattle.step_code.specs.Codes.{n2, n4, n8, some, list, text, byte_list, joined, status, action, info_code}
-use Rattle.step_code.specs.Codes.{opnum, fields, request_code}
+use Rattle.scm_model.specs.Opnums.{opnum}
+use Rattle.step_code.specs.Codes.{fields, request_code}
 use Rattle.step_code.specs.Fits.{Is4, Is8, IsText, IsInfo, IsRequest}
 use Rattle.step_code.specs.Reading.{◌>>=◌, Item, failure_at, info_of, info_at}
 use Rattle.step_code.specs.Reading.{common_at, change_at, create_at, set_security_at, set_status_at, enum_services_at, open_manager_at}

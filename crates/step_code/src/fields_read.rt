@@ -8,7 +8,7 @@ ghost use Rattle.step_code.specs.Reading.{status_at, subtype_at, text_at, trigge
 ghost use Rattle.step_code.specs.declared.fields_read.Stop.TheVariants as stops;
 
 use scm_model::{Action, Status, TriggerIn};
-use scm_text::{Items, WText};
+use scm_text::{Items, OutOfMemory, WText};
 use std::alloc::{AllocError, AllocFailed, Global};
 
 /// Why reading stopped.
@@ -31,6 +31,14 @@ impl<T: Drop> From<AllocFailed<T>> for Stop {
     ghost from_gives = { λ _ e. e ≡ stops.OutOfMemory };
 
     fn from(_e: AllocFailed<T>) -> Stop {
+        Stop::OutOfMemory
+    }
+}
+
+impl From<OutOfMemory> for Stop {
+    ghost from_gives = { λ _ e. e ≡ stops.OutOfMemory };
+
+    fn from(_e: OutOfMemory) -> Stop {
         Stop::OutOfMemory
     }
 }

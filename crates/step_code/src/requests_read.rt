@@ -22,7 +22,7 @@ use scm_model::codes::{
     R_SET_SERVICE_OBJECT_SECURITY, R_SET_SERVICE_STATUS, R_START_SERVICE_W,
     R_UNLOCK_SERVICE_DATABASE,
 };
-use scm_model::{ChangeService, Info, NewService, Request};
+use scm_model::{Apart, ChangeService, Info, NewService, Request};
 use scm_text::{Items, WText};
 use std::alloc::Global;
 
@@ -132,7 +132,7 @@ fn change_of(alloc: Global, bytes: &[u8]) -> Result<(Request, &[u8]), Stop>
         account: common.account,
         display,
     };
-    Ok((Request::Change(change), rest))
+    Ok((Request::Change(Apart::new(alloc, change)?), rest))
 }
 
 #[tactic(auto, unfolding(crate::specs::Reading::create_at))]
@@ -162,7 +162,7 @@ fn create_of(alloc: Global, bytes: &[u8]) -> Result<(Request, &[u8]), Stop>
         needs: common.needs,
         account: common.account,
     };
-    Ok((Request::Create(new), rest))
+    Ok((Request::Create(Apart::new(alloc, new)?), rest))
 }
 
 #[tactic(auto, unfolding(crate::specs::Reading::set_security_at))]

@@ -3,7 +3,7 @@ ghost use Rattle.std.specs.Prelude.{◌≡◌, ◌+◌, ◌++◌, ◌∷◌, ◌
 ghost use Rattle.scm_model.specs.Texts.{some_bytes, some_text, some_words, text_of_call};
 ghost use Rattle.scm_model.specs.Texts.{text_of_change, text_of_info, text_of_new};
 ghost use Rattle.step_code.specs.Codes.{byte_list, change_code, common_code, create_code, fields};
-ghost use Rattle.step_code.specs.Codes.{info_code, joined, list, n4, n8, opnum, request_code, some};
+ghost use Rattle.step_code.specs.Codes.{info_code, joined, list, n4, n8, request_code, some};
 ghost use Rattle.step_code.specs.Codes.{status, text};
 ghost use Rattle.step_code.specs.Fits.{AreItems, Is4, IsByteList, IsChange, IsInfo, IsNew};
 ghost use Rattle.step_code.specs.Fits.{IsRequest, IsAbsentOr, IsStatus, IsText};
@@ -14,53 +14,8 @@ use crate::fields_written::{
     put_byte, put_bytes, put_flag, put_some_actions, put_some_bytes, put_some_number,
     put_some_text, put_some_words, put_status, put_text, put_triggers, put2, put4, put8,
 };
-use scm_model::codes::{
-    R_CHANGE_SERVICE_CONFIG_W, R_CHANGE_SERVICE_CONFIG2_W, R_CLOSE_NOTIFY_HANDLE,
-    R_CLOSE_SERVICE_HANDLE, R_CONTROL_SERVICE, R_CREATE_SERVICE_W, R_DELETE_SERVICE,
-    R_ENUM_DEPENDENT_SERVICES_W, R_ENUM_SERVICES_STATUS_W, R_GET_NOTIFY_RESULTS,
-    R_GET_SERVICE_DISPLAY_NAME_W, R_GET_SERVICE_KEY_NAME_W, R_LOCK_SERVICE_DATABASE,
-    R_NOTIFY_SERVICE_STATUS_CHANGE, R_OPEN_SC_MANAGER_W, R_OPEN_SERVICE_W,
-    R_QUERY_SERVICE_CONFIG_W, R_QUERY_SERVICE_CONFIG2_W, R_QUERY_SERVICE_LOCK_STATUS_W,
-    R_QUERY_SERVICE_OBJECT_SECURITY, R_QUERY_SERVICE_STATUS, R_QUERY_SERVICE_STATUS_EX,
-    R_SET_SERVICE_OBJECT_SECURITY, R_SET_SERVICE_STATUS, R_START_SERVICE_W,
-    R_UNLOCK_SERVICE_DATABASE,
-};
 use scm_model::{ChangeService, Info, NewService, Request, Status};
 use scm_text::{Buffer, Items, WText};
-
-/// The number of a request's method.
-fn opnum(request: &Request) -> u16
-    ensures { result ≡ opnum request.now }
-{
-    match request {
-        Request::Close { .. } => R_CLOSE_SERVICE_HANDLE,
-        Request::Control { .. } => R_CONTROL_SERVICE,
-        Request::Delete { .. } => R_DELETE_SERVICE,
-        Request::Lock { .. } => R_LOCK_SERVICE_DATABASE,
-        Request::QuerySecurity { .. } => R_QUERY_SERVICE_OBJECT_SECURITY,
-        Request::SetSecurity { .. } => R_SET_SERVICE_OBJECT_SECURITY,
-        Request::QueryStatus { .. } => R_QUERY_SERVICE_STATUS,
-        Request::SetStatus { .. } => R_SET_SERVICE_STATUS,
-        Request::Unlock { .. } => R_UNLOCK_SERVICE_DATABASE,
-        Request::Change(_) => R_CHANGE_SERVICE_CONFIG_W,
-        Request::Create(_) => R_CREATE_SERVICE_W,
-        Request::EnumDependents { .. } => R_ENUM_DEPENDENT_SERVICES_W,
-        Request::EnumServices { .. } => R_ENUM_SERVICES_STATUS_W,
-        Request::OpenManager { .. } => R_OPEN_SC_MANAGER_W,
-        Request::OpenService { .. } => R_OPEN_SERVICE_W,
-        Request::QueryConfig { .. } => R_QUERY_SERVICE_CONFIG_W,
-        Request::QueryLock { .. } => R_QUERY_SERVICE_LOCK_STATUS_W,
-        Request::Start { .. } => R_START_SERVICE_W,
-        Request::DisplayName { .. } => R_GET_SERVICE_DISPLAY_NAME_W,
-        Request::KeyName { .. } => R_GET_SERVICE_KEY_NAME_W,
-        Request::Change2 { .. } => R_CHANGE_SERVICE_CONFIG2_W,
-        Request::QueryConfig2 { .. } => R_QUERY_SERVICE_CONFIG2_W,
-        Request::QueryStatusEx { .. } => R_QUERY_SERVICE_STATUS_EX,
-        Request::Notify { .. } => R_NOTIFY_SERVICE_STATUS_CHANGE,
-        Request::GetNotify { .. } => R_GET_NOTIFY_RESULTS,
-        Request::CloseNotify { .. } => R_CLOSE_NOTIFY_HANDLE,
-    }
-}
 
 fn put_info(out: &mut Buffer<u8>, info: &Info)
     requires room { info_size info.now ≤ out.old.room }
@@ -383,6 +338,6 @@ pub(crate) fn put_request(out: &mut Buffer<u8>, request: &Request)
     ensures room { out.new.room + (2 + fields_size request.now) ≡ out.old.room }
     ensures fits { IsRequest request.now }
 {
-    put2(out, opnum(request));
+    put2(out, request.opnum());
     put_fields(out, request);
 }

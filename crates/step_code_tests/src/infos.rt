@@ -1,4 +1,4 @@
-use crate::values::has_call;
+use crate::values::{has_call, has_unkept};
 use scm_model::{Info, Kept, Request, TriggerIn};
 use scm_text::{Items, OutOfMemory};
 use std::alloc::Global;
@@ -83,18 +83,16 @@ fn other_levels_have_codes(rt: HostRuntime) {
         )
     );
     assert!(rt;
-        has_call(
+        has_unkept(
             rt.alloc(),
             change2(Info::Other(7)),
-            Kept::NotAsked,
             &[0x25, 0, 3, 0, 0, 0, 0, 0, 0, 0, 5, 7, 0, 0, 0, 0]
         )
     );
     assert!(rt;
-        has_call(
+        has_unkept(
             rt.alloc(),
             change2(Info::Nothing(8)),
-            Kept::NotAsked,
             &[0x25, 0, 3, 0, 0, 0, 0, 0, 0, 0, 6, 8, 0, 0, 0, 0]
         )
     );

@@ -1,5 +1,5 @@
-use crate::values::has_call;
-use scm_model::{ChangeService, Kept, NewService, Request};
+use crate::values::{has_call, has_unkept};
+use scm_model::{Apart, ChangeService, Kept, NewService, Request};
 use scm_text::{Items, OutOfMemory, WText};
 use std::alloc::Global;
 use std::test::*;
@@ -9,10 +9,9 @@ use test_values::text;
 fn calls_of_a_handle_have_codes(rt: HostRuntime) {
     let handle = 3;
     assert!(rt;
-        has_call(
+        has_unkept(
             rt.alloc(),
             Request::Close { handle },
-            Kept::NotAsked,
             &[0, 0, 3, 0, 0, 0, 0, 0, 0, 0, 0]
         )
     );
@@ -25,42 +24,37 @@ fn calls_of_a_handle_have_codes(rt: HostRuntime) {
         )
     );
     assert!(rt;
-        has_call(
+        has_unkept(
             rt.alloc(),
             Request::Lock { handle },
-            Kept::NotAsked,
             &[3, 0, 3, 0, 0, 0, 0, 0, 0, 0, 0]
         )
     );
     assert!(rt;
-        has_call(
+        has_unkept(
             rt.alloc(),
             Request::QueryStatus { handle },
-            Kept::NotAsked,
             &[6, 0, 3, 0, 0, 0, 0, 0, 0, 0, 0]
         )
     );
     assert!(rt;
-        has_call(
+        has_unkept(
             rt.alloc(),
             Request::Unlock { handle },
-            Kept::NotAsked,
             &[8, 0, 3, 0, 0, 0, 0, 0, 0, 0, 0]
         )
     );
     assert!(rt;
-        has_call(
+        has_unkept(
             rt.alloc(),
             Request::GetNotify { handle },
-            Kept::NotAsked,
             &[0x30, 0, 3, 0, 0, 0, 0, 0, 0, 0, 0]
         )
     );
     assert!(rt;
-        has_call(
+        has_unkept(
             rt.alloc(),
             Request::CloseNotify { handle },
-            Kept::NotAsked,
             &[0x31, 0, 3, 0, 0, 0, 0, 0, 0, 0, 0]
         )
     );
@@ -70,37 +64,33 @@ fn calls_of_a_handle_have_codes(rt: HostRuntime) {
 fn calls_of_numbers_have_codes(rt: HostRuntime) {
     let handle = 3;
     assert!(rt;
-        has_call(
+        has_unkept(
             rt.alloc(),
             Request::Control { handle, control: 1 },
-            Kept::NotAsked,
             &[1, 0, 3, 0, 0, 0, 0, 0, 0, 0, 1, 0, 0, 0, 0]
         )
     );
     assert!(rt;
-        has_call(
+        has_unkept(
             rt.alloc(),
             Request::QueryConfig {
                 handle,
                 size: 0x200
             },
-            Kept::NotAsked,
             &[17, 0, 3, 0, 0, 0, 0, 0, 0, 0, 0, 2, 0, 0, 0]
         )
     );
     assert!(rt;
-        has_call(
+        has_unkept(
             rt.alloc(),
             Request::QueryLock { handle, size: 0x20 },
-            Kept::NotAsked,
             &[18, 0, 3, 0, 0, 0, 0, 0, 0, 0, 0x20, 0, 0, 0, 0]
         )
     );
     assert!(rt;
-        has_call(
+        has_unkept(
             rt.alloc(),
             Request::Notify { handle, mask: 0x11 },
-            Kept::NotAsked,
             &[0x2F, 0, 3, 0, 0, 0, 0, 0, 0, 0, 0x11, 0, 0, 0, 0]
         )
     );
@@ -110,10 +100,9 @@ fn calls_of_numbers_have_codes(rt: HostRuntime) {
         size: 0x100,
     };
     assert!(rt;
-        has_call(
+        has_unkept(
             rt.alloc(),
             asked,
-            Kept::NotAsked,
             &[4, 0, 3, 0, 0, 0, 0, 0, 0, 0, 4, 0, 0, 0, 0, 1, 0, 0, 0]
         )
     );
@@ -123,10 +112,9 @@ fn calls_of_numbers_have_codes(rt: HostRuntime) {
         size: 0x40,
     };
     assert!(rt;
-        has_call(
+        has_unkept(
             rt.alloc(),
             asked,
-            Kept::NotAsked,
             &[13, 0, 3, 0, 0, 0, 0, 0, 0, 0, 3, 0, 0, 0, 0x40, 0, 0, 0, 0]
         )
     );
@@ -136,10 +124,9 @@ fn calls_of_numbers_have_codes(rt: HostRuntime) {
         size: 0x100,
     };
     assert!(rt;
-        has_call(
+        has_unkept(
             rt.alloc(),
             asked,
-            Kept::NotAsked,
             &[0x27, 0, 3, 0, 0, 0, 0, 0, 0, 0, 1, 0, 0, 0, 0, 1, 0, 0, 0]
         )
     );
@@ -149,10 +136,9 @@ fn calls_of_numbers_have_codes(rt: HostRuntime) {
         size: 0x24,
     };
     assert!(rt;
-        has_call(
+        has_unkept(
             rt.alloc(),
             asked,
-            Kept::NotAsked,
             &[
                 0x28, 0, 3, 0, 0, 0, 0, 0, 0, 0, 0, 0, 0, 0, 0x24, 0, 0, 0, 0
             ]
@@ -165,7 +151,7 @@ fn calls_of_numbers_have_codes(rt: HostRuntime) {
         size: 0x40000,
         resume: Some(7),
     };
-    assert!(rt; has_call(rt.alloc(), asked, Kept::NotAsked, &[
+    assert!(rt; has_unkept(rt.alloc(), asked, &[
         14, 0, 3, 0, 0, 0, 0, 0, 0, 0, // opnum, handle
         0x30, 0, 0, 0, 1, 0, 0, 0, 0, 0, 4, 0, // types, states, size
         1, 7, 0, 0, 0, 0,
@@ -239,7 +225,7 @@ fn change(alloc: Global) -> Result<Request, OutOfMemory> {
     let (Ok(group), Ok(needs)) = (text(alloc, "G"), bytes_of(alloc, &[0, 0])) else {
         return Err(OutOfMemory);
     };
-    Ok(Request::Change(ChangeService {
+    let change = ChangeService {
         handle: 3,
         kind: 0x10,
         start: 3,
@@ -250,7 +236,8 @@ fn change(alloc: Global) -> Result<Request, OutOfMemory> {
         needs: Some(needs),
         account: None,
         display: Some(WText::new(alloc)),
-    }))
+    };
+    Ok(Request::Change(Apart::new(alloc, change)?))
 }
 
 /// The service `Db` of the program `/a`, for the account `u`.
@@ -259,7 +246,7 @@ fn create(alloc: Global) -> Result<Request, OutOfMemory> {
     else {
         return Err(OutOfMemory);
     };
-    Ok(Request::Create(NewService {
+    let new = NewService {
         handle: 3,
         name,
         display: None,
@@ -272,44 +259,41 @@ fn create(alloc: Global) -> Result<Request, OutOfMemory> {
         tag: None,
         needs: None,
         account: Some(account),
-    }))
+    };
+    Ok(Request::Create(Apart::new(alloc, new)?))
 }
 
 #[test]
 fn calls_of_a_name_have_codes(rt: HostRuntime) -> Result<(), Fail> {
     assert!(rt;
-        has_call(
+        has_unkept(
             rt.alloc(),
             open_manager(rt.alloc())?,
-            Kept::NotAsked,
             &[15, 0, 1, 1, 0, 0, 0, 0x78, 0, 1, 0, 0, 0, 0]
         )
     );
     assert!(rt;
-        has_call(
+        has_unkept(
             rt.alloc(),
             open_service(rt.alloc())?,
-            Kept::NotAsked,
             &[
                 16, 0, 3, 0, 0, 0, 0, 0, 0, 0, 2, 0, 0, 0, 0x44, 0, 0x62, 0, 0x14, 0, 0, 0, 0,
             ]
         )
     );
     assert!(rt;
-        has_call(
+        has_unkept(
             rt.alloc(),
             display_name(rt.alloc())?,
-            Kept::NotAsked,
             &[
                 20, 0, 3, 0, 0, 0, 0, 0, 0, 0, 2, 0, 0, 0, 0x44, 0, 0x62, 0, 9, 0, 0, 0, 0,
             ]
         )
     );
     assert!(rt;
-        has_call(
+        has_unkept(
             rt.alloc(),
             key_name(rt.alloc())?,
-            Kept::NotAsked,
             &[
                 21, 0, 3, 0, 0, 0, 0, 0, 0, 0, 2, 0, 0, 0, 0x44, 0, 0x62, 0, 9, 0, 0, 0, 0,
             ]
@@ -330,7 +314,7 @@ fn calls_of_texts_have_codes(rt: HostRuntime) -> Result<(), Fail> {
             ]
         )
     );
-    assert!(rt; has_call(rt.alloc(), start(rt.alloc())?, Kept::NotAsked, &[
+    assert!(rt; has_unkept(rt.alloc(), start(rt.alloc())?, &[
         19, 0, 3, 0, 0, 0, 0, 0, 0, 0, // opnum, handle
         1, 2, 0, 0, 0, 1, 0, 0, 0, 0x61, 0, 0, 0, 0, 0, // two words
         0,

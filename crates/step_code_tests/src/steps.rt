@@ -1,5 +1,5 @@
-use crate::values::{has_call, has_code, is_no_code};
-use scm_model::{Kept, Principal, Request, Status, Step};
+use crate::values::{has_code, has_unkept, is_no_code};
+use scm_model::{Principal, Request, Status, Step};
 use std::test::*;
 
 /// RUNNING of a service that shares its process and accepts STOP.
@@ -141,7 +141,7 @@ fn reports_and_raises_have_codes(rt: HostRuntime) {
         handle: 3,
         status: RUNNING,
     };
-    assert!(rt; has_call(rt.alloc(), asked, Kept::NotAsked, &[
+    assert!(rt; has_unkept(rt.alloc(), asked, &[
         7, 0, 3, 0, 0, 0, 0, 0, 0, 0, // opnum, handle
         0x20, 0, 0, 0, 4, 0, 0, 0, 1, 0, 0, 0, // type, state, accepted controls
         2, 1, 0, 0, 3, 0, 0, 0, 5, 0, 0, 0, 4, 3, 2, 1, // exits, checkpoint, hint

@@ -70,6 +70,11 @@ pub fn has_call(alloc: Global, request: Request, kept: Kept, code: &[u8]) -> boo
     }
 }
 
+/// The same for a call whose change wasn't to be kept.
+pub fn has_unkept(alloc: Global, request: Request, code: &[u8]) -> bool {
+    has_call(alloc, request, Kept::NotAsked, code)
+}
+
 /// Whether no code begins the bytes.
 pub fn is_no_code(alloc: Global, bytes: &[u8]) -> bool {
     match read_entry(alloc, bytes) {

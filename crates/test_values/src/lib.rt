@@ -1,10 +1,10 @@
 //! What tests of several crates build their values with.
 #![tactic(auto)]
 
-ghost use Rattle.std.specs.Prelude.{◌≡◌, ◌++◌, [], ◌∷◌, false, IfOk, OnOk};
+ghost use Rattle.std.specs.Prelude.{◌≡◌, ◌++◌, [], ◌∷◌, IfOk, OnOk};
 ghost use Rattle.test_values.specs.Built.{restart_after, units_of, unnamed};
 
-use scm_model::{Action, Config, Service, Status};
+use scm_model::{Action, Config};
 use scm_text::{Items, OutOfMemory, WText};
 use std::alloc::Global;
 
@@ -70,32 +70,5 @@ pub fn unnamed(alloc: Global) -> Config
         on_exit: false,
         delayed: false,
         triggers: Items::new(alloc),
-    }
-}
-
-/// A service with this status that is unmarked, has no process and has never failed.
-pub fn service(alloc: Global, number: u64, config: Config, status: Status) -> Service
-    ensures { result ≡ record {
-      number = number;
-      config = config;
-      status = status;
-      marked = false;
-      process = 0;
-      failures = 0;
-      last_failure = 0;
-      asked = false;
-      security = [];
-    } }
-{
-    Service {
-        number,
-        config,
-        status,
-        marked: false,
-        process: 0,
-        failures: 0,
-        last_failure: 0,
-        asked: false,
-        security: Items::new(alloc),
     }
 }

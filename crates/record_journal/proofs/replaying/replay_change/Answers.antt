@@ -16,4 +16,5 @@ returns-then-branch-clause-begins c =
 
 pub returns-clause-said : goal.returns-clause-said
 returns-clause-said c =
-    said_undone c.args.form c.args.configs.now c.args.configs.now c.args.change (let a = c.in_ok-can_replay.ensures in let b = c.if-branch.false in cc)
+    said_undone c.args.form c.args.configs.now c.args.configs.now c.args.change
+    (let a = c.in_ok-can_replay.ensures in let b = c.if-branch.false in cc)

@@ -8,8 +8,8 @@ loop-init c = record { begins = c.requires; left = starts c.args.size c.args.for
 pub returns-in-Ok-Unfinished-clause-reads : goal.returns-in-Ok-Unfinished-clause-reads
 returns-in-Ok-Unfinished-clause-reads c =
     same_reads c.replay_with.result _ _
-    (ends_here c.args.size _ c.loop.counter c.loop.now c.loop.configs c.replay_entry.new.configs c.loop.rest.now c.in-Ok-Unfinished.field-0 _
-    c.in-Ok-Unfinished.field-0-is c.loop-test.true c.in-Ok-Unfinished.ensures.goes c.loop.invariant.left)
+    (ends_here c.args.size _ c.loop.counter c.loop.now c.loop.configs c.replay_entry.new.configs c.loop.rest.now
+    c.in-Ok-Unfinished.field-0 _ c.in-Ok-Unfinished.field-0-is c.loop-test.true c.in-Ok-Unfinished.ensures.goes c.loop.invariant.left)
     c.replay_with.ensures
 
 pub returns-in-Ok-Unfinished-clause-begins : goal.returns-in-Ok-Unfinished-clause-begins
@@ -30,8 +30,9 @@ loop-preserved c = record {
 
 pub returns-clause-reads : goal.returns-clause-reads
 returns-clause-reads c =
-    same_reads c.replay_with-2.result _ _ (none_left c.args.size _ c.loop.counter c.loop.now c.loop.configs c.loop.rest.now _ c.loop-test.false
-    c.loop.invariant.left) c.replay_with-2.ensures
+    same_reads c.replay_with-2.result _ _
+    (none_left c.args.size _ c.loop.counter c.loop.now c.loop.configs c.loop.rest.now _ c.loop-test.false c.loop.invariant.left)
+    c.replay_with-2.ensures
 
 pub returns-clause-begins : goal.returns-clause-begins
 returns-clause-begins c = same_begins c.replay_with-2.result _ c.replay_with-2.ensures c.loop.invariant.begins

@@ -9,4 +9,4 @@ returns-in-Some c =
     let delayed = ap (config_text c.args.name.now c.in-Some.config) c.is_on.ensures in
     let given = ap (λ config. shown_text c.args.name.now config c.args.bytes.now) c.in-Some.is in
     subst (λ text. OnOk c.add_config.result (c.add_config.new.text ≡ c.args.text.now ++ text)) (named ∙ delayed ∙ sym given)
-    c.add_config.ensures
+    (rw c.deref.ensures at c.add_config.ensures)

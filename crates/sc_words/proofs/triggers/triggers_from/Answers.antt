@@ -29,4 +29,6 @@ loop-place-preserved c =
     ∙ c.loop-place.invariant
 
 pub returns : goal.returns
-returns c = sym c.loop-place.invariant ∙ from_end trigger_named c.args.words.now c.loop-place.place c.loop-place.triggers c.loop-place-test.false
+returns c =
+    sym c.loop-place.invariant
+    ∙ from_end trigger_named c.args.words.now c.loop-place.place c.loop-place.triggers c.loop-place-test.false

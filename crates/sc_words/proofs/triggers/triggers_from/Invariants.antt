@@ -7,4 +7,5 @@ use Rattle.sc_words.proofs.triggers.triggers_from.Given as goal
 -- the triggers so far and those of what is left are the triggers
 abbrev pub invariant-loop-place : goal.invariant-loop-place
 invariant-loop-place l =
-    before l.triggers (each_from trigger_named l.place (drop l.place l.words)) ≡ each_from trigger_named l.fn.start (drop l.fn.start l.words)
+    before l.triggers (each_from trigger_named l.place (drop l.place l.words))
+    ≡ each_from trigger_named l.fn.start (drop l.fn.start l.words)

@@ -1,4 +1,5 @@
 use Rattle.std.proofs.Common.{◌∙◌, refl}
+use Rattle.scm_tables.proofs.Keeping.{other_rooms}
 use Rattle.scm_tables.proofs.tables.Tables.enter_new.Goals as goal
 
 pub returns-clause-flat : goal.returns-clause-flat
@@ -17,18 +18,4 @@ returns-clause-flat c =
 pub invariant_of-self : goal.invariant_of-self
 invariant_of-self c =
     let kept = c.self.invariant in
-    record {
-      rising = kept.rising;
-      texts = kept.texts;
-      secured = kept.secured;
-      index = kept.index;
-      needs = kept.needs;
-      marked = kept.marked;
-      marks = kept.marks;
-      room = rw c.list.ensures kept.room;
-      plans = kept.plans;
-      pending = kept.pending;
-      untried = kept.untried;
-      dues = kept.dues;
-      rooms = kept.rooms;
-    }
+    other_rooms kept refl refl kept.marks (rw c.list.ensures kept.room) kept.rooms

@@ -1,4 +1,4 @@
-use Rattle.std.proofs.Common.{◌≡◌, ◌∙◌, ◌==◌, ap, subst, sym, Option, Some}
+use Rattle.std.proofs.Common.{◌≡◌, ◌∙◌, ◌==◌, ap, refl, subst, sym, Option, Some}
 use Rattle.std.specs.Prelude.{IfSome}
 use Rattle.scm_model.specs.declared.flat.Service.{Service}
 use Rattle.scm_model.specs.Rows.{service_of}
@@ -7,6 +7,7 @@ use Rattle.scm_tables.specs.Firing.{runs}
 use Rattle.scm_tables.specs.Tabled.{HasShort, Tabled}
 use Rattle.scm_tables.proofs.Fired.{runs_one}
 use Rattle.scm_tables.proofs.Wording.{found_has}
+use Rattle.scm_tables.proofs.Keeping.{other_rooms}
 use Rattle.scm_tables.proofs.tables.Tables.run_command.Goals as goal
 
 pub of_command-line-requires-clause-command : goal.of_command-line-requires-clause-command
@@ -30,18 +31,7 @@ returns-clause-flat c =
 pub invariant_of-self : goal.invariant_of-self
 invariant_of-self c =
     let kept = c.self.invariant in
-    record {
-      rising = kept.rising;
-      texts = kept.texts;
-      secured = kept.secured;
-      index = kept.index;
-      needs = kept.needs;
-      marked = kept.marked;
-      marks = kept.marks;
-      room = rw c.list.ensures kept.room;
-      plans = kept.plans;
-      pending = kept.pending;
-      untried = kept.untried;
-      dues = kept.dues;
-      rooms = record { starts_fit = kept.rooms.starts_fit; commands_fit = c.take_command_room.ensures.rooms };
-    }
+    other_rooms kept refl refl kept.marks (rw c.list.ensures kept.room) (record {
+      starts_fit = kept.rooms.starts_fit;
+      commands_fit = c.take_command_room.ensures.rooms;
+    })
