@@ -15,28 +15,28 @@ use scm_text::{Items, OutOfMemory};
 use std::alloc::Global;
 
 /// Whether a service comes after a number, has one of the types and is in the states.
-fn is_asked(kinds: u32, states: u32, behind: u32, service: &Service) -> bool
-    ensures { result ≡ is_asked kinds states behind service.now }
+fn is_asked(kinds: u32, states: u32, after: u32, service: &Service) -> bool
+    ensures { result ≡ is_asked kinds states after service.now }
 {
-    (behind as u64) < service.number
+    (after as u64) < service.number
         && kinds & service.config.kind != 0
         && is_in_states(states, service)
 }
 
 /// The services after a number that are asked for.
-fn services_behind<'a>(
+fn services_after<'a>(
     services: Services<'a>,
     kinds: u32,
     states: u32,
-    behind: u32,
+    after: u32,
     alloc: Global,
 ) -> Result<Vec<&'a Service>, OutOfMemory>
     ensures { IfOk result (λ rows. map (λ s. s.now) rows.items ≡ filter
-        (is_asked kinds states behind) services.entry) }
+        (is_asked kinds states after) services.entry) }
 {
     let mut rows = Vec::new(alloc);
     for row in services {
-        if is_asked(kinds, states, behind, row) {
+        if is_asked(kinds, states, after, row) {
             push(&mut rows, row)?;
         }
     }
@@ -80,7 +80,7 @@ pub fn enum_services(
     if kinds == 0 || !are_states(states) {
         return Ok(refused(size, resume, ERROR_INVALID_PARAMETER, alloc));
     }
-    let behind = resume.unwrap_or(0);
-    let rows = services_behind(tables.rows(), kinds, states, behind, alloc)?;
+    let after = resume.unwrap_or(0);
+    let rows = services_after(tables.rows(), kinds, states, after, alloc)?;
     page_reply(size, resume, rows.as_slice(), alloc)
 }

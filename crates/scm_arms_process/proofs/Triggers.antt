@@ -240,3 +240,9 @@ stop_left l found t u action flat spare count has =
       dues = omega (arith, has.dues, ap (λ (s : Spare). s.dues) spare);
       entries = omega (arith, has.entries, ap (λ (s : Spare). s.entries) spare, services);
     }
+
+-- ## What the loop over the services takes
+
+pub ruleset acting = (acts_start, acts_stop, acts_room, acts_numbers, acts_left, stop_left)
+
+pub ruleset going = (goes_first, room_for, numbers_for, goes_done)

@@ -129,7 +129,7 @@ fn action_of(service: Option<&Service>, subtype: &[u8; 16]) -> Option<u32>
     }
 }
 
-#[tactic(auto, using(crate::proofs::Triggers::acts_start, crate::proofs::Triggers::acts_stop, crate::proofs::Triggers::acts_room, crate::proofs::Triggers::acts_numbers, crate::proofs::Triggers::acts_left, crate::proofs::Triggers::stop_left))]
+#[tactic(auto, using(crate::proofs::Triggers::acting))]
 /// The service at a place starts or gets a STOP, by the action of its trigger.
 fn act_at(tables: &mut Tables, place: usize, action: u32)
     requires room { HasStarts (starts_by action) tables.old }
@@ -166,7 +166,7 @@ fn trigger_at(tables: &mut Tables, place: usize, subtype: &[u8; 16])
     }
 }
 
-#[tactic(auto, using(crate::proofs::Triggers::goes_first, crate::proofs::Triggers::room_for, crate::proofs::Triggers::numbers_for, crate::proofs::Triggers::goes_done))]
+#[tactic(auto, using(crate::proofs::Triggers::going))]
 /// Each service that has a trigger starts or gets a STOP, in order.
 fn trigger_all(tables: &mut Tables, subtype: &[u8; 16])
     requires room { HasStarts (started_among subtype.now tables.old.flat.services) tables.old }

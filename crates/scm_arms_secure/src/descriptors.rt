@@ -21,7 +21,6 @@ const DEFAULT_DESCRIPTOR: [u8; 100] = [
     1, 2, 0, 0, 0, 0, 0, 5, 32, 0, 0, 0, 0x21, 2, 0, 0,
 ];
 
-#[tactic(auto, unfolding(sec_desc::specs::Writing::packed, sec_desc::specs::Writing::header_bytes, sec_desc::specs::Writing::acl_front, sec_desc::specs::Writing::ace_front, sec_desc::specs::Writing::size_of_aces, sec_desc::specs::Writing::sid_bytes, sec_desc::specs::Numbers::bytes_16, sec_desc::specs::Numbers::bytes_32))]
 fn default_bytes() -> [u8; 100]
     ensures { result ≡ descriptor_bytes default_descriptor 7 }
 {

@@ -30,8 +30,8 @@ use scm_model::codes::{
     ERROR_INVALID_SERVICE_ACCOUNT, ERROR_NOT_ENOUGH_QUOTA, ERROR_SERVICE_EXISTS,
     ERROR_SERVICE_MARKED_FOR_DELETE, SC_MANAGER_CREATE_SERVICE,
 };
-use scm_model::{Change, Config, HandleKind, Kept, Limits, NewService, Reply};
-use scm_tables::{Tables, is_marked, mask_lacks, new_status};
+use scm_model::{Change, Config, HandleKind, Kept, Limits, NewService, Reply, Status};
+use scm_tables::{Tables, is_marked, mask_lacks};
 use scm_text::OutOfMemory;
 use service_record::check_new;
 use std::alloc::Global;
@@ -190,7 +190,7 @@ fn add_opened(tables: &mut Tables, caller: u64, config: Config, kind: u32, right
         (new_status kind)) caller (kinds.Service tables.old.flat.next.service) rights }
     ensures limits { tables.new.limits ≡ tables.old.limits }
 {
-    let service = tables.add_service(config, new_status(kind));
+    let service = tables.add_service(config, Status::never_run(kind));
     tables.add_handle(caller, HandleKind::Service(service), rights)
 }
 

@@ -11,7 +11,7 @@ ghost use Rattle.service_listing.specs.Layout.{text_size};
 use scm_model::codes::{
     ERROR_ACCESS_DENIED, ERROR_INSUFFICIENT_BUFFER, ERROR_INVALID_HANDLE, SERVICE_QUERY_CONFIG,
 };
-use scm_model::{Config, Need, Reply, Service, Shown};
+use scm_model::{Apart, Config, Need, Reply, Service, Shown};
 use scm_tables::{Tables, mask_lacks};
 use scm_text::{OutOfMemory, WText};
 use std::alloc::Global;
@@ -78,11 +78,11 @@ fn shown_of(config: &Config, alloc: Global) -> Result<Shown, OutOfMemory>
 }
 
 /// What is shown of a service that is there.
-fn shown_in(service: Option<&Service>, alloc: Global) -> Result<Option<Shown>, OutOfMemory>
+fn shown_in(service: Option<&Service>, alloc: Global) -> Result<Option<Apart<Shown>>, OutOfMemory>
     ensures { IfOk result (λ shown. shown ≡ shown_in (option_copied service.entry)) }
 {
     match service {
-        Some(row) => Ok(Some(shown_of(&row.config, alloc)?)),
+        Some(row) => Ok(Some(Apart::new(alloc, shown_of(&row.config, alloc)?)?)),
         None => Ok(None),
     }
 }
@@ -109,7 +109,7 @@ fn shown_size(shown: &Shown) -> u32
 }
 
 /// The same of one that may be absent.
-fn size_in(shown: &Option<Shown>) -> u32
+fn size_in(shown: &Option<Apart<Shown>>) -> u32
     ensures { result ≡ size_in shown.now }
 {
     match shown {
@@ -138,7 +138,7 @@ fn query_config_verdict(tables: &Tables, caller: u64, handle: u64, size: u32, ne
 }
 
 /// What is answered of a configuration that may be shown.
-fn told(config: Option<Shown>, needed: u32, code: u32) -> Reply
+fn told(config: Option<Apart<Shown>>, needed: u32, code: u32) -> Reply
     ensures { (f : Flat) → result ≡ (answered code (reply.Shown None
         (if code == ERROR_INSUFFICIENT_BUFFER then needed else 0) code) f
         (record { reply = reply.Shown config needed 0; flat = f })).reply }

@@ -25,6 +25,7 @@ use Rattle.scm_rules.specs.QueryConfig2.{query_config2_done, query_config2_told,
 use Rattle.scm_rules.specs.Security.{query_security_done, query_security_told, query_security_verdict}
 use Rattle.scm_rules.specs.Steps.{at_moment, keeps_right}
 use Rattle.scm_rules.specs.Verdicts.{change_of, change_of_call, tells_right}
+use Rattle.scm_core.proofs.Numbers.{numbers_at, numbers_left, processes_at}
 use Rattle.scm_core.specs.Inside.{KeepsMade}
 use Rattle.scm_core.specs.Judged.{told_in, change_if_kept}
 use Rattle.scm_core.specs.Managed.{WasMadeFor}
@@ -181,6 +182,8 @@ has_room_at t u moment (Ended process) flat limits spare has = tt
 has_room_at t u moment (ControlTaken process) flat limits spare has = tt
 has_room_at t u moment (Gone caller) flat limits spare has = tt
 has_room_at t u moment (NoMemory caller) flat limits spare has = tt
+
+pub ruleset before_moment = (is_made_at, has_room_at, numbers_at, processes_at, numbers_left)
 
 -- nor on what is kept
 pub is_made_unkept : (l : Limits) (f : Flat) (made : Prepared) (step : Step) → IsMadeFor l f made step → IsMadeFor l f made (unkept step)

@@ -1,11 +1,16 @@
-ghost use Rattle.std.specs.Prelude.{◌≡◌, IfOk, IsTrue, option_copied, ◌≤◌, ◌<◌, ◌^◌};
+ghost use Rattle.std.specs.Prelude.{ℕ, ◌≡◌, ◌≢◌, IfOk, IsTrue, option_copied, ◌≤◌, ◌<◌, ◌^◌};
 ghost use Rattle.scm_rules.specs.Steps.{may_come, at_moment, effect_of, finished, step_of};
 ghost use Rattle.scm_core.specs.Judged.{change_if_kept, told_in};
 ghost use Rattle.scm_rules.specs.Verdicts.{change_of, change_of_call, tells_right};
 ghost use Rattle.scm_model.specs.declared.steps.Step.TheVariants.{Call};
 ghost use Rattle.scm_core.specs.Room.{HasNumbers, HasRoomForStep, HasRoomForCall, IsMadeFor};
 ghost use Rattle.scm_core.specs.Room.{IsCreation, prepared_for, uses_made};
+ghost use Rattle.scm_model.specs.declared.calls.Request.{Request};
 ghost use Rattle.scm_model.specs.declared.calls.Request.TheVariants as request;
+ghost use Rattle.scm_model.specs.declared.calls.Request.TheVariants.{QueryStatus};
+ghost use Rattle.scm_model.specs.declared.steps.Answer.TheVariants as answers;
+ghost use Rattle.scm_model.specs.declared.steps.Kept.{Kept};
+ghost use Rattle.scm_rules.specs.Query.{query_outcome};
 
 use super::room::Prepared;
 use scm_arms_handle::{close, join, leave, lock, open_manager, open_service, query_lock, unlock};
@@ -16,7 +21,7 @@ use scm_arms_service::{
     change, change2, changed, changed2, create, created, delete, query, removed,
 };
 use scm_arms_start::{end_start, fail_launch, finish, launched, start, take_launch, tick};
-use scm_model::{Answer, Change, Kept, NewService, Request, Step};
+use scm_model::{Answer, Change, Kept, NewService, Reply, Request, Step};
 use scm_tables::Tables;
 use scm_text::OutOfMemory;
 use std::alloc::Global;
@@ -122,6 +127,22 @@ pub fn change_of(tables: &Tables, step: &Step, alloc: Global) -> Result<Option<C
     }
 }
 
+/// Puts an answer in its place.
+#[inline(always)]
+fn put(answer: &mut Answer, now: Answer)
+    ensures { answer.new ≡ now }
+{
+    *answer = now;
+}
+
+/// Puts a reply in the place of an answer.
+#[inline(always)]
+fn put_reply(answer: &mut Answer, now: Reply)
+    ensures { answer.new ≡ answers.Reply now }
+{
+    put(answer, Answer::Reply(now));
+}
+
 /// Takes what a creation asks out of its request.
 fn taken(asked: &mut Request) -> NewService
     requires { IsCreation asked.old }
@@ -129,7 +150,7 @@ fn taken(asked: &mut Request) -> NewService
 {
     let request = replace(asked, Request::Close { handle: 0 });
     match request {
-        Request::Create(new) => new,
+        Request::Create(new) => new.into_inner(),
         other => {
             drop(other);
             unreachable!()
@@ -145,13 +166,14 @@ fn call_made(
     request: &mut Request,
     kept: Kept,
     made: &mut Prepared,
-) -> Answer
+    answer: &mut Answer,
+)
     requires made { made.old ≡ prepared_for tables.old.limits tables.old.flat caller request.old }
     requires room { HasRoomForCall tables.old caller request.old }
     requires numbers { HasNumbers tables.old.flat }
     requires controls { tables.old.limits.controls ≤ 16 }
     requires uses { IsTrue (uses_made request.old) }
-    ensures answer { result ≡ (effect_of tables.old.limits tables.old.flat
+    ensures answer { answer.new ≡ (effect_of tables.old.limits tables.old.flat
         (Call caller request.old kept)).answer }
     ensures flat { tables.new.flat ≡ (effect_of tables.old.limits tables.old.flat
         (Call caller request.old kept)).flat }
@@ -162,24 +184,33 @@ fn call_made(
     match request {
         Request::Change(asked) => {
             let config = made.config.take();
-            Answer::Reply(change(tables, caller, asked, code, config, kept))
+            put_reply(answer, change(tables, caller, asked, code, config, kept))
         }
         Request::Change2 { handle, info } => {
             let config = made.config.take();
-            Answer::Reply(change2(tables, caller, *handle, info, code, config, kept))
+            put_reply(
+                answer,
+                change2(tables, caller, *handle, info, code, config, kept),
+            )
         }
         Request::Create(_) => {
             let new = taken(request);
             let config = made.config.take();
-            Answer::Reply(create(tables, &limits, caller, new, code, config, kept))
+            put_reply(
+                answer,
+                create(tables, &limits, caller, new, code, config, kept),
+            )
         }
         Request::QueryLock { handle, size } => {
             let owner = made.name.take().unwrap();
-            Answer::Reply(query_lock(tables, caller, *handle, *size, owner))
+            put_reply(answer, query_lock(tables, caller, *handle, *size, owner))
         }
         Request::Start { handle, words } => {
             let words = words.take();
-            start(tables, alloc, caller, *handle, words, made.entries.take())
+            put(
+                answer,
+                start(tables, alloc, caller, *handle, words, made.entries.take()),
+            )
         }
         Request::SetSecurity {
             handle,
@@ -188,7 +219,10 @@ fn call_made(
         } => {
             let security = made.security.take();
             let (handle, parts) = (*handle, *parts);
-            Answer::Reply(set_security(tables, caller, handle, parts, bytes, code, security))
+            put_reply(
+                answer,
+                set_security(tables, caller, handle, parts, bytes, code, security),
+            )
         }
         Request::QueryConfig { .. }
         | Request::QuerySecurity { .. }
@@ -197,25 +231,29 @@ fn call_made(
         | Request::EnumDependents { .. }
         | Request::EnumServices { .. }
         | Request::QueryConfig2 { .. }
-        | Request::QueryStatusEx { .. } => Answer::Reply(made.reply.take().unwrap()),
+        | Request::QueryStatusEx { .. } => put_reply(answer, made.reply.take().unwrap()),
         _ => unreachable!(),
     }
 }
 
-/// Does a call.
-fn call(
+/// Does a call that isn't the query of a status. It stands alone because of its frame, which is
+/// large.
+#[inline(never)]
+fn call_other(
     tables: &mut Tables,
     alloc: Global,
     caller: u64,
     request: &mut Request,
     kept: Kept,
     made: &mut Prepared,
-) -> Answer
+    answer: &mut Answer,
+)
+    requires other { (handle : ℕ) → request.old ≢ QueryStatus handle }
     requires made { made.old ≡ prepared_for tables.old.limits tables.old.flat caller request.old }
     requires room { HasRoomForCall tables.old caller request.old }
     requires numbers { HasNumbers tables.old.flat }
     requires controls { tables.old.limits.controls ≤ 16 }
-    ensures answer { result ≡ (effect_of tables.old.limits tables.old.flat
+    ensures answer { answer.new ≡ (effect_of tables.old.limits tables.old.flat
         (Call caller request.old kept)).answer }
     ensures flat { tables.new.flat ≡ (effect_of tables.old.limits tables.old.flat
         (Call caller request.old kept)).flat }
@@ -223,32 +261,74 @@ fn call(
 {
     let limits = tables.limits();
     match request {
-        Request::Close { handle } => Answer::Reply(close(tables, caller, *handle)),
+        Request::Close { handle } => put_reply(answer, close(tables, caller, *handle)),
         Request::Control {
             handle,
             control: code,
-        } => Answer::Reply(control(tables, caller, *handle, *code)),
-        Request::Delete { handle } => Answer::Reply(delete(tables, caller, *handle, kept)),
-        Request::Lock { handle } => Answer::Reply(lock(tables, &limits, caller, *handle)),
-        Request::QueryStatus { handle } => Answer::Reply(query(tables, caller, *handle)),
+        } => put_reply(answer, control(tables, caller, *handle, *code)),
+        Request::Delete { handle } => put_reply(answer, delete(tables, caller, *handle, kept)),
+        Request::Lock { handle } => put_reply(answer, lock(tables, &limits, caller, *handle)),
         Request::SetStatus { handle, status } => {
-            Answer::Reply(set_status(tables, caller, *handle, status))
+            put_reply(answer, set_status(tables, caller, *handle, status))
         }
-        Request::Unlock { handle } => Answer::Reply(unlock(tables, caller, *handle)),
+        Request::Unlock { handle } => put_reply(answer, unlock(tables, caller, *handle)),
         Request::OpenManager { database, access } => {
-            Answer::Reply(open_manager(tables, &limits, caller, database, *access))
+            put_reply(
+                answer,
+                open_manager(tables, &limits, caller, database, *access),
+            )
         }
         Request::OpenService {
             handle,
             name,
             access,
-        } => Answer::Reply(open_service(tables, &limits, caller, *handle, name, *access)),
+        } => put_reply(
+            answer,
+            open_service(tables, &limits, caller, *handle, name, *access),
+        ),
         Request::Notify { handle, mask } => {
-            Answer::Reply(notify(tables, &limits, caller, *handle, *mask))
+            put_reply(answer, notify(tables, &limits, caller, *handle, *mask))
         }
-        Request::GetNotify { handle } => Answer::Reply(get_notify(tables, caller, *handle)),
-        Request::CloseNotify { handle } => Answer::Reply(close_notify(tables, caller, *handle)),
-        _ => call_made(tables, alloc, caller, request, kept, made),
+        Request::GetNotify { handle } => put_reply(answer, get_notify(tables, caller, *handle)),
+        Request::CloseNotify { handle } => put_reply(answer, close_notify(tables, caller, *handle)),
+        _ => call_made(tables, alloc, caller, request, kept, made, answer),
+    }
+}
+
+/// Answers the query of a status. It stands alone, so that no other call's frame is cleared for it.
+#[inline(never)]
+fn answer_status(tables: &Tables, caller: u64, handle: u64, answer: &mut Answer)
+    ensures answer { answer.new ≡ answers.Reply
+        (query_outcome tables.now.flat caller handle).reply }
+    ensures flat { tables.now.flat ≡ (query_outcome tables.now.flat caller handle).flat }
+{
+    put_reply(answer, query(tables, caller, handle));
+}
+
+/// Does a call.
+#[inline(always)]
+fn call(
+    tables: &mut Tables,
+    alloc: Global,
+    caller: u64,
+    request: &mut Request,
+    kept: Kept,
+    made: &mut Prepared,
+    answer: &mut Answer,
+)
+    requires made { made.old ≡ prepared_for tables.old.limits tables.old.flat caller request.old }
+    requires room { HasRoomForCall tables.old caller request.old }
+    requires numbers { HasNumbers tables.old.flat }
+    requires controls { tables.old.limits.controls ≤ 16 }
+    ensures answer { answer.new ≡ (effect_of tables.old.limits tables.old.flat
+        (Call caller request.old kept)).answer }
+    ensures flat { tables.new.flat ≡ (effect_of tables.old.limits tables.old.flat
+        (Call caller request.old kept)).flat }
+    ensures limits { tables.new.limits ≡ tables.old.limits }
+{
+    match request {
+        Request::QueryStatus { handle } => answer_status(tables, caller, *handle, answer),
+        _ => call_other(tables, alloc, caller, request, kept, made, answer),
     }
 }
 
@@ -275,54 +355,71 @@ fn begin(tables: &mut Tables, moment: u64, step: &Step)
     }
 }
 
+/// Does what a step that isn't a call does before the plans are settled and marked services leave.
+/// It stands alone because of its frame, which is large.
+#[inline(never)]
+fn effect_other(tables: &mut Tables, step: &Step, answer: &mut Answer)
+    requires other { (caller : ℕ) (asked : Request) (kept : Kept)
+        → step.now ≢ Call caller asked kept }
+    requires room { HasRoomForStep tables.old step.now }
+    requires numbers { HasNumbers tables.old.flat }
+    requires limit { tables.old.limits.processes < 2 ^ 32 }
+    requires controls { tables.old.limits.controls ≤ 16 }
+    requires processes { tables.old.flat.next.process ≤ 2 ^ 62 }
+    ensures answer { answer.new ≡ (effect_of tables.old.limits tables.old.flat step.now).answer }
+    ensures flat { tables.new.flat ≡ (effect_of tables.old.limits tables.old.flat step.now).flat }
+    ensures limits { tables.new.limits ≡ tables.old.limits }
+{
+    match step {
+        Step::Joined { principal } => put(answer, join(tables, *principal)),
+        Step::EndStart { caller: _, plan } => put(answer, end_start(tables, *plan)),
+        Step::LaunchTaken => put(answer, take_launch(tables)),
+        Step::Launched { process, pid } => put(answer, launched(tables, *process, *pid)),
+        Step::LaunchFailed { process, code } => {
+            put(answer, fail_launch(tables, *process, *code))
+        }
+        Step::Report {
+            process,
+            service,
+            status,
+        } => put(answer, report(tables, *process, *service, status)),
+        Step::Ended { process } => put(answer, end(tables, *process)),
+        Step::ControlTaken { process } => put(answer, take_control(tables, *process)),
+        Step::Tick => put(answer, tick(tables)),
+        Step::Raised { caller, subtype } => put(answer, raise(tables, *caller, subtype)),
+        Step::Gone { caller } => put(answer, leave(tables, *caller)),
+        Step::NoMemory { caller: _ } => put(answer, Answer::Done),
+        Step::Call { .. } => unreachable!(),
+    }
+}
+
 /// Does what a step does before the plans are settled and marked services leave.
-fn effect(tables: &mut Tables, alloc: Global, step: &mut Step, made: &mut Prepared) -> Answer
+#[inline(always)]
+fn effect(
+    tables: &mut Tables,
+    alloc: Global,
+    step: &mut Step,
+    made: &mut Prepared,
+    answer: &mut Answer,
+)
     requires made { IsMadeFor tables.old.limits tables.old.flat made.old step.old }
     requires room { HasRoomForStep tables.old step.old }
     requires numbers { HasNumbers tables.old.flat }
     requires limit { tables.old.limits.processes < 2 ^ 32 }
     requires controls { tables.old.limits.controls ≤ 16 }
     requires processes { tables.old.flat.next.process ≤ 2 ^ 62 }
-    ensures answer { result ≡ (effect_of tables.old.limits tables.old.flat step.old).answer }
+    ensures answer { answer.new ≡ (effect_of tables.old.limits tables.old.flat step.old).answer }
     ensures flat { tables.new.flat ≡ (effect_of tables.old.limits tables.old.flat step.old).flat }
     ensures limits { tables.new.limits ≡ tables.old.limits }
 {
     match step {
-        Step::Joined { principal } => join(tables, *principal),
         Step::Call {
             caller,
             request,
             kept,
-        } => call(tables, alloc, *caller, request, *kept, made),
-        Step::EndStart { caller: _, plan } => end_start(tables, *plan),
-        Step::LaunchTaken => take_launch(tables),
-        Step::Launched { process, pid } => launched(tables, *process, *pid),
-        Step::LaunchFailed { process, code } => fail_launch(tables, *process, *code),
-        Step::Report {
-            process,
-            service,
-            status,
-        } => report(tables, *process, *service, status),
-        Step::Ended { process } => end(tables, *process),
-        Step::ControlTaken { process } => take_control(tables, *process),
-        Step::Tick => tick(tables),
-        Step::Raised { caller, subtype: _ } => {
-            let caller = *caller;
-            let Step::Raised { caller: _, subtype } = step else {
-                unreachable!()
-            };
-            raise(tables, caller, subtype)
-        }
-        Step::Gone { caller } => leave(tables, *caller),
-        Step::NoMemory { caller: _ } => Answer::Done,
+        } => call(tables, alloc, *caller, request, *kept, made, answer),
+        other => effect_other(tables, other, answer),
     }
-}
-
-/// Keeps an answer in place of another.
-fn keep(answer: &mut Answer, now: Answer)
-    ensures { answer.new ≡ now }
-{
-    drop(replace(answer, now));
 }
 
 /// A start that settling decided is answered at once. Each other answer stays where it lies.
@@ -333,11 +430,11 @@ fn finish_begun(tables: &mut Tables, answer: &mut Answer)
 {
     if let Answer::Begun(plan) = answer {
         let begun = Answer::Begun(*plan);
-        keep(answer, finish(tables, begun));
+        put(answer, finish(tables, begun));
     }
 }
 
-#[tactic(auto, using(crate::proofs::Beforehand::is_made_at, crate::proofs::Beforehand::has_room_at, crate::proofs::Numbers::numbers_at, crate::proofs::Numbers::processes_at, crate::proofs::Numbers::numbers_left))]
+#[tactic(auto, using(crate::proofs::Beforehand::before_moment))]
 /// Does a step: its effect, then the plans are settled, a start that this decided is answered, and
 /// marked services leave. `made` was made for it beforehand.
 pub fn act(
@@ -346,22 +443,23 @@ pub fn act(
     moment: u64,
     step: &mut Step,
     made: &mut Prepared,
-) -> Answer
+    answer: &mut Answer,
+)
     requires made { IsMadeFor tables.old.limits tables.old.flat made.old step.old }
     requires room { HasRoomForStep tables.old step.old }
     requires numbers { HasNumbers tables.old.flat }
     requires limit { tables.old.limits.processes < 2 ^ 32 }
     requires controls { tables.old.limits.controls ≤ 16 }
     requires processes { tables.old.flat.next.process ≤ 2 ^ 62 }
-    ensures answer { result ≡ (step_of tables.old.limits tables.old.flat moment step.old).answer }
+    ensures answer { answer.new ≡ (step_of tables.old.limits tables.old.flat moment
+        step.old).answer }
     ensures flat { tables.new.flat ≡ (step_of tables.old.limits tables.old.flat moment
         step.old).flat }
     ensures limits { tables.new.limits ≡ tables.old.limits }
 {
     begin(tables, moment, step);
-    let mut answer = effect(tables, alloc, step, made);
+    effect(tables, alloc, step, made, answer);
     tables.settle();
-    finish_begun(tables, &mut answer);
+    finish_begun(tables, answer);
     tables.purge();
-    answer
 }

@@ -288,6 +288,7 @@ impl Manager {
     /// Makes the room that a step uses, in place of that of another step. Where there is no memory,
     /// all stays as it was, and so does the room for the other step. That can't be where the step
     /// adds no row and begins nothing.
+    #[inline(always)]
     pub fn reserve_for(&mut self, step: &Step) -> Result<(), OutOfMemory>
         ensures ok { OnOk result (self.new ≡ record self.old { room = Some (unkept step.now) }) }
         ensures err { OnErr result (self.new ≡ self.old) }
@@ -311,18 +312,20 @@ impl Manager {
         ensures text { self.new.text ≡ self.old.text + text_of step }
         ensures room { self.new.room ≡ None }
     {
-        let answer = self.step_at(moment, &mut step);
+        let mut answer = Answer::Done;
+        self.step_at(moment, &mut step, &mut answer);
         drop(step);
         answer
     }
 
     /// The same of a step where it lies, which is used up: what it is then plays no part.
-    pub fn step_at(&mut self, moment: u64, step: &mut Step) -> Answer
+    pub fn step_at(&mut self, moment: u64, step: &mut Step, answer: &mut Answer)
         requires may { IsTrue (may self.old.limits self.old.flat moment step.old) }
         requires room { WasMadeFor self.old.room step.old }
         requires steps { self.old.steps < 2 ^ 50 }
         requires text { self.old.text + text_of step.old < 2 ^ 63 }
-        ensures answer { result ≡ (step_of self.old.limits self.old.flat moment step.old).answer }
+        ensures answer { answer.new
+            ≡ (step_of self.old.limits self.old.flat moment step.old).answer }
         ensures flat { self.new.flat
             ≡ (step_of self.old.limits self.old.flat moment step.old).flat }
         ensures limits { self.new.limits ≡ self.old.limits }
@@ -333,7 +336,14 @@ impl Manager {
         self.steps += 1;
         self.text += step.text() as u64;
         forget(&mut self.room);
-        act(&mut self.tables, self.alloc, moment, step, &mut self.made)
+        act(
+            &mut self.tables,
+            self.alloc,
+            moment,
+            step,
+            &mut self.made,
+            answer,
+        );
     }
 
     /// Takes the launch that is wanted first in a step, leaves its path in `path`, and gives the
@@ -439,6 +449,7 @@ impl Manager {
 
     /// How many entries a step may add and leave owed: of a tick and a raise no more than what they
     /// begin. 2^64 - 1 where they are more. It takes no memory.
+    #[inline(always)]
     pub fn debt(&self, step: &Step) -> u64
         ensures { result ≡ min (debt self.now.flat step.now) (2 ^ 64 - 1) }
     {
@@ -474,6 +485,7 @@ impl Manager {
     }
 
     /// The same where it was asked before how many steps are owed.
+    #[inline(always)]
     pub fn room_beside(&self, owing: u64, step: &Step) -> bool
         requires { owing ≡ min (owed self.now.flat) (2 ^ 64 - 1) }
         ensures { result ≡ has_room self.now.limits self.now.flat self.now.steps self.now.text

@@ -8,14 +8,15 @@ use Rattle.scm_core.proofs.effect.call_made.Goals as goal
 
 pub change-requires-clause-verdict : goal.change-requires-clause-verdict
 change-requires-clause-verdict c =
-    ap (λ (p : Prepared). p.code)
-    (c.requires.made ∙ ap (prepared_for c.args.tables.now.limits c.args.tables.now.flat c.args.caller) c.in-Change.is)
+    rw c.deref.ensures
+    (ap (λ (p : Prepared). p.code)
+    (c.requires.made ∙ ap (prepared_for c.args.tables.now.limits c.args.tables.now.flat c.args.caller) c.in-Change.is))
 
 pub returns-in-Change-clause-answer : goal.returns-in-Change-clause-answer
-returns-in-Change-clause-answer c = rw c.in-Change.is (ap answer.Reply c.change.ensures.reply)
+returns-in-Change-clause-answer c = rw (c.in-Change.is, ← c.deref.ensures) (c.put_reply.ensures ∙ ap answer.Reply c.change.ensures.reply)
 
 pub returns-in-Change-clause-flat : goal.returns-in-Change-clause-flat
-returns-in-Change-clause-flat c = rw c.in-Change.is c.change.ensures.flat
+returns-in-Change-clause-flat c = rw (c.in-Change.is, ← c.deref.ensures) c.change.ensures.flat
 
 pub change2-requires-clause-verdict : goal.change2-requires-clause-verdict
 change2-requires-clause-verdict c =
@@ -23,7 +24,7 @@ change2-requires-clause-verdict c =
     (c.requires.made ∙ ap (prepared_for c.args.tables.now.limits c.args.tables.now.flat c.args.caller) c.in-Change2.is)
 
 pub returns-in-Change2-clause-answer : goal.returns-in-Change2-clause-answer
-returns-in-Change2-clause-answer c = rw c.in-Change2.is (ap answer.Reply c.change2.ensures.reply)
+returns-in-Change2-clause-answer c = rw c.in-Change2.is (c.put_reply-in-Change2.ensures ∙ ap answer.Reply c.change2.ensures.reply)
 
 pub returns-in-Change2-clause-flat : goal.returns-in-Change2-clause-flat
 returns-in-Change2-clause-flat c = rw c.in-Change2.is c.change2.ensures.flat
@@ -34,7 +35,8 @@ set_security-requires-clause-verdict c =
     (c.requires.made ∙ ap (prepared_for c.args.tables.now.limits c.args.tables.now.flat c.args.caller) c.in-SetSecurity.is)
 
 pub returns-in-SetSecurity-clause-answer : goal.returns-in-SetSecurity-clause-answer
-returns-in-SetSecurity-clause-answer c = rw c.in-SetSecurity.is (ap answer.Reply c.set_security.ensures.reply)
+returns-in-SetSecurity-clause-answer c =
+    rw c.in-SetSecurity.is (c.put_reply-in-SetSecurity.ensures ∙ ap answer.Reply c.set_security.ensures.reply)
 
 pub returns-in-SetSecurity-clause-flat : goal.returns-in-SetSecurity-clause-flat
 returns-in-SetSecurity-clause-flat c = rw c.in-SetSecurity.is c.set_security.ensures.flat
@@ -49,13 +51,14 @@ create-requires-clause-verdict c =
     (c.requires.made ∙ ap (prepared_for c.args.tables.now.limits c.args.tables.now.flat c.args.caller) c.taken-new.ensures))
 
 pub returns-in-Create-clause-answer : goal.returns-in-Create-clause-answer
-returns-in-Create-clause-answer c = rw (c.taken-new.ensures, ← c.limits-limits.ensures) (ap answer.Reply c.create.ensures.reply)
+returns-in-Create-clause-answer c =
+    rw (c.taken-new.ensures, ← c.limits-limits.ensures) (c.put_reply-in-Create.ensures ∙ ap answer.Reply c.create.ensures.reply)
 
 pub returns-in-Create-clause-flat : goal.returns-in-Create-clause-flat
 returns-in-Create-clause-flat c = rw (c.taken-new.ensures, ← c.limits-limits.ensures) c.create.ensures.flat
 
 pub returns-in-QueryLock-clause-answer : goal.returns-in-QueryLock-clause-answer
-returns-in-QueryLock-clause-answer c = rw c.in-QueryLock.is (ap answer.Reply c.query_lock.ensures)
+returns-in-QueryLock-clause-answer c = rw c.in-QueryLock.is (c.put_reply-in-QueryLock.ensures ∙ ap answer.Reply c.query_lock.ensures)
 
 pub returns-in-QueryLock-clause-flat : goal.returns-in-QueryLock-clause-flat
 returns-in-QueryLock-clause-flat c =

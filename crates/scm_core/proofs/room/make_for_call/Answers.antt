@@ -10,6 +10,9 @@ use Rattle.scm_core.proofs.room.make_for_call.Goals as goal
 abbrev replying : Reply → Prepared
 replying told = record nothing_made { reply = Some told }
 
+pub returns-in-Create : goal.returns-in-Create
+returns-in-Create c = rw (c.in-Create.is, ← c.deref.ensures) c.make_for_create.ensures
+
 pub returns-in-Delete : goal.returns-in-Delete
 returns-in-Delete c =
     made_right (λ (removal : Option Change). record nothing_made { change = removal }) c.removed.result c.made_of_removal.result _ _
