@@ -62,10 +62,27 @@ impl Model for Bench {
         callers = [];
         lock = b.lock;
         moment = 0;
-        next = record { service = 0; handle = 0; process = b.next; plan = 0; registration = 0; due = 0; caller = 0 };
+        next = record {
+          service = 0;
+          handle = 0;
+          process = b.next;
+          plan = 0;
+          registration = 0;
+          due = 0;
+          caller = 0;
+        };
         reboots = 0;
       },
-      record { services = 0; handles = 0; registrations = 0; callers = 0; processes = b.limit; controls = 0; steps = 0; text = 0 },
+      record {
+        services = 0;
+        handles = 0;
+        registrations = 0;
+        callers = 0;
+        processes = b.limit;
+        controls = 0;
+        steps = 0;
+        text = 0;
+      },
     ) };
 
     ghost invariant = { λ b. record {

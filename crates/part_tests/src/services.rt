@@ -8,7 +8,7 @@ use scm_text::OutOfMemory;
 use std::alloc::Global;
 use std::mem::replace;
 use std::test::Fail;
-use test_values::{service, text, unnamed};
+use test_values::{text, unnamed};
 
 /// The name, the display name and the group of a service.
 type Texts = (&'static str, &'static str, &'static str);
@@ -32,7 +32,7 @@ fn config(alloc: Global, (name, display, group): Texts) -> Result<Config, OutOfM
 fn made(alloc: Global, number: u64, texts: Texts) -> Result<Service, OutOfMemory>
     ensures { IfOk result (λ row. row.number ≡ number) }
 {
-    Ok(service(alloc, number, config(alloc, texts)?, zero_status()))
+    Ok(Service::new(alloc, number, config(alloc, texts)?, zero_status()))
 }
 
 /// A service comes.

@@ -78,12 +78,26 @@ fn look_at(trail: &Trail, place: u64) -> Option<(u64, Seen)> {
     }
 }
 
-/// Whether 5000 entries are there, each at its place.
+/// How many bytes the segments have together.
+fn size(trail: &Trail) -> usize {
+    let mut size = 0usize;
+    for place in 0..trail.segments() {
+        if let Some(bytes) = trail.segment(place) {
+            size = size.wrapping_add(bytes.len());
+        }
+    }
+    size
+}
+
+/// Whether 5000 entries of 17 bytes are there, each at its place, in two segments.
 fn are_read_back(alloc: Global, trail: &mut Trail) -> bool {
     if fill(alloc, trail, 5000).is_err() || (trail.len(), trail.text()) != (5000, 0) {
         return false;
     }
-    for (place, moment) in [(0, 0), (4095, 12285), (4096, 12288), (4999, 14997)] {
+    if (trail.segments(), size(trail)) != (2, 85_000) {
+        return false;
+    }
+    for (place, moment) in [(0, 0), (3854, 11562), (3856, 11568), (4999, 14997)] {
         if look_at(trail, place) != Some((moment, Seen::Gone(place))) {
             return false;
         }
@@ -99,7 +113,7 @@ fn entries_are_read_back_at_their_places(rt: HostRuntime) {
     assert!(rt; are_read_back);
 }
 
-/// A call in vain for a handle of the service of this name.
+/// A call for a handle of the service of this name.
 fn asking(name: WText) -> Step {
     Step::Call {
         caller: 1,
@@ -108,24 +122,35 @@ fn asking(name: WText) -> Step {
             name,
             access: 4,
         },
-        kept: Kept::Failed,
+        kept: Kept::NotAsked,
     }
 }
 
-/// Appends a launch that is taken, and such a call.
+/// Appends a launch that is taken, and such a call, which is told that it failed.
 fn ask(alloc: Global, trail: &mut Trail) -> Result<(), OutOfMemory> {
     add(trail, 5, note_of(alloc, Step::LaunchTaken)?)?;
     let Ok(name) = WText::from_units(alloc, &[65, 66, 67]) else {
         return Err(OutOfMemory);
     };
-    add(trail, 7, note_of(alloc, asking(name))?)
+    let mut note = note_of(alloc, asking(name))?;
+    note.tell(Kept::Failed);
+    add(trail, 7, note)
 }
+
+/// The codes of both: a moment of eight bytes and the step's byte, 3 and 1; then the caller, the
+/// opnum 16, the handle, the name's count and units, the access and what became of the change.
+const CODES: [u8; 51] = [
+    5, 0, 0, 0, 0, 0, 0, 0, 3, 7, 0, 0, 0, 0, 0, 0, 0, 1, 1, 0, 0, 0, 0, 0, 0, 0, 16, 0, 9, 0, 0,
+    0, 0, 0, 0, 0, 3, 0, 0, 0, 65, 0, 66, 0, 67, 0, 4, 0, 0, 0, 2,
+];
 
 #[test]
 fn text_is_counted_and_copied(rt: HostRuntime) {
     let mut trail = Trail::new(rt.alloc());
     let is_told = ask(rt.alloc(), &mut trail).is_ok()
         && trail.text() == 6
+        && trail.segment(0) == Some(CODES.as_slice())
+        && trail.segment(1).is_none()
         && look_at(&trail, 1) == Some((7, Seen::Asking));
     drop(trail);
     assert!(rt; is_told);

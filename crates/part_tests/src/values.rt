@@ -4,7 +4,7 @@ use scm_model::{Config, Need, Service};
 use scm_text::{Items, OutOfMemory, WText};
 use std::alloc::Global;
 use std::mem::replace;
-use test_values::{service, text, unnamed};
+use test_values::{text, unnamed};
 
 /// What a service needs.
 #[derive(Clone, Copy)]
@@ -69,7 +69,7 @@ pub fn config(alloc: Global, start: u32, needs: Items<Need>) -> Config {
 
 /// A stopped service.
 pub fn stopped(alloc: Global, number: u64, config: Config) -> Service {
-    service(alloc, number, config, status(0x10, 1))
+    Service::new(alloc, number, config, status(0x10, 1))
 }
 
 /// Appends a service.

@@ -1,38 +1,17 @@
 -- Counts of calls, entry by entry.
 use Rattle.std.proofs.Common.{ℕ, ◌≡◌, ◌∙◌, ◌+◌, ◌<◌, ◌≤◌, ◌^◌, List, [], ◌∷◌, ◌++◌, Option, None, Some, length, drop, get_or, refl, sym, ap}
 use Rattle.std.proofs.Common.{suc, zero, arith, add-one, drop-cons, length-append, append_assoc}
-use Rattle.std.specs.List.{slice_get}
-use Rattle.std.proofs.Math.Seq.{drop-length}
-use Rattle.std.proofs.lemmas.Option.{get_or_from_slice_get, slice_get_within}
 use Rattle.std.proofs.lemmas.List.{get_or_past}
-use Rattle.scm_model.specs.declared.steps.Step.{Step}
-use Rattle.scm_model.specs.declared.steps.Step.TheVariants.{Joined}
 use Rattle.scm_model.specs.Entries.{Entry}
 use Rattle.scm_summary.specs.Calls.{calling, calls_from, calls_of, joined_in, one_if_its, one_joined}
 use Rattle.scm_summary.specs.Lines.{caller_line, callers_from}
-use Rattle.scm_summary.specs.Counting.{CountsTo, HasRoomFor, IsCounted, IsZeros, Raises}
-
--- ## The entry at a place
-
-cut_at : (h : List Entry) (i : ℕ) (e : Entry) → slice_get h i ≡ Some e → drop i h ≡ e ∷ drop (i + 1) h
-cut_at h i e at =
-    let within : i < length h = slice_get_within h i e at in
-    rw add-one (drop-cons h i e within ∙ ap (λ x. x ∷ drop (suc i) h) (get_or_from_slice_get h i e e at))
+use Rattle.scm_summary.specs.Counting.{CountsTo, HasRoomFor, IsZeros, Raises}
 
 -- ## Joinings
 
-one_at_most : (step : Step) → one_joined step ≤ 1
-one_at_most (Joined principal) = omega arith
-one_at_most step = omega arith
-
-pub counted_at : (h : List Entry) (i joined : ℕ) (of : Option ℕ) (e : Entry) → slice_get h i ≡ Some e → joined ≡ one_joined e.1
-    → of ≡ calling e.1 → IsCounted h i joined of
-counted_at h i joined of e at one his = record {
-  joins = ap (λ m. m + joined_in (drop (i + 1) h)) one ∙ sym (ap joined_in (cut_at h i e at));
-  small = rw one (one_at_most e.1);
-  calls = λ caller. ap (λ (o : Option ℕ). one_if_its caller o + calls_of caller (drop (i + 1) h)) his
-      ∙ sym (ap (calls_of caller) (cut_at h i e at));
-}
+-- one entry less is left
+pub joined_one : (left now : List Entry) (e : Entry) → left ≡ e ∷ now → joined_in left ≡ one_joined e.1 + joined_in now
+joined_one left now e is = ap joined_in is
 
 -- ## Calls
 
@@ -44,21 +23,21 @@ few : (caller : ℕ) (h : List Entry) → calls_of caller h ≤ length h
 few caller [] = omega arith
 few caller (e ∷ es) = let one = one_small caller (calling e.1) in let rest = few caller es in omega arith
 
-pub has_room : (h : List Entry) (n i joined : ℕ) (counts : List ℕ) (of : Option ℕ) → length h < 2 ^ 64 → IsCounted h i joined of
-    → CountsTo h n i counts → HasRoomFor counts of
-has_room h n i joined counts of short at so k within =
-    let whole : get_or counts k 0 + calls_of (k + 1) (drop i h) ≡ calls_of (k + 1) h = so.each k (rw (sym so.long) within) in
-    let one = at.calls (k + 1) in
+pub has_room : (h left now : List Entry) (e : Entry) (n : ℕ) (counts : List ℕ) → length h < 2 ^ 64 → left ≡ e ∷ now
+    → CountsTo h left n counts → HasRoomFor counts (calling e.1)
+has_room h left now e n counts short is so k within =
+    let whole : get_or counts k 0 + calls_of (k + 1) left ≡ calls_of (k + 1) h = so.each k (rw (sym so.long) within) in
+    let one : calls_of (k + 1) left ≡ one_if_its (k + 1) (calling e.1) + calls_of (k + 1) now = ap (calls_of (k + 1)) is in
     let most = few (k + 1) h in
     omega arith
 
-pub counts_one : (h : List Entry) (n i joined : ℕ) (counts now : List ℕ) (of : Option ℕ) → IsCounted h i joined of → CountsTo h n i counts
-    → Raises counts of now → CountsTo h n (i + 1) now
-counts_one h n i joined counts now of at so raised = record {
+pub counts_one : (h left now : List Entry) (e : Entry) (n : ℕ) (counts next : List ℕ) → left ≡ e ∷ now → CountsTo h left n counts
+    → Raises counts (calling e.1) next → CountsTo h now n next
+counts_one h left now e n counts next is so raised = record {
   long = raised.long ∙ so.long;
   each = λ k within.
-      let whole : get_or counts k 0 + calls_of (k + 1) (drop i h) ≡ calls_of (k + 1) h = so.each k within in
-      let one = at.calls (k + 1) in
+      let whole : get_or counts k 0 + calls_of (k + 1) left ≡ calls_of (k + 1) h = so.each k within in
+      let one : calls_of (k + 1) left ≡ one_if_its (k + 1) (calling e.1) + calls_of (k + 1) now = ap (calls_of (k + 1)) is in
       let more = raised.each k (rw so.long within) in
       omega arith;
 }
@@ -79,7 +58,7 @@ zeros_more n counts now e zeros = rw e (record {
 pub no_zeros : (counts : List ℕ) → counts ≡ [] → IsZeros 0 counts
 no_zeros counts e = rw e (record { long = refl; nought = λ k. get_or_past [] k 0 (omega arith) })
 
-pub counts_none : (h : List Entry) (n : ℕ) (counts : List ℕ) → IsZeros n counts → CountsTo h n 0 counts
+pub counts_none : (h : List Entry) (n : ℕ) (counts : List ℕ) → IsZeros n counts → CountsTo h h n counts
 counts_none h n counts zeros = record {
   long = zeros.long;
   each = λ k within. let none = zeros.nought k in omega arith;
@@ -96,10 +75,9 @@ listed h (suc n) first (c ∷ cs) long each =
     (λ k within. each (suc k) (omega arith) ∙ ap (λ m. calls_of m h) (omega arith)) in
     ap (λ m. m ∷ cs) front ∙ ap (λ ms. calls_of first h ∷ ms) rest
 
-pub all_listed : (h : List Entry) (n : ℕ) (counts : List ℕ) → CountsTo h n (length h) counts → counts ≡ calls_from h 1 n
+pub all_listed : (h : List Entry) (n : ℕ) (counts : List ℕ) → CountsTo h [] n counts → counts ≡ calls_from h 1 n
 all_listed h n counts so = listed h n 1 counts so.long (λ k within.
     let whole = so.each k within in
-    let none : calls_of (k + 1) (drop (length h) h) ≡ 0 = ap (calls_of (k + 1)) (drop-length h) in
     let same : calls_of (k + 1) h ≡ calls_of (1 + k) h = ap (λ m. calls_of m h) (omega arith) in
     omega arith)
 

@@ -1,7 +1,7 @@
 -- Counts of calls while they are made: the first is that of caller 1, and each is the only one of its caller.
-use Rattle.std.specs.Prelude.{ℕ, ◌≡◌, ◌+◌, ◌<◌, ◌≤◌, ◌^◌, List, Option, length, drop, get_or}
+use Rattle.std.specs.Prelude.{ℕ, ◌≡◌, ◌+◌, ◌<◌, ◌^◌, List, Option, length, get_or}
 use Rattle.scm_model.specs.Entries.{Entry}
-use Rattle.scm_summary.specs.Calls.{calls_of, joined_in, one_if_its}
+use Rattle.scm_summary.specs.Calls.{calls_of, one_if_its}
 
 pub record IsZeros (count : ℕ) (counts : List ℕ) : Type 0 where
   pub long : length counts ≡ count
@@ -16,13 +16,7 @@ pub record Raises (counts : List ℕ) (caller : Option ℕ) (now : List ℕ) : T
   pub long : length now ≡ length counts
   pub each : (k : ℕ) → k < length counts → get_or now k 0 ≡ get_or counts k 0 + one_if_its (k + 1) caller
 
--- the entry at a place joins so many callers, and is this caller's call
-pub record IsCounted (h : List Entry) (place joined : ℕ) (calling : Option ℕ) : Type 0 where
-  pub joins : joined + joined_in (drop (place + 1) h) ≡ joined_in (drop place h)
-  pub small : joined ≤ 1
-  pub calls : (caller : ℕ) → one_if_its caller calling + calls_of caller (drop (place + 1) h) ≡ calls_of caller (drop place h)
-
--- what is counted and what is yet to be counted are the calls of each caller
-pub record CountsTo (h : List Entry) (callers done : ℕ) (counts : List ℕ) : Type 0 where
+-- what is counted and what is yet to be counted, of the entries that are left, are the calls of each caller
+pub record CountsTo (h left : List Entry) (callers : ℕ) (counts : List ℕ) : Type 0 where
   pub long : length counts ≡ callers
-  pub each : (k : ℕ) → k < callers → get_or counts k 0 + calls_of (k + 1) (drop done h) ≡ calls_of (k + 1) h
+  pub each : (k : ℕ) → k < callers → get_or counts k 0 + calls_of (k + 1) left ≡ calls_of (k + 1) h

@@ -1,6 +1,6 @@
-ghost use Rattle.std.specs.Prelude.{◌≡◌, ◌≤◌, ◌+◌, ◌<◌, ◌^◌, length, IfOk, OnOk};
+ghost use Rattle.std.specs.Prelude.{◌≡◌, ◌≤◌, [], length, IfOk, OnOk};
 ghost use Rattle.scm_summary.specs.Calls.{calling, calls_from, joined_in, one_joined};
-ghost use Rattle.scm_summary.specs.Counting.{CountsTo, HasRoomFor, IsCounted, IsZeros, Raises};
+ghost use Rattle.scm_summary.specs.Counting.{CountsTo, HasRoomFor, IsZeros, Raises};
 
 use scm_model::Step;
 use scm_text::OutOfMemory;
@@ -34,36 +34,15 @@ fn calling(step: &Step) -> Option<u64>
     }
 }
 
-/// What is counted of one entry.
-#[derive(Clone, Copy)]
-struct Count {
-    /// 1 where it joins a caller.
-    joined: u64,
-    /// The caller whose call it is.
-    calling: Option<u64>,
-}
-
-/// What is counted of the entry at a place.
-fn counted(trail: &Trail, place: u64) -> Result<Count, OutOfMemory>
-    requires { place < length trail.now.entries }
-    ensures { IfOk result (λ c. IsCounted trail.now.entries place c.joined c.calling) }
-{
-    let (_, step) = trail.entry(place)?;
-    let count = Count {
-        joined: one_joined(&step),
-        calling: calling(&step),
-    };
-    drop(step);
-    Ok(count)
-}
-
 /// How many callers joined.
 fn joined_in(trail: &Trail) -> Result<u64, OutOfMemory>
     ensures { IfOk result (λ count. count ≡ joined_in trail.now.entries) }
 {
+    let mut entries = trail.entries();
     let mut count = 0;
-    for place in 0..trail.len() {
-        count += counted(trail, place)?.joined;
+    while let Some((_, step)) = entries.next()? {
+        count += one_joined(&step);
+        drop(step);
     }
     Ok(count)
 }
@@ -94,15 +73,16 @@ fn raise(counts: &mut [u64], caller: Option<u64>)
     }
 }
 
-/// Counts the entry at a place.
-fn add(counts: &mut [u64], trail: &Trail, place: u64) -> Result<(), OutOfMemory>
-    requires place { place < length trail.now.entries }
-    requires short { length trail.now.entries < 2 ^ 64 }
-    requires counts { CountsTo trail.now.entries (length counts.old) place counts.old }
-    ensures { OnOk result
-        (CountsTo trail.now.entries (length counts.old) (place + 1) counts.new) }
+/// Counts the calls in a history, for counts that are each 0.
+fn count_calls(counts: &mut [u64], trail: &Trail) -> Result<(), OutOfMemory>
+    requires { IsZeros (length counts.old) counts.old }
+    ensures { OnOk result (CountsTo trail.now.entries [] (length counts.old) counts.new) }
 {
-    raise(counts, counted(trail, place)?.calling);
+    let mut entries = trail.entries();
+    while let Some((_, step)) = entries.next()? {
+        raise(counts, calling(&step));
+        drop(step);
+    }
     Ok(())
 }
 
@@ -112,8 +92,11 @@ pub fn calls(alloc: Global, trail: &Trail) -> Result<Vec<u64>, OutOfMemory>
         ≡ calls_from trail.now.entries 1 (joined_in trail.now.entries)) }
 {
     let mut counts = zeros(alloc, joined_in(trail)?)?;
-    for place in 0..trail.len() {
-        add(&mut counts, trail, place)?;
+    match count_calls(&mut counts, trail) {
+        Ok(()) => Ok(counts),
+        Err(OutOfMemory) => {
+            drop(counts);
+            Err(OutOfMemory)
+        }
     }
-    Ok(counts)
 }

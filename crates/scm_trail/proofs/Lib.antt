@@ -1,1 +1,3 @@
-mod Filled
+mod Codes
+mod Telling
+mod Lists

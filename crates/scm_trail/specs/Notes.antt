@@ -1,11 +1,18 @@
--- The step that is written in little room.
-use Rattle.std.specs.Prelude.{ℕ, Bool, true, false}
+-- The step of a note: one of numbers alone in little room, any other as its code.
+use Rattle.std.specs.Prelude.{ℕ, ◌≡◌, ◌++◌, Bool, true, false, List, Option, None, Some}
+use Rattle.scm_model.specs.Entries.{Entry}
+use Rattle.scm_model.specs.Texts.{text_of}
 use Rattle.scm_model.specs.declared.calls.Request.{Request}
 use Rattle.scm_model.specs.declared.calls.Request.TheVariants as requests
 use Rattle.scm_model.specs.declared.steps.Step.{Step}
 use Rattle.scm_model.specs.declared.steps.Step.TheVariants as steps
+use Rattle.step_code.specs.Codes.{n8, step_code}
+use Rattle.step_code.specs.Fits.{HasCode}
+use Rattle.step_code.specs.Reading.{entry_at}
 use Rattle.scm_trail.specs.declared.note.Asked.{Asked}
 use Rattle.scm_trail.specs.declared.note.Asked.TheVariants as asks
+use Rattle.scm_trail.specs.declared.note.Body.{Body}
+use Rattle.scm_trail.specs.declared.note.Body.TheVariants as bodies
 use Rattle.scm_trail.specs.declared.note.Written.{Written}
 use Rattle.scm_trail.specs.declared.note.Written.TheVariants as writes
 
@@ -34,7 +41,29 @@ step_by (writes.ControlTaken process) = steps.ControlTaken process
 step_by writes.Tick = steps.Tick
 step_by (writes.Gone caller) = steps.Gone caller
 step_by (writes.NoMemory caller) = steps.NoMemory caller
-step_by (writes.Whole step) = step.value
+
+-- what was read of a code, `Tick` if it is none
+abbrev pub read_step : Option (Entry × List ℕ) → Step
+read_step None = steps.Tick
+read_step (Some item) = item.0.1
+
+-- the step that has this code
+abbrev pub step_in : List ℕ → Step
+step_in code = read_step (entry_at (n8 0 ++ code))
+
+-- the bytes are the code of a step that has so much text
+pub record IsStepCode (code : List ℕ) (text : ℕ) : Type 0 where
+  pub exact : code ≡ step_code (step_in code)
+  pub fits : HasCode (step_in code)
+  pub text_is : text ≡ text_of (step_in code)
+
+abbrev pub noted : Body → Step
+noted (bodies.InPlace written) = step_by written
+noted (bodies.Coded code text) = step_in code.items
+
+abbrev pub IsNoted : Body → Type 0
+IsNoted (bodies.InPlace written) = Unit {0}
+IsNoted (bodies.Coded code text) = IsStepCode code.items text
 
 -- a step that takes no memory to write, whatever it holds
 abbrev pub is_brief : Step → Bool

@@ -1,14 +1,22 @@
-// A step in little room.
-ghost use Rattle.std.specs.Prelude.{◌≡◌, ◌-◌, ◌^◌, min, true, IfOk, IfSome, IsSome, Some};
+// A step as it waits to be appended.
+ghost use Rattle.std.specs.Prelude.{◌≡◌, ◌+◌, ◌-◌, ◌<◌, ◌≤◌, ◌^◌, ◌++◌, min, true, IfOk, IfSome};
+ghost use Rattle.std.specs.Prelude.{IsSome, Some, length};
 ghost use Rattle.scm_model.specs.Entries.{with_kept};
-ghost use Rattle.scm_model.specs.Texts.{text_of};
+ghost use Rattle.scm_model.specs.Texts.{text_of, text_of_call};
 ghost use Rattle.scm_model.specs.declared.steps.Step.TheVariants.{Call};
-ghost use Rattle.scm_trail.specs.Notes.{is_brief, request_by, step_by};
+ghost use Rattle.step_code.specs.Codes.{appended, code_of, n8, step_code};
+ghost use Rattle.step_code.specs.Fits.{HasCode};
+ghost use Rattle.scm_trail.specs.Notes.{IsNoted, IsStepCode, is_brief, noted, request_by, step_by};
+ghost use Rattle.scm_trail.specs.Notes.{step_in};
 
 use scm_model::{Kept, Principal, Request, Step};
-use scm_text::OutOfMemory;
+use scm_text::{Buffer, OutOfMemory};
 use std::alloc::Global;
 use std::marker::Model;
+use step_code::{code_length, write_code, write_step};
+
+/// The first byte of a call's code.
+const CALL: u8 = 1;
 
 /// What a call asks that has a handle, and a number beside it at most.
 #[derive(Clone, Copy)]
@@ -34,8 +42,8 @@ pub struct ByHandle {
     pub handle: u64,
 }
 
-/// A step. A report, a raise, and a call with texts or with more than a number, don't lie in place.
-#[derive(Drop)]
+/// A step of numbers alone, but a report and a raise.
+#[derive(Clone, Copy)]
 pub enum Written {
     Joined(Principal),
     Called {
@@ -71,25 +79,33 @@ pub enum Written {
     NoMemory {
         caller: u64,
     },
-    /// Any other, in memory of its own.
-    Whole(Box<Step>),
 }
 
-/// A step as a trail keeps it. It has 24 bytes, where a step has 240; a report, a raise, and a call
-/// with texts or with more than a number, have memory of their own beside them. Contracts see the
-/// step.
+/// What a note keeps of a step.
+#[derive(Drop)]
+pub enum Body {
+    InPlace(Written),
+    /// The code of a step, without a moment, and how much text the step has.
+    Coded { code: Buffer<u8>, text: u64 },
+}
+
+/// A step that waits to be appended to a trail. A step of numbers alone lies in it. A report, a
+/// raise, and a call with texts or with more than a number, lie in memory of their own, as the
+/// bytes that the trail keeps of them. Contracts see the step.
 #[derive(Drop)]
 pub struct Note {
-    written: Written,
+    body: Body,
 }
 
 impl Model for Note {
     ghost use Rattle.scm_model.specs.declared.steps.Step.{Step};
-    ghost use Rattle.scm_trail.specs.Notes.{step_by};
+    ghost use Rattle.scm_trail.specs.Notes.{IsNoted, noted};
 
     ghost Value = { Step };
 
-    ghost view = { λ n. step_by n.written };
+    ghost view = { λ n. noted n.body };
+
+    ghost invariant = { λ n. IsNoted n.body };
 }
 
 /// A call that has a handle alone.
@@ -142,7 +158,8 @@ fn call_of(request: &Request) -> Option<ByHandle>
 
 /// The request.
 fn request_of(asked: Asked, number: u32, handle: u64) -> Request
-    ensures { result ≡ request_by asked number handle }
+    ensures request { result ≡ request_by asked number handle }
+    ensures text { text_of_call result ≡ 0 }
 {
     match asked {
         Asked::Close => Request::Close { handle },
@@ -223,35 +240,89 @@ fn in_place(step: &Step) -> Option<Written>
     }
 }
 
-/// Lets a step tell what became of its change.
-fn tell(step: &mut Step, now: Kept)
-    ensures { step.new ≡ with_kept step.old now }
+/// The code of a step, in memory of its own. There is none of a step with 2^32 bytes of text.
+fn coded(alloc: Global, step: &Step) -> Result<Body, OutOfMemory>
+    ensures step { IfOk result (λ body. noted body ≡ step.now) }
+    ensures noted { IfOk result (λ body. IsNoted body) }
 {
-    if let Step::Call { kept, .. } = step {
-        *kept = now;
+    let Some(size) = code_length(step) else {
+        return Err(OutOfMemory);
+    };
+    let mut code = Buffer::with_room(alloc, size)?;
+    write_step(&mut code, step);
+    let text = step.text() as u64;
+    Ok(Body::Coded { code, text })
+}
+
+/// The last byte of a call's code.
+fn kept_byte(kept: Kept) -> u8
+    ensures { result ≡ appended kept }
+{
+    match kept {
+        Kept::NotAsked => 0,
+        Kept::Kept => 1,
+        Kept::Failed => 2,
     }
 }
 
-/// A step in memory of its own.
-fn boxed(alloc: Global, step: Step) -> Result<Box<Step>, OutOfMemory>
-    ensures { IfOk result (λ whole. whole.value ≡ step) }
+/// Lets the code of a step tell what became of its change, which the last byte of a call's code
+/// does.
+fn tell_code(code: &mut Buffer<u8>, now: Kept)
+    requires { code.old.items ≡ step_code (step_in code.old.items) }
+    ensures { code.new.items ≡ step_code (with_kept (step_in code.old.items) now) }
 {
-    match Box::new(alloc, step) {
-        Ok(whole) => Ok(whole),
-        Err(_) => Err(OutOfMemory),
+    let bytes = code.as_slice();
+    let last = bytes.len() - 1;
+    if bytes[0] == CALL {
+        code.put(last, kept_byte(now));
     }
+}
+
+/// Lets a step tell what became of its change.
+fn tell(body: &mut Body, now: Kept)
+    requires { IsNoted body.old }
+    ensures step { noted body.new ≡ with_kept (noted body.old) now }
+    ensures noted { IsNoted body.new }
+{
+    match body {
+        Body::InPlace(Written::Called { kept, .. }) => *kept = now,
+        Body::InPlace(_) => {}
+        Body::Coded { code, text: _ } => tell_code(code, now),
+    }
+}
+
+/// Writes the code of an entry into room that there is, of a step in place.
+fn write_in_place(written: &Written, into: &mut Buffer<u8>, moment: u64)
+    requires { 128 ≤ into.old.room }
+    ensures bytes { into.new.items ≡ into.old.items ++ code_of (moment, step_by written.now) }
+    ensures room { into.old.room ≤ into.new.room + 128 }
+    ensures fits { HasCode (step_by written.now) }
+{
+    let step = written.step();
+    write_code(into, moment, &step);
+    drop(step);
+}
+
+/// Writes the code of an entry into room that there is, of the code of its step.
+fn write_coded(code: &[u8], into: &mut Buffer<u8>, moment: u64)
+    requires { 8 + length code.now ≤ into.old.room }
+    ensures bytes { into.new.items ≡ into.old.items ++ (n8 moment ++ code.now) }
+    ensures room { into.new.room + (8 + length code.now) ≡ into.old.room }
+{
+    into.extend(&moment.to_le_bytes());
+    into.extend(code);
 }
 
 impl Note {
-    /// The note of a step.
+    /// The note of a step. There is none of a step with 2^32 bytes of text.
     pub fn new(alloc: Global, step: &Step) -> Result<Note, OutOfMemory>
         ensures { IfOk result (λ note. note ≡ step.now) }
     {
-        let written = match in_place(step) {
-            Some(written) => written,
-            None => Written::Whole(boxed(alloc, step.copy(alloc)?)?),
+        let body = match in_place(step) {
+            Some(written) => Body::InPlace(written),
+            None => coded(alloc, step)?,
         };
-        Ok(Note { written })
+        Ok(Note { body })
     }
 
     /// The note of a step that takes no memory. There is one of each step that is no call, no
@@ -261,44 +332,49 @@ impl Note {
         ensures some { is_brief step.now ≡ true → IsSome result }
     {
         let written = in_place(step)?;
-        Some(Note { written })
+        Some(Note {
+            body: Body::InPlace(written),
+        })
     }
 
     /// Lets the note tell what became of its change.
     pub fn tell(&mut self, now: Kept)
         ensures { self.new ≡ with_kept self.old now }
     {
-        match &mut self.written {
-            Written::Called { kept, .. } => *kept = now,
-            Written::Whole(step) => tell(step, now),
-            _ => {}
-        }
+        tell(&mut self.body, now);
     }
 
     /// How much text the step has, as `Step::text` counts it.
     pub fn text(&self) -> u128
         ensures { result ≡ min (text_of self.now) (2 ^ 128 - 1) }
     {
-        match &self.written {
-            Written::Whole(step) => step.text(),
-            _ => 0,
+        match &self.body {
+            Body::InPlace(_) => 0,
+            Body::Coded { text, .. } => u128::from(*text),
         }
     }
 
-    /// A copy of the step.
-    pub fn step(&self, alloc: Global) -> Result<Step, OutOfMemory>
-        ensures { IfOk result (λ step. step ≡ self.now) }
+    /// Writes the code of an entry with the step, and takes no memory.
+    pub(crate) fn write(&self, into: &mut Buffer<u8>, moment: u64)
+        requires { 128 + text_of self.now ≤ into.old.room }
+        ensures bytes { into.new.items ≡ into.old.items ++ code_of (moment, self.now) }
+        ensures room { into.old.room ≤ into.new.room + (128 + text_of self.now) }
+        ensures fits { HasCode self.now }
     {
-        self.written.step(alloc)
+        match &self.body {
+            Body::InPlace(written) => write_in_place(written, into, moment),
+            Body::Coded { code, .. } => write_coded(code.as_slice(), into, moment),
+        }
     }
 }
 
 impl Written {
-    /// A copy of the step.
-    fn step(&self, alloc: Global) -> Result<Step, OutOfMemory>
-        ensures { IfOk result (λ step. step ≡ step_by self.now) }
+    /// The step.
+    fn step(&self) -> Step
+        ensures step { result ≡ step_by self.now }
+        ensures text { text_of result ≡ 0 }
     {
-        Ok(match self {
+        match self {
             Written::Joined(principal) => Step::Joined {
                 principal: *principal,
             },
@@ -331,7 +407,6 @@ impl Written {
             Written::Tick => Step::Tick,
             Written::Gone { caller } => Step::Gone { caller: *caller },
             Written::NoMemory { caller } => Step::NoMemory { caller: *caller },
-            Written::Whole(step) => return step.copy(alloc),
-        })
+        }
     }
 }

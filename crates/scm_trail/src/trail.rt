@@ -1,25 +1,39 @@
-ghost use Rattle.std.specs.Prelude.{◌≡◌, ◌+◌, ◌<◌, ◌≤◌, ◌++◌, ◌∷◌, [], IfOk, IsOk, OnOk, OnErr};
-ghost use Rattle.std.specs.Prelude.{Some, length, slice_get};
+// The trail, and the segments that its bytes lie in.
+ghost use Rattle.std.specs.Prelude.{◌≡◌, ◌+◌, ◌<◌, ◌≤◌, ◌^◌, ◌++◌, ◌∷◌, [], IfOk};
+ghost use Rattle.std.specs.Prelude.{IsOk, OnErr, OnOk, Some, drop, get_or, length, option_map};
+ghost use Rattle.std.specs.Prelude.{slice_get};
+ghost use Rattle.std.specs.List.{flat_map};
 ghost use Rattle.scm_model.specs.Entries.{text_in};
 ghost use Rattle.scm_model.specs.Texts.{text_of};
-ghost use Rattle.scm_trail.specs.Chunks.{AddsChunks};
+ghost use Rattle.step_code.specs.Codes.{code_of};
+ghost use Rattle.scm_trail.specs.Segments.{AddsSegments, all_entries, bytes_for, last_room};
+ghost use Rattle.scm_trail.specs.Segments.{no_segment};
+ghost use Rattle.scm_trail.specs.Trailed.{no_entries};
 
+use crate::entries::Entries;
 use crate::note::Note;
+use crate::segment::Segment;
 use scm_model::Step;
-use scm_text::{Buffer, OutOfMemory};
+use scm_text::OutOfMemory;
 use std::alloc::Global;
 use std::marker::Model;
 
-/// How many entries a chunk has places for.
-const CHUNK: u64 = 4096;
+/// How many bytes a segment has beside those that are promised when it is made.
+const SEGMENT: u64 = 65_536;
+
+/// How many bytes the code of an entry has at most, without its text.
+const MOST: u64 = 128;
 
 /// The entries of a history: moments in milliseconds and steps, in order. Contracts see them, and
 /// how many entries and how much text more find room.
 ///
-/// They lie in chunks of 4,096 rows of 32 bytes, so that no entry is ever moved. Where chunks are
-/// added, only their list may be copied, which has 24 bytes a chunk.
+/// Each entry is kept as its code, which `step_code` writes. The codes lie in segments of 65,536
+/// bytes and what was promised beside them, one after another, each in one segment, so that no
+/// code is ever moved. Where a segment is added, only their list may be copied.
 pub struct Trail {
-    chunks: Vec<Buffer<(u64, Note)>>,
+    segments: Vec<Segment>,
+    /// The place of the segment that the last entry lies in.
+    current: usize,
     len: u64,
     room: u64,
     text: u64,
@@ -30,53 +44,101 @@ pub struct Trail {
 impl Drop for Trail {
     fn drop(self) {
         let Trail {
-            chunks,
+            segments,
+            current: _current,
             len: _len,
             room: _room,
             text: _text,
             text_room: _text_room,
         } = self;
-        drop(chunks);
+        drop(segments);
     }
 }
 
 impl Model for Trail {
+    ghost use Rattle.std.specs.Prelude.{map};
     ghost use Rattle.scm_trail.specs.Trailed.{Trailed};
-    ghost use Rattle.scm_trail.specs.Chunks.{IsKept, all_entries};
+    ghost use Rattle.scm_trail.specs.Segments.{IsKept, all_entries};
 
     ghost Value = { Trailed };
 
     ghost view = { λ t. record {
-      entries = all_entries t.chunks.items;
+      entries = all_entries t.segments.items;
       room = t.room;
       text_room = t.text_room;
+      parts = map (λ s. s.entries) t.segments.items;
     } };
 
-    ghost invariant = { λ t. IsKept t.chunks.items t.len t.room t.text t.text_room };
+    ghost invariant = { λ t. IsKept t.segments.items t.current t.len t.room t.text t.text_room };
 }
 
-/// Adds empty chunks until there are so many.
-fn add_chunks(chunks: &mut Vec<Buffer<(u64, Note)>>, count: u64) -> Result<(), OutOfMemory>
-    ensures added { AddsChunks chunks.old.items chunks.new.items }
-    ensures ok { OnOk result (count ≤ length chunks.new.items) }
+/// How many bytes the codes of so many entries have at most, with so much text together, if these
+/// can be counted.
+fn bytes_for(entries: u64, text: u64) -> Result<u64, OutOfMemory>
+    ensures { IfOk result (λ bytes. bytes ≡ bytes_for entries text) }
 {
-    let alloc = *chunks.allocator();
-    while (chunks.len() as u64) < count {
-        let chunk = Buffer::with_room(alloc, CHUNK as usize)?;
-        if chunks.push(chunk).is_err() {
-            return Err(OutOfMemory);
-        }
+    let Some(codes) = entries.checked_mul(MOST) else {
+        return Err(OutOfMemory);
+    };
+    let Some(bytes) = codes.checked_add(text) else {
+        return Err(OutOfMemory);
+    };
+    Ok(bytes)
+}
+
+/// How much room the last segment has, 0 if there is none.
+fn last_room(segments: &[Segment]) -> usize
+    ensures { result ≡ last_room segments.now }
+{
+    if segments.is_empty() {
+        return 0;
+    }
+    segments[segments.len() - 1].room()
+}
+
+/// Adds an empty segment, if the last one doesn't have so much room.
+fn make_room(segments: &mut Vec<Segment>, bytes: u64) -> Result<(), OutOfMemory>
+    ensures added { AddsSegments segments.old.items segments.new.items }
+    ensures ok { OnOk result (bytes ≤ last_room segments.new.items) }
+    ensures err { OnErr result (segments.new.items ≡ segments.old.items) }
+{
+    if bytes <= last_room(segments) as u64 {
+        return Ok(());
+    }
+    let Some(size) = bytes.checked_add(SEGMENT) else {
+        return Err(OutOfMemory);
+    };
+    let segment = Segment::with_room(*segments.allocator(), size as usize)?;
+    if segments.push(segment).is_err() {
+        return Err(OutOfMemory);
     }
     Ok(())
+}
+
+/// The first place from this one on whose segment has so much room.
+fn place_with_room(segments: &[Segment], from: usize, bytes: usize) -> usize
+    requires within { from < length segments.now }
+    requires rest { all_entries (drop (from + 1) segments.now) ≡ [] }
+    requires last { bytes ≤ last_room segments.now }
+    ensures within { result < length segments.now }
+    ensures rest { all_entries (drop (result + 1) segments.now) ≡ [] }
+    ensures room { bytes ≤ (get_or segments.now result no_segment).room }
+{
+    let mut place = from;
+    while segments[place].room() < bytes {
+        place += 1;
+    }
+    place
 }
 
 impl Trail {
     /// A trail of no entries and no room, which takes no memory.
     pub fn new(alloc: Global) -> Trail
-        ensures { result ≡ record { entries = []; room = 0; text_room = 0 } }
+        ensures { result ≡ no_entries }
     {
         Trail {
-            chunks: Vec::new(alloc),
+            segments: Vec::new(alloc),
+            current: 0,
             len: 0,
             room: 0,
             text: 0,
@@ -85,7 +147,10 @@ impl Trail {
     }
 
     /// Makes room for some entries more, which may have this much text together. It takes no
-    /// memory where there is such room. For 2^64 entries in all, or as much text, there is none.
+    /// memory where there is such room. If there isn't, the last segment is to have 128 bytes for
+    /// each entry, and those of the text; if it hasn't, one is added that has them and 65,536
+    /// bytes beside, so room for a million entries is 128 MB in one piece. For 2^64 bytes, 2^64
+    /// entries in all, or as much text, there is none.
     pub fn reserve(&mut self, entries: u64, text: u64) -> Result<(), OutOfMemory>
         ensures entries { self.new.entries ≡ self.old.entries }
         ensures room { self.old.room ≤ self.new.room }
@@ -99,13 +164,11 @@ impl Trail {
         }
         let room = self.room.max(entries);
         let text_room = self.text_room.max(text);
-        let Some(places) = self.len.checked_add(room) else {
-            return Err(OutOfMemory);
-        };
-        if self.text.checked_add(text_room).is_none() {
+        if self.len.checked_add(room).is_none() || self.text.checked_add(text_room).is_none() {
             return Err(OutOfMemory);
         }
-        add_chunks(&mut self.chunks, places.div_ceil(CHUNK))?;
+        let bytes = bytes_for(room, text_room)?;
+        make_room(&mut self.segments, bytes)?;
         self.room = room;
         self.text_room = text_room;
         Ok(())
@@ -119,10 +182,13 @@ impl Trail {
         ensures room { self.old.room ≤ self.new.room + 1 }
         ensures text_room { self.old.text_room ≤ self.new.text_room + text_of step }
     {
-        let place = (self.len / CHUNK) as usize;
+        let from = self.current;
         let text = step.text() as u64;
-        let chunk = &mut self.chunks[place];
-        chunk.push((moment, step));
+        let bytes = (MOST + text) as usize;
+        self.current = place_with_room(&self.segments, from, bytes);
+        let segment = &mut self.segments[self.current];
+        segment.push(moment, &step);
+        drop(step);
         self.len += 1;
         self.room -= 1;
         self.text += text;
@@ -143,22 +209,46 @@ impl Trail {
         self.text
     }
 
-    /// The row of an entry.
-    fn row(&self, place: u64) -> &(u64, Note)
-        requires { place < length self.now.entries }
-        ensures { slice_get self.now.entries place ≡ Some result.now }
-    {
-        let chunk = &self.chunks[(place / CHUNK) as usize];
-        &chunk.as_slice()[(place % CHUNK) as usize]
-    }
-
     /// A copy of the entry at a place.
     pub fn entry(&self, place: u64) -> Result<(u64, Step), OutOfMemory>
         requires { place < length self.now.entries }
         ensures { IfOk result (λ entry. slice_get self.now.entries place ≡ Some entry) }
     {
-        let alloc = *self.chunks.allocator();
-        let (moment, step) = self.row(place);
-        Ok((*moment, step.step(alloc)?))
+        let mut entries = self.entries();
+        entries.skip(place)?;
+        let Some(entry) = entries.next()? else {
+            unreachable!()
+        };
+        Ok(entry)
+    }
+
+    /// The entries in order, which are read back one by one.
+    pub fn entries(&self) -> Entries<'_>
+        ensures entries { result ≡ self.now.entries }
+        ensures small { length self.now.entries < 2 ^ 64 }
+    {
+        Entries::of(*self.segments.allocator(), &self.segments)
+    }
+
+    /// How many segments there are. Joined, they are the codes of the entries, in order.
+    pub fn segments(&self) -> usize
+        ensures count { result ≡ length self.now.parts }
+        ensures entries { flat_map (λ part. part) self.now.parts ≡ self.now.entries }
+        ensures codes { flat_map (λ part. flat_map code_of part) self.now.parts
+            ≡ flat_map code_of self.now.entries }
+    {
+        self.segments.len()
+    }
+
+    /// The bytes of a segment, which are the codes of its entries. `None` comes exactly if there is
+    /// none at this place.
+    pub fn segment(&self, place: usize) -> Option<&[u8]>
+        ensures { option_map (λ bytes. bytes.now) result
+            ≡ option_map (flat_map code_of) (slice_get self.now.parts place) }
+    {
+        match self.segments.get(place) {
+            Some(segment) => Some(segment.bytes()),
+            None => None,
+        }
     }
 }

@@ -1,21 +1,21 @@
-use Rattle.std.proofs.Common.{◌≡◌, sym, subst, length, arith}
+use Rattle.std.proofs.Common.{◌≡◌, ◌∙◌, ℕ, [], List, ap, arith, drop, length, subst}
+use Rattle.std.proofs.lemmas.List.{take_at}
 use Rattle.scm_summary.specs.Calls.{joined_in}
 use Rattle.scm_summary.specs.Counting.{CountsTo}
-use Rattle.scm_summary.proofs.Counts.{all_listed, counts_none}
+use Rattle.scm_summary.proofs.Counts.{all_listed}
 use Rattle.scm_summary.proofs.counting.calls.Goals as goal
 
-pub loop-place-init : goal.loop-place-init
-loop-place-init c = rw (sym c.in_ok-joined_in.ensures) (counts_none c.args.trail.now.entries _ c.in_ok-counts.counts.items
-    c.in_ok-counts.ensures)
-
-pub returns : goal.returns
-returns c =
-    let end : c.loop-place.place ≡ length c.args.trail.now.entries = omega (
-      arith,
-      c.loop-place-test.false,
-      c.loop-place.auto.place-end,
-      c.len-place-end.ensures,
-    ) in
-    all_listed c.args.trail.now.entries _ c.loop-place.counts.items
-    (subst (λ n. CountsTo c.args.trail.now.entries (joined_in c.args.trail.now.entries) n c.loop-place.counts.items) end
-    c.loop-place.invariant)
+pub returns-in-Ok : goal.returns-in-Ok
+returns-in-Ok c =
+    let h = c.args.trail.now.entries in
+    let counts = c.in_ok-counts.counts in
+    let now = c.count_calls.new.counts in
+    let told : CountsTo h [] (length c.deref_mut.result.now) now = c.in-Ok.ensures in
+    let value = ap (λ (xs : List ℕ). length xs) c.deref_mut.ensures.value in
+    let long = told.long in
+    let own = counts.ok.0 in
+    let zeros = c.in_ok-counts.ensures.long in
+    let joined = c.in_ok-joined_in.ensures in
+    let callers : length c.deref_mut.result.now ≡ joined_in h = omega (arith, value, zeros, joined) in
+    take_at now (drop (length now) counts.items) counts.len (omega (arith, long, value, own))
+    ∙ all_listed h (joined_in h) now (subst (λ n. CountsTo h [] n now) callers told)

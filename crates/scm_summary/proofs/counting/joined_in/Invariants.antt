@@ -1,9 +1,12 @@
-use Rattle.std.proofs.Common.{◌≡◌, ◌+◌, ◌≤◌, drop}
+use Rattle.std.proofs.Common.{◌≡◌, ◌+◌, ◌≤◌, length}
 use Rattle.scm_summary.specs.Calls.{joined_in}
 use Rattle.scm_summary.proofs.counting.joined_in.Given as goal
 
-abbrev pub invariant-loop-place : goal.invariant-loop-place
-invariant-loop-place l = record {
-  joined : l.count + joined_in (drop l.place l.trail.entries) ≡ joined_in l.trail.entries;
-  few : l.count ≤ l.place;
+abbrev pub invariant-loop-step : goal.invariant-loop-step
+invariant-loop-step l = record {
+  joined : l.count + joined_in l.entries ≡ joined_in l.trail.entries;
+  few : l.count + length l.entries ≤ length l.trail.entries;
 }
+
+abbrev pub decreases-loop-step : goal.decreases-loop-step
+decreases-loop-step l = length l.entries

@@ -1,70 +1,80 @@
-use Rattle.std.proofs.Common.{◌≡◌, ℕ, ◌<◌, ◌≤◌, ◌+◌, ◌-◌, ◌/◌, ◌%◌, ◌∷◌, [], ◌++◌, List, length, get_or, set, ap, ◌∙◌, arith, length-set}
-use Rattle.scm_model.specs.Entries.{Entry, text_in}
+use Rattle.std.proofs.Common.{◌≡◌, ◌∙◌, ◌+◌, ◌<◌, ◌++◌, ◌∷◌, [], List, ap, arith, drop, get_or, length, subst}
+use Rattle.std.proofs.lemmas.List.{get_or_read}
 use Rattle.scm_model.specs.Texts.{text_of}
-use Rattle.scm_trail.specs.Chunks.{Chunk, IsKept, all_entries}
+use Rattle.scm_trail.specs.Segments.{Segmented, all_entries, no_segment}
 use Rattle.scm_trail.specs.Trailed.{Trailed}
-use Rattle.scm_trail.proofs.Filled.{chunk_at, filled_push, joined_push, text_push}
+use Rattle.scm_trail.proofs.Lists.{code_counted, entries_counted, keeps, pushed}
 use Rattle.scm_trail.proofs.trail.Trail.push.Goals as goal
 
--- where the chunk at the length is given an entry, in chunks that have room
-module _
-    (cs : List Chunk) (len room text text_room : ℕ) (kept : IsKept cs len room text text_room) (some : 1 ≤ room)
-    (old : Chunk) (old_is : old ≡ get_or cs (len / 4096) old) where
-  within : len / 4096 < length cs
-  within = let places = kept.places in omega (arith, places, some)
-
-  has_room : 1 ≤ old.room
-  has_room =
-      let there = chunk_at cs (len / 4096) (len % 4096) len old within (omega arith) (omega arith) kept.filled in
-      let same = ap (λ (c : Chunk). c.room) old_is in
-      omega (arith, there.1, same)
-
-  module _ (new : Chunk) (x : Entry) (items : new.items ≡ old.items ++ x ∷ []) (less : new.room + 1 ≡ old.room) where
-    more : new.items ≡ (get_or cs (len / 4096) old).items ++ x ∷ []
-    more = items ∙ ap (λ (c : Chunk). c.items ++ x ∷ []) old_is
-
-    entries : all_entries (set cs (len / 4096) new) ≡ all_entries cs ++ x ∷ []
-    entries = joined_push old x new cs (len / 4096) (len % 4096) len within (omega arith) (omega arith) more kept.filled
-
-    keeps : (t : ℕ) → t ≡ text_of x.1 → t ≤ text_room → IsKept (set cs (len / 4096) new) (len + 1) (room - 1) (text + t) (text_room - t)
-    keeps t t_is fits = record {
-      filled =
-          let less' = less ∙ ap (λ (c : Chunk). c.room) old_is in
-          filled_push old x new cs (len / 4096) (len % 4096) len within (omega arith) (omega arith) more less' kept.filled;
-      places = let places = kept.places in omega (arith, places, some, length-set cs (len / 4096) new);
-      entries_fit = let fit = kept.entries_fit in omega (arith, fit, some);
-      counted =
-          let counted = kept.counted in
-          let same = ap text_in entries in
-          omega (arith, counted, same, text_push (all_entries cs) x, t_is);
-      text_fits = let fit = kept.text_fits in omega (arith, fit, fits);
-    }
-
-pub push-requires : goal.push-requires
-push-requires c =
+pub overflow_add-bytes : goal.overflow_add-bytes
+overflow_add-bytes c =
     let inside = c.self.inside in
     let room = ap (λ (t : Trailed). t.room) c.self.view_is in
-    has_room inside.chunks.items inside.len inside.room inside.text inside.text_room c.self.invariant (omega (arith, room, c.requires.room))
-    c.index_mut-chunk.result.now c.index_mut-chunk.ensures.value
+    let text_room = ap (λ (t : Trailed). t.text_room) c.self.view_is in
+    let text = c.text-text.ensures in
+    let some = c.requires.room in
+    let fits = c.requires.text_room in
+    let counted = code_counted inside.segments.items inside.current inside.len inside.room inside.text inside.text_room c.self.invariant
+    (text_of c.args.step) (omega (arith, room, some)) (omega (arith, text_room, fits)) in
+    omega (arith, text, counted)
+
+pub push-requires-clause-count : goal.push-requires-clause-count
+push-requires-clause-count c =
+    let inside = c.self.inside in
+    let place = c.place_with_room-self-inside.result in
+    let segment = c.index_mut-segment.result.now in
+    let room = ap (λ (t : Trailed). t.room) c.self.view_is in
+    let text_room = ap (λ (t : Trailed). t.text_room) c.self.view_is in
+    let some = c.requires.room in
+    let fits = c.requires.text_room in
+    let counted = entries_counted inside.segments.items inside.current inside.len inside.room inside.text inside.text_room
+    c.self.invariant (text_of c.args.step) (omega (arith, room, some)) (omega (arith, text_room, fits)) place in
+    let within = subst (λ (ss : List Segmented). place < length ss) c.deref.ensures.value c.place_with_room-self-inside.ensures.within in
+    let same = ap (λ (s : Segmented). s.entries)
+    (get_or_read inside.segments.items place segment within c.index_mut-segment.ensures.value no_segment) in
+    rw same counted
 
 pub invariant_of-self : goal.invariant_of-self
 invariant_of-self c =
     let inside = c.self.inside in
+    let place = c.place_with_room-self-inside in
+    let segment = c.index_mut-segment.result.now in
+    let within = subst (λ (ss : List Segmented). place.result < length ss) c.deref.ensures.value place.ensures.within in
+    let rest = subst (λ (ss : List Segmented). all_entries (drop (place.result + 1) ss) ≡ []) c.deref.ensures.value place.ensures.rest in
+    let at : segment ≡ get_or inside.segments.items place.result no_segment =
+    get_or_read inside.segments.items place.result segment within c.index_mut-segment.ensures.value no_segment in
     let room = ap (λ (t : Trailed). t.room) c.self.view_is in
     let text_room = ap (λ (t : Trailed). t.text_room) c.self.view_is in
-    let fit = c.self.invariant.text_fits in
+    let some = c.requires.room in
     let fits = c.requires.text_room in
-    let text_is : c.text-text.result ≡ text_of c.args.step = omega (arith, c.text-text.ensures, text_room, fit, fits) in
-    keeps inside.chunks.items inside.len inside.room inside.text inside.text_room c.self.invariant (omega (arith, room, c.requires.room))
-    c.index_mut-chunk.result.now c.index_mut-chunk.ensures.value
-    c.push.new.self (c.args.moment, c.args.step) c.push.ensures.items c.push.ensures.room
-    c.text-text.result text_is (omega (arith, text_is, text_room, fits))
+    let fit = c.self.invariant.text_fits in
+    let text : c.text-text.result ≡ text_of c.args.step = let is = c.text-text.ensures in omega (arith, is, text_room, fits, fit) in
+    let used = c.push.ensures.room in
+    let was = ap (λ (s : Segmented). s.room) at in
+    keeps inside.segments.items inside.current inside.len inside.room inside.text inside.text_room c.self.invariant place.result
+    c.text-text.result (c.args.moment, c.args.step) c.push.new.self within rest
+    (c.push.ensures.entries ∙ ap (λ (s : Segmented). s.entries ++ (c.args.moment, c.args.step) ∷ []) at)
+    (omega (arith, used, was, text)) text (omega (arith, room, some)) (omega (arith, text, text_room, fits))
 
 pub returns-clause-entries : goal.returns-clause-entries
 returns-clause-entries c =
     let inside = c.self.inside in
+    let place = c.place_with_room-self-inside in
+    let segment = c.index_mut-segment.result.now in
+    let within = subst (λ (ss : List Segmented). place.result < length ss) c.deref.ensures.value place.ensures.within in
+    let rest = subst (λ (ss : List Segmented). all_entries (drop (place.result + 1) ss) ≡ []) c.deref.ensures.value place.ensures.rest in
+    let at : segment ≡ get_or inside.segments.items place.result no_segment =
+    get_or_read inside.segments.items place.result segment within c.index_mut-segment.ensures.value no_segment in
     let room = ap (λ (t : Trailed). t.room) c.self.view_is in
-    entries inside.chunks.items inside.len inside.room inside.text inside.text_room c.self.invariant (omega (arith, room, c.requires.room))
-    c.index_mut-chunk.result.now c.index_mut-chunk.ensures.value
-    c.push.new.self (c.args.moment, c.args.step) c.push.ensures.items c.push.ensures.room
+    let text_room = ap (λ (t : Trailed). t.text_room) c.self.view_is in
+    let some = c.requires.room in
+    let fits = c.requires.text_room in
+    let fit = c.self.invariant.text_fits in
+    let text : c.text-text.result ≡ text_of c.args.step = let is = c.text-text.ensures in omega (arith, is, text_room, fits, fit) in
+    let used = c.push.ensures.room in
+    let was = ap (λ (s : Segmented). s.room) at in
+    pushed inside.segments.items inside.current inside.len inside.room inside.text inside.text_room c.self.invariant place.result
+    c.text-text.result (c.args.moment, c.args.step) c.push.new.self within rest
+    (c.push.ensures.entries ∙ ap (λ (s : Segmented). s.entries ++ (c.args.moment, c.args.step) ∷ []) at)
+    (omega (arith, used, was, text)) text (omega (arith, room, some)) (omega (arith, text, text_room, fits))
     ∙ ap (λ (t : Trailed). t.entries ++ (c.args.moment, c.args.step) ∷ []) c.self.view_is
