@@ -23,10 +23,10 @@ struct Patience {
     pauses: u32,
 }
 
-/// Who comes looks rarely: so who makes many turns in a row isn't slowed, and has its memory at
-/// hand.
+/// A thread that comes looks rarely, so one that makes many turns in a row isn't slowed, and keeps
+/// its memory near its processor. It looks about as long as a sleep and a wake take.
 const COMING: Patience = Patience {
-    looks: 4,
+    looks: 40,
     pauses: 32,
 };
 
