@@ -10,7 +10,7 @@ use scm_model::codes::{
     DELETE, SC_MANAGER_ALL_ACCESS, SERVICE_ALL_ACCESS, SERVICE_CONTROL_STOP, SERVICE_DEMAND_START,
     SERVICE_ERROR_NORMAL, SERVICE_QUERY_STATUS, SERVICE_WIN32_OWN_PROCESS,
 };
-use scm_model::{NewService, Reply, Request};
+use scm_model::{Apart, NewService, Reply, Request};
 use scm_text::{OutOfMemory, WText};
 use std::alloc::Global;
 use std::sync::Wait;
@@ -44,11 +44,11 @@ fn text(alloc: Global, units: &[u16]) -> Result<WText, OutOfMemory> {
 }
 
 /// Creates a service of this name and path.
-fn created(handle: u64, name: WText, path: WText) -> Request
-    ensures start { is_start result ≡ false }
-    ensures ranged { IsTrue (in_range result) }
+fn created(alloc: Global, handle: u64, name: WText, path: WText) -> Result<Request, OutOfMemory>
+    ensures start { IfOk result (λ request. is_start request ≡ false) }
+    ensures ranged { IfOk result (λ request. IsTrue (in_range request)) }
 {
-    Request::Create(NewService {
+    let new = NewService {
         handle,
         name,
         display: None,
@@ -61,7 +61,8 @@ fn created(handle: u64, name: WText, path: WText) -> Request
         tag: None,
         needs: None,
         account: None,
-    })
+    };
+    Ok(Request::Create(Apart::new(alloc, new)?))
 }
 
 fn creation(alloc: Global, handle: u64, name: u16) -> Result<Request, OutOfMemory>
@@ -70,7 +71,7 @@ fn creation(alloc: Global, handle: u64, name: u16) -> Result<Request, OutOfMemor
 {
     let path = text(alloc, &[0x2F, 0x61])?;
     match text(alloc, &[name]) {
-        Ok(name) => Ok(created(handle, name, path)),
+        Ok(name) => created(alloc, handle, name, path),
         Err(fault) => {
             drop(path);
             Err(fault)

@@ -23,7 +23,9 @@ fn is_next(manager: &mut Manager, moment: u64, step: &Step) -> bool
 /// Makes a step where it lies, and uses it up. There is none where it may not be made.
 pub fn make(manager: &mut Manager, moment: u64, step: &mut Step) -> Option<Answer> {
     if is_next(manager, moment, step) {
-        Some(manager.step_at(moment, step))
+        let mut answer = Answer::Done;
+        manager.step_at(moment, step, &mut answer);
+        Some(answer)
     } else {
         None
     }

@@ -58,7 +58,7 @@ use Rattle.scm_book.specs.Ringing.{AsksNoOther, asked_of, begins_plans, children
 use Rattle.scm_book.specs.Ringing.{may_host, rings_common, shared_or_nobody}
 use Rattle.scm_book.proofs.Hosting.{decided_still, stays_alone, why_none}
 use Rattle.scm_book.proofs.Stirring.{effect_leaves, still}
-use Rattle.scm_book.proofs.Unstirred.{IsAside, aside_by, rung_kept, stops_another}
+use Rattle.scm_book.proofs.Unstirred.{IsAside, aside_by, rung_kept, stops_another, stirs_no_other}
 use Rattle.scm_rules.specs.Security.{asked_security, descriptor_in, secured_if}
 use Rattle.scm_rules.proofs.Secured.{secured_or}
 
@@ -387,9 +387,12 @@ asks_still l bound process numbers low = record {
   enters = λ g plan service words entry is. entered_keeps (AsksStill bound process numbers) g service words
       (λ none. record {
         up = (let up = is.up in omega arith);
-        alone = ap is_shared (find_push (has process) g.processes (wanted_process g.next.process service (is_shared_by (service_of g service)))
+        alone =
+            let wanted = wanted_process g.next.process service (is_shared_by (service_of g service)) in
+            ap is_shared (find_push (has process) g.processes wanted
             (ne_eqb g.next.process process (λ e. absurd (let up = is.up in omega (arith, e, up, low))))) ∙ is.alone;
-        asks = entered process numbers service g.next.process g.services (λ e. absurd (let up = is.up in omega (arith, e, up, low))) is.asks;
+        asks = entered process numbers service g.next.process g.services
+            (λ e. absurd (let up = is.up in omega (arith, e, up, low))) is.asks;
       })
       (λ one host. record {
         up = is.up;
@@ -451,3 +454,6 @@ pub asks_no_other : (f : Flat) (step : Step) (rung : Children) → rung ≡ chil
 asks_no_other f step rung is l moment append process valid low quiet =
     step_asks l f moment (with_kept step append) process valid low
     (ap (λ (r : Children). is_rung r process) (rung_kept f step append ∙ sym is) ∙ quiet)
+
+-- no other process is asked or rung
+pub ruleset no_other = (stirs_no_other, asks_no_other)

@@ -1,6 +1,7 @@
 -- What a caller's calls come to.
 use Rattle.std.proofs.Common.{◌≡◌, ◌≢◌, ℕ, inl, inr, ⊎_elim, true, false, List, [], ◌∷◌, ◌++◌, Option, None, Some, Result, Ok, Err, refl}
 use Rattle.std.proofs.Common.{sym, ap, ◌∙◌, subst}
+use Rattle.std.specs.Prelude.{OnErr}
 use Rattle.scm_model.specs.declared.codes.TheConstants.{ERROR_NOT_ENOUGH_MEMORY}
 use Rattle.scm_model.specs.declared.calls.Reply.{Reply}
 use Rattle.scm_model.specs.declared.calls.Request.{Request}
@@ -34,9 +35,8 @@ use Rattle.scm_book.specs.declared.turning.Recorded.{Recorded}
 use Rattle.scm_book.specs.declared.turning.Recorded.TheVariants as recorded
 use Rattle.scm_book.specs.declared.fault.MakeFault.{MakeFault}
 use Rattle.scm_book.specs.declared.fault.MakeFault.TheVariants as makes
-use Rattle.scm_book.specs.Called.{CallTold, Calls, IfTold, IsBegun, IsReply, LeavesWhose, StartTold, StartsAs, WantsMemory, called}
-use Rattle.scm_book.specs.Called.{is_start}
-use Rattle.scm_book.specs.Called.{refusal_of}
+use Rattle.scm_book.specs.Called.{CallTold, CallToldInto, Calls, CallsInto, IfTold, IsBegun, IsReply, LeavesWhose, RepliesSo, StartTold}
+use Rattle.scm_book.specs.Called.{StartsAs, WantsMemory, called, is_start, refusal_of}
 use Rattle.scm_book.specs.Holds.{Opens}
 use Rattle.scm_book.specs.Naming.{whose_after}
 use Rattle.scm_book.specs.Passes.{Known, MadeSo, room_behind}
@@ -101,6 +101,24 @@ module _ (o : Opening) (opens : Opens o) (k k' : Known) (moment : ℕ) (asked : 
   calls_so (Ok None) end none said = subst (Calls o k moment asked k') (sym said) (inr (wants none.0 none.1 none.2))
   calls_so (Err makes.Full) end ends said = subst (Calls o k moment asked k') (sym said) (record { learnt = ends.0; full = ends.1 })
   calls_so (Err makes.OutOfMemory) end ends said = subst (Calls o k moment asked k') (sym said) (record { learnt = ends.0; free = ends.1 })
+
+  -- the same where the reply is put into its place
+  pub into_so : (r : Result (Option Answer) MakeFault) (end : Result (Unit {0}) MakeFault) (lay lies : Answer) → IfTold IsReply r
+      → CallEnds o k moment k.caller (called k asked) r k'
+      → CallToldInto r (refused asked ERROR_NOT_ENOUGH_MEMORY) end lay lies → CallsInto o k moment asked k' end lies
+  into_so (Ok (Some told)) end lay lies reply made said =
+      subst (λ (e : Result (Unit {0}) MakeFault). CallsInto o k moment asked k' e lies) (sym said.0)
+      (subst (λ (a : Answer). RepliesSo o k moment asked a k') (sym (said.1 ∙ reply.1))
+      (inl (subst (λ (a : Answer). MadeSo o k moment (called k asked) a k') reply.1 made)))
+  into_so (Ok None) end lay lies reply none said =
+      subst (λ (e : Result (Unit {0}) MakeFault). CallsInto o k moment asked k' e lies) (sym said.0)
+      (subst (λ (a : Answer). RepliesSo o k moment asked a k') (sym said.1) (inr (wants none.0 none.1 none.2)))
+  into_so (Err makes.Full) end lay lies reply ends said =
+      subst (λ (e : Result (Unit {0}) MakeFault). CallsInto o k moment asked k' e lies) (sym said.0)
+      (record { learnt = ends.0; full = ends.1 })
+  into_so (Err makes.OutOfMemory) end lay lies reply ends said =
+      subst (λ (e : Result (Unit {0}) MakeFault). CallsInto o k moment asked k' e lies) (sym said.0)
+      (record { learnt = ends.0; free = ends.1 })
 
   plan_there : (plan : ℕ) → is_start asked ≡ true → (made : MadeSo o k moment (called k asked) (answers.Begun plan) k')
       → plan_caller (state o.limits o.first k'.seen).plans plan ≡ Some k.caller
@@ -198,6 +216,49 @@ pub call_comes : (o : Opening) → Opens o → (k k' : Known) (moment : ℕ) (as
 call_comes o opens k k' moment asked step step' is r same end ends told =
     calls_so o opens k k' moment asked r end (subst (λ (s : Step). CallEnds o k moment k.caller s r k') is ends)
     (told_late asked k step step' is r same end told)
+
+into_late : (asked : Request) (k : Known) (step step' : Step) → step ≡ called k asked → (r : Result (Option Answer) MakeFault)
+    → (r ≡ Ok None → step' ≡ step) → (end : Result (Unit {0}) MakeFault) (lay lies : Answer)
+    → CallToldInto r (refusal_of step') end lay lies → CallToldInto r (refused asked ERROR_NOT_ENOUGH_MEMORY) end lay lies
+into_late asked k step step' is (Ok (Some told)) same end lay lies said = said
+into_late asked k step step' is (Ok None) same end lay lies said =
+    (said.0, said.1 ∙ ap (λ (reply : Reply). answers.Reply reply) (refusal_late asked k step step' is (same refl)))
+into_late asked k step step' is (Err makes.Full) same end lay lies said = said
+into_late asked k step step' is (Err makes.OutOfMemory) same end lay lies said = said
+
+pub into_comes : (o : Opening) → Opens o → (k k' : Known) (moment : ℕ) (asked : Request) (step step' : Step) → step ≡ called k asked
+    → is_start asked ≡ false → (r : Result (Option Answer) MakeFault) → (r ≡ Ok None → step' ≡ step)
+    → (end : Result (Unit {0}) MakeFault) (lay lies : Answer) → CallEnds o k moment k.caller step r k'
+    → CallToldInto r (refusal_of step') end lay lies → CallsInto o k moment asked k' end lies
+into_comes o opens k k' moment asked step step' is other r same end lay lies ends told =
+    let made : CallEnds o k moment k.caller (called k asked) r k' = subst (λ (s : Step). CallEnds o k moment k.caller s r k') is ends in
+    into_so o opens k k' moment asked r end lay lies (told_reply o opens k k' moment asked other r made) made
+    (into_late asked k step step' is r same end lay lies told)
+
+module _ (o : Opening) (k k' : Known) (moment : ℕ) (asked : Request) where
+  -- the reply that a call put into its place, by value
+  pub replied_into : (told : Answer) → CallsInto o k moment asked k' (Ok tt) told → IsReply told
+  replied_into (answers.Reply reply) so = (reply, refl)
+  replied_into told so = absurd so
+
+  pub reply_taken : (told : Answer) (reply : Reply) → told ≡ answers.Reply reply → CallsInto o k moment asked k' (Ok tt) told
+      → Calls o k moment asked k' (calls.Answered reply)
+  reply_taken told reply is so = subst (λ (a : Answer). RepliesSo o k moment asked a k') is so
+
+-- what holds in any case holds if there is an error
+pub on_err : {T E : Type 0} (P : Type 0) (r : Result T E) → P → OnErr r P
+on_err P (Ok x) holds = tt
+on_err P (Err fault) holds = holds
+
+-- what lay in the place of the answer stays there if no step is made
+pub untold_into : (ended : Result Recorded MakeFault) (refusal : Reply) (end : Result (Unit {0}) MakeFault) (before lay lies : Answer)
+    → OnErr ended (lay ≡ before) → CallToldInto (call_told ended lay) refusal end lay lies → OnErr end (lies ≡ before)
+untold_into (Ok recorded.Call) refusal end before lay lies same said =
+    subst (λ (e : Result (Unit {0}) MakeFault). OnErr e (lies ≡ before)) (sym said.0) tt
+untold_into (Ok recorded.NoMemory) refusal end before lay lies same said =
+    subst (λ (e : Result (Unit {0}) MakeFault). OnErr e (lies ≡ before)) (sym said.0) tt
+untold_into (Err fault) refusal end before lay lies same said =
+    subst (λ (e : Result (Unit {0}) MakeFault). OnErr e (lies ≡ before)) (sym said.0) (said.1 ∙ same)
 
 pub start_comes : (o : Opening) → Opens o → (k k' : Known) (moment : ℕ) (asked : Request) (step step' : Step) → step ≡ called k asked
     → (r : Result (Option Answer) MakeFault) → (r ≡ Ok None → step' ≡ step) → (end : StartEnd)

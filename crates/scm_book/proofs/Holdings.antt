@@ -14,7 +14,7 @@ use Rattle.scm_model.specs.Texts.{text_of}
 use Rattle.scm_rules.specs.Histories.{state}
 use Rattle.scm_rules.specs.Owed.{owed}
 use Rattle.scm_rules.specs.Room.{debt, is_owed}
-use Rattle.scm_runs.proofs.Histories.{state_behind}
+use Rattle.scm_runs.proofs.Histories.{state_appended}
 use Rattle.scm_history.specs.Kept.{kept_change, kept_changes, one_or_none}
 use Rattle.scm_history.proofs.Kept.{law_of_kept}
 use Rattle.scm_owed.proofs.Effects.{debt_owed}
@@ -67,7 +67,7 @@ module _ {K : Type 0} (tells : K → Option (List ℕ)) (faulted : K → ℕ) (I
   module _ (moment : ℕ) (step : Step) (told : Answer) (grows : Grows h h' moment step told) where
     flat_then : h'.manager.flat ≡ state o.limits o.first (log ++ (moment, step) ∷ [])
     flat_then = grows.flat ∙ ((λ i. state (holds.limits i) (holds.manager i) ((moment, step) ∷ []))
-        ∙ sym (state_behind o.limits o.first log ((moment, step) ∷ [])))
+        ∙ sym (state_appended o.limits o.first log ((moment, step) ∷ [])))
 
     steps_then : h'.manager.steps ≡ length (log ++ (moment, step) ∷ [])
     steps_then = let a = grows.steps in let b = holds.steps in let n = length-append log ((moment, step) ∷ []) in omega arith

@@ -1,5 +1,6 @@
 -- What a pass has in hand it has still behind its caller's calls.
-use Rattle.std.proofs.Common.{◌≡◌, ◌≢◌, ℕ, inl, inr, false, List, [], ◌∷◌, ◌++◌, Option, None, Some, refl, sym, ◌∙◌, subst, ne_eqb}
+use Rattle.std.proofs.Common.{◌≡◌, ◌≢◌, ℕ, inl, inr, false, List, [], ◌∷◌, ◌++◌, Option, None, Some, Result, Ok, Err, refl, sym, ◌∙◌}
+use Rattle.std.proofs.Common.{subst, ne_eqb}
 use Rattle.std.specs.Prelude.{option_map}
 use Rattle.scm_model.specs.declared.flat.Plan.{Plan}
 use Rattle.scm_model.specs.declared.calls.Request.{Request}
@@ -26,8 +27,9 @@ use Rattle.scm_book.specs.declared.answers.CallEnd.{CallEnd}
 use Rattle.scm_book.specs.declared.answers.CallEnd.TheVariants as calls
 use Rattle.scm_book.specs.declared.answers.StartEnd.{StartEnd}
 use Rattle.scm_book.specs.declared.answers.StartEnd.TheVariants as starts
+use Rattle.scm_book.specs.declared.fault.MakeFault.{MakeFault}
 use Rattle.scm_book.specs.declared.fault.MakeFault.TheVariants as makes
-use Rattle.scm_book.specs.Called.{AnsweredSo, Calls, Raises, StartsAs}
+use Rattle.scm_book.specs.Called.{AnsweredSo, Calls, CallsInto, Raises, StartsAs}
 use Rattle.scm_book.specs.Holds.{Opens}
 use Rattle.scm_book.specs.Joins.{JoinsAs}
 use Rattle.scm_book.specs.Naming.{all_names}
@@ -110,6 +112,13 @@ module _ (o : Opening) (opens : Opens o) where
     calls_keep moment asked (calls.Answered reply) ends = answered_keeps moment asked reply ends
     calls_keep moment asked (calls.Unmade makes.Full) ends = learnt_keeps ends.learnt
     calls_keep moment asked (calls.Unmade makes.OutOfMemory) ends = learnt_keeps ends.learnt
+
+    pub into_keeps : (moment : ℕ) (asked : Request) (end : Result (Unit {0}) MakeFault) (told : Answer)
+        → CallsInto o k moment asked k' end told → KeepsAll o k k'
+    into_keeps moment asked (Ok done) (answers.Reply reply) ends = answered_keeps moment asked reply ends
+    into_keeps moment asked (Ok done) told ends = absurd ends
+    into_keeps moment asked (Err makes.Full) told ends = learnt_keeps ends.learnt
+    into_keeps moment asked (Err makes.OutOfMemory) told ends = learnt_keeps ends.learnt
 
     pub raises_keep : (moment : ℕ) (subtype : List ℕ) (end : CallEnd) → Raises o k moment subtype k' end → KeepsAll o k k'
     raises_keep moment subtype (calls.Answered reply) (inl so) = made_keeps moment

@@ -1,7 +1,7 @@
 mod Room
 mod Steps
 mod Last
-mod Names
+pub mod Names
 mod Following
 mod Holdings
 mod Standing

@@ -56,6 +56,16 @@ abbrev pub Calls : Opening → Known → ℕ → Request → Known → CallEnd �
 Calls o k moment asked k' (calls.Answered reply) = AnsweredSo o k moment asked reply k'
 Calls o k moment asked k' (calls.Unmade fault) = FindsFault o k (called k asked) fault k'
 
+-- the answer that lies in its place is a reply, by which the call was answered so
+abbrev pub RepliesSo : Opening → Known → ℕ → Request → Answer → Known → Type 0
+RepliesSo o k moment asked (answers.Reply reply) k' = AnsweredSo o k moment asked reply k'
+RepliesSo o k moment asked told k' = ⊥
+
+-- the same of a call whose reply is put into its place
+abbrev pub CallsInto : Opening → Known → ℕ → Request → Known → Result (Unit {0}) MakeFault → Answer → Type 0
+CallsInto o k moment asked k' (Ok done) told = RepliesSo o k moment asked told k'
+CallsInto o k moment asked k' (Err fault) told = FindsFault o k (called k asked) fault k'
+
 -- ## raise
 
 -- what a pass raises
@@ -113,6 +123,12 @@ abbrev pub CallTold : Result (Option Answer) MakeFault → Reply → CallEnd →
 CallTold (Ok (Some told)) refusal end = (reply : Reply) × (told ≡ answers.Reply reply) × (end ≡ calls.Answered reply)
 CallTold (Ok None) refusal end = end ≡ calls.Answered refusal
 CallTold (Err fault) refusal end = end ≡ calls.Unmade fault
+
+-- the same where the answer lies in its place: it stays there unless the refusal takes its place
+abbrev pub CallToldInto : Result (Option Answer) MakeFault → Reply → Result (Unit {0}) MakeFault → Answer → Answer → Type 0
+CallToldInto (Ok (Some told)) refusal end lay lies = (end ≡ Ok tt) × (lies ≡ told)
+CallToldInto (Ok None) refusal end lay lies = (end ≡ Ok tt) × (lies ≡ answers.Reply refusal)
+CallToldInto (Err fault) refusal end lay lies = (end ≡ Err fault) × (lies ≡ lay)
 
 abbrev pub StartTold : Result (Option Answer) MakeFault → Reply → StartEnd → Type 0
 StartTold (Ok (Some told)) refusal end = Begun told end

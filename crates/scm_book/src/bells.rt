@@ -293,7 +293,8 @@ fn may_host(manager: &Manager, step: &Step) -> bool
 
 /// The processes whose bells a step rings when it is made next. No other process gets or loses an
 /// order by it, is asked to start another service, or ends.
-#[tactic(auto, using(crate::proofs::Unstirred::stirs_no_other, crate::proofs::Asked::asks_no_other))]
+#[inline(always)]
+#[tactic(auto, using(crate::proofs::Asked::no_other))]
 pub fn children_rung(manager: &Manager, step: &Step) -> Children
     ensures rung { result ≡ children_rung manager.now.flat step.now }
     ensures others { StirsNoOther manager.now.flat step.now result }

@@ -1,11 +1,11 @@
 // The book, and its calls.
-ghost use Rattle.std.specs.Prelude.{◌≡◌, ◌≢◌, false, true, IfErr, IfOk, IsTrue, Ok};
+ghost use Rattle.std.specs.Prelude.{◌≡◌, ◌≢◌, false, true, IfErr, IfOk, IsTrue, Ok, OnErr};
 ghost use Rattle.scm_model.specs.Ranges.{in_range};
 ghost use Rattle.scm_rules.specs.Opening.{IsOpening};
 ghost use Rattle.scm_core.specs.Managed.{AreSmall};
 ghost use Rattle.record_journal.specs.Bearing.{Bears, stood_in};
 ghost use Rattle.scm_book.specs.declared.turning.Recorded.TheVariants.{NoMemory};
-ghost use Rattle.scm_book.specs.Called.{Calls, LeavesWhose, Raises, StartsAs, is_start};
+ghost use Rattle.scm_book.specs.Called.{Calls, CallsInto, LeavesWhose, Raises, StartsAs, is_start};
 ghost use Rattle.scm_book.specs.Calls.{BeginsWith, Closes, Goes};
 ghost use Rattle.scm_book.specs.Holds.{Opens};
 ghost use Rattle.scm_book.specs.Joins.{BecomesCaller, JoinCause, Joins, TakesIn, Watches};
@@ -20,7 +20,7 @@ use crate::fault::MakeFault;
 use crate::held::{Held, Owed, PendingEntry};
 use crate::joining::end_look;
 use crate::pass::{Pass, Spent};
-use crate::turning::{Recorded, Shared, call_end, start_end};
+use crate::turning::{Recorded, Shared, call_end, call_end_into, reply_of, start_end};
 use book_rule::{Begun, Turn};
 use record_journal::{Journal, Keeper};
 use scm_core::Manager;
@@ -234,6 +234,7 @@ impl<K: Keeper> Book<K> {
         ensures asks { CallEnds self.now.opening pass.old moment pass.old.caller call.old.step
             (call_told result answer.new) pass.new }
         ensures same { result ≡ Ok NoMemory → call.new ≡ call.old }
+        ensures untold { OnErr result (answer.new ≡ answer.old) }
     {
         let caller = pass.caller;
         self.shared
@@ -251,6 +252,36 @@ impl<K: Keeper> Book<K> {
         ensures calls { Calls self.now.opening pass.old moment request pass.new result }
         ensures keeps { KeepsAll self.now.opening pass.old pass.new }
     {
+        let mut answer = Answer::Done;
+        match self.call_into(rt, pass, moment, request, &mut answer) {
+            Ok(()) => CallEnd::Answered(reply_of(answer)),
+            Err(fault) => {
+                drop(answer);
+                CallEnd::Unmade(fault)
+            }
+        }
+    }
+
+    /// Makes a call that is no start, as `call` does, and puts its reply into `answer`, so that the
+    /// functions above it don't move it.
+    pub fn call_into<R: Wait>(
+        &self,
+        rt: &R,
+        pass: &mut Pass,
+        moment: u64,
+        request: Request,
+        answer: &mut Answer,
+    ) -> Result<(), MakeFault>
+        requires book { IsOf self.now pass.old }
+        requires caller { pass.old.caller ≢ 0 }
+        requires start { is_start request ≡ false }
+        requires ranged { IsTrue (in_range request) }
+        ensures book { IsOf self.now pass.new }
+        ensures calls { CallsInto self.now.opening pass.old moment request pass.new result
+            answer.new }
+        ensures untold { OnErr result (answer.new ≡ answer.old) }
+        ensures keeps { KeepsAll self.now.opening pass.old pass.new }
+    {
         let mut call = PendingEntry {
             step: Step::Call {
                 caller: pass.caller,
@@ -260,9 +291,8 @@ impl<K: Keeper> Book<K> {
             note: None,
         };
         call.write(self.shared.alloc);
-        let mut answer = Answer::Done;
-        let ended = self.ask(rt, pass, moment, &mut call, &mut answer);
-        call_end(self.shared.alloc, &call.step, ended, answer)
+        let ended = self.ask(rt, pass, moment, &mut call, answer);
+        call_end_into(self.shared.alloc, &call.step, ended, answer)
     }
 
     /// Raises the triggers with a subtype, a UUID as it lies in memory. It returns the code that is

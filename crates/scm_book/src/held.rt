@@ -1,8 +1,9 @@
 // What the holder of the turn has, and the steps that it makes, each with its note.
-ghost use Rattle.std.specs.Prelude.{◌≡◌, IfSome, true, ◌≤◌, ◌<◌, ◌+◌, ◌^◌, [], IsSome, IsTrue};
+ghost use Rattle.std.specs.Prelude.{◌≡◌, IfSome, true, ◌≤◌, ◌<◌, ◌+◌, ◌^◌, IsSome, IsTrue};
 ghost use Rattle.std.specs.Prelude.{IfErr, IfOk, OnErr, OnOk};
 ghost use Rattle.std.specs.Option.{ForSome};
 ghost use Rattle.scm_trail.specs.Notes.{is_brief};
+ghost use Rattle.scm_trail.specs.Trailed.{no_entries};
 ghost use Rattle.scm_book.specs.Steps.{owed_step, Adds, Grows, HasMemory, IsAsItWas, IsPrepared};
 ghost use Rattle.scm_book.specs.Steps.{KeepsAs, Makes, TellsRight, Why, has_room_in, may_come_in};
 ghost use Rattle.scm_book.specs.Steps.{may_in};
@@ -144,14 +145,6 @@ fn tell(step: &mut Step, now: Kept)
     }
 }
 
-/// Puts an answer in the place of one.
-#[inline(always)]
-fn put(place: &mut Answer, told: Answer)
-    ensures { place.new ≡ told }
-{
-    *place = told;
-}
-
 impl<K: Keeper> Guarded for Held<K> {
     ghost use Rattle.scm_book.specs.Holds.{way_of};
 
@@ -162,7 +155,7 @@ impl<K: Keeper> Held<K> {
     /// With no history yet.
     pub fn new(alloc: Global, manager: Manager, journal: Journal, keeper: K) -> Held<K>
         ensures manager { result.manager ≡ manager }
-        ensures trail { result.trail ≡ record { entries = []; room = 0; text_room = 0 } }
+        ensures trail { result.trail ≡ no_entries }
         ensures journal { result.journal ≡ journal }
         ensures keeper { result.keeper ≡ keeper }
     {
@@ -261,8 +254,7 @@ impl<K: Keeper> Held<K> {
         ensures keeper { self.new.keeper ≡ self.old.keeper }
         ensures room { self.old.trail.room ≤ self.new.trail.room + 1 }
     {
-        let told = self.manager.step_at(moment, step);
-        put(answer, told);
+        self.manager.step_at(moment, step, answer);
         self.trail.push(moment, note);
     }
 

@@ -94,8 +94,8 @@ impl<K: Keeper> Shared<K> {
         joined
     }
 
-    /// Makes a step that may come and isn't owed on a new seat, to which `seat` hands the turn over.
-    /// If the step can't be made, there is no new seat.
+    /// Makes a step that may come and isn't owed on a new seat, to which `seat` hands the turn
+    /// over. If the step can't be made, there is no new seat.
     fn add_new_beside<R: Wait>(
         &self,
         rt: &R,
@@ -129,8 +129,8 @@ impl<K: Keeper> Shared<K> {
         }
     }
 
-    /// Makes a step that isn't owed where it may come, on a new seat, to which `seat` hands the turn
-    /// over.
+    /// Makes a step that isn't owed where it may come, on a new seat, to which `seat` hands the
+    /// turn over.
     fn add_beside<R: Wait>(
         &self,
         rt: &R,

@@ -9,8 +9,8 @@ ghost use Rattle.scm_book.specs.Steps.{owed_step};
 ghost use Rattle.scm_model.specs.declared.steps.Answer.TheVariants as answers;
 ghost use Rattle.scm_model.specs.declared.steps.Step.TheVariants as steps;
 ghost use Rattle.scm_book.specs.declared.turning.Recorded.TheVariants.{NoMemory};
-ghost use Rattle.scm_book.specs.Called.{Begun, CallTold, IfTold, IsBegun, IsReply, StartTold};
-ghost use Rattle.scm_book.specs.Called.{refusal_of};
+ghost use Rattle.scm_book.specs.Called.{Begun, CallTold, CallToldInto, IfTold, IsBegun, IsReply};
+ghost use Rattle.scm_book.specs.Called.{StartTold, refusal_of};
 
 use crate::answers::{CallEnd, StartEnd};
 use crate::bells::{Bells, ring_of};
@@ -246,6 +246,7 @@ impl<K: Keeper> Shared<K> {
             call.old.step (call_told result answer.new) }
         ensures waits { Waits self.now.turn seat.new }
         ensures same { result ≡ Ok NoMemory → call.new ≡ call.old }
+        ensures untold { OnErr result (answer.new ≡ answer.old) }
     {
         let ring = ring_of(&held.manager, &call.step);
         match held.make_into(moment, call, answer) {
@@ -263,6 +264,7 @@ impl<K: Keeper> Shared<K> {
     }
 
     /// Makes a caller's call at the end of the history, and puts its answer into `answer`.
+    #[inline(always)]
     pub fn call_by<R: Wait>(
         &self,
         rt: &R,
@@ -280,6 +282,7 @@ impl<K: Keeper> Shared<K> {
         ensures ends { CallEndsBy self.now.turn.opening badge.old moment caller call.old.step
             badge.new (call_told result answer.new) }
         ensures same { result ≡ Ok NoMemory → call.new ≡ call.old }
+        ensures untold { OnErr result (answer.new ≡ answer.old) }
     {
         let mut seat = self.sit(badge);
         let held = self.turn.enter(rt, &mut seat);
@@ -343,6 +346,36 @@ pub fn call_end(
             drop(told);
             CallEnd::Unmade(fault)
         }
+    }
+}
+
+/// Puts an answer in its place.
+#[inline(always)]
+fn put(answer: &mut Answer, now: Answer)
+    ensures { answer.new ≡ now }
+{
+    *answer = now;
+}
+
+/// The outcome of a call that is no start, whose answer lies in its place. If there was no memory
+/// for the call, its refusal is put there.
+#[inline(always)]
+pub fn call_end_into(
+    alloc: Global,
+    call: &Step,
+    ended: Result<Recorded, MakeFault>,
+    answer: &mut Answer,
+) -> Result<(), MakeFault>
+    ensures { CallToldInto (call_told ended answer.old) (refusal_of call.now) result answer.old
+        answer.new }
+{
+    match ended {
+        Ok(Recorded::Call) => Ok(()),
+        Ok(Recorded::NoMemory) => {
+            put(answer, Answer::Reply(refusal_of(alloc, call)));
+            Ok(())
+        }
+        Err(fault) => Err(fault),
     }
 }
 

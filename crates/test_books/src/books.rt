@@ -9,7 +9,7 @@ use book_calls::{Site, Told, begin_start, call, end_start, limits, new_book};
 use outside::FixedClock;
 use record_journal::MemoryKeeper;
 use scm_book::{Book, CallEnd, Opened, Pass};
-use scm_model::{NewService, Principal, Reply, Request, Status, zero_status};
+use scm_model::{Apart, NewService, Principal, Reply, Request, Status, zero_status};
 use scm_text::{Items, WText};
 use std::alloc::Global;
 use std::sync::Wait;
@@ -111,10 +111,10 @@ fn text(alloc: Global, text: &str) -> Option<WText> {
 }
 
 /// Creates a service of a type by the first handle.
-fn created(kind: u32, name: WText, path: WText, needs: Items<u8>) -> Request
-    ensures { (is_start result ≡ false) × IsTrue (in_range result) }
+fn created(alloc: Global, kind: u32, name: WText, path: WText, needs: Items<u8>) -> Option<Request>
+    ensures { IfSome result (λ asked. (is_start asked ≡ false) × IsTrue (in_range asked)) }
 {
-    Request::Create(NewService {
+    let new = NewService {
         handle: 1,
         name,
         display: None,
@@ -127,7 +127,11 @@ fn created(kind: u32, name: WText, path: WText, needs: Items<u8>) -> Request
         tag: None,
         needs: Some(needs),
         account: None,
-    })
+    };
+    match Apart::new(alloc, new) {
+        Ok(new) => Some(Request::Create(new)),
+        Err(_) => None,
+    }
 }
 
 /// Creates a service of a type with a name.
@@ -139,7 +143,7 @@ fn named(alloc: Global, kind: u32, name: WText, path: &str, needs: &[u8]) -> Opt
         return None;
     };
     match Items::from_slice(alloc, needs) {
-        Ok(needs) => Some(created(kind, name, path, needs)),
+        Ok(needs) => created(alloc, kind, name, path, needs),
         Err(_) => {
             drop(path);
             drop(name);

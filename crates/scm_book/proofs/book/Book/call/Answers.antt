@@ -1,52 +1,12 @@
-use Rattle.std.proofs.Common.{ap, refl, subst, sym}
-use Rattle.scm_model.specs.declared.steps.Step.{Step}
-use Rattle.scm_book.specs.Called.{LeavesWhose}
-use Rattle.scm_book.specs.Turns.{CallEnds, call_told, of_badge}
-use Rattle.scm_book.proofs.CallsMade.{call_comes, call_is, none_told, told_reply}
-use Rattle.scm_book.proofs.Coming.{may_call}
-use Rattle.scm_book.proofs.InHandStill.{calls_keep}
+use Rattle.scm_book.proofs.CallsMade.{reply_taken, replied_into}
 use Rattle.scm_book.proofs.book.Book.call.Goals as goal
 
-pub ask-ended-requires-clause-may : goal.ask-ended-requires-clause-may
-ask-ended-requires-clause-may g c =
-    may_call c.args.self.now.opening c.args.pass.now c.args.moment c.requires.caller c.args.request c.write.new.self.step
-    (call_is (of_badge c.pass.inside.badge) c.args.pass.now c.pass.view_is c.pass.inside.caller c.pass.invariant.whose c.args.request
-    c.write.new.self.step c.write.ensures) c.requires.ranged
+pub reply_of-requires : goal.reply_of-requires
+reply_of-requires g c =
+    replied_into c.args.self.now.opening c.args.pass.now c.call_into.new.pass c.args.moment c.args.request c.call_into.new.answer
+    c.in-Ok.ensures.calls
 
-pub ask-ended-requires-clause-stays : goal.ask-ended-requires-clause-stays
-ask-ended-requires-clause-stays g c =
-    subst LeavesWhose
-    (sym (call_is (of_badge c.pass.inside.badge) c.args.pass.now c.pass.view_is c.pass.inside.caller c.pass.invariant.whose c.args.request
-    c.write.new.self.step c.write.ensures)) (λ f n. refl)
-
-pub call_end-requires : goal.call_end-requires
-call_end-requires g c =
-    let is = call_is (of_badge c.pass.inside.badge) c.args.pass.now c.pass.view_is c.pass.inside.caller c.pass.invariant.whose
-    c.args.request c.write.new.self.step c.write.ensures in
-    let ended = call_told c.ask-ended.result c.ask-ended.new.answer in
-    told_reply c.args.self.now.opening c.ask-ended.ensures.opens c.args.pass.now c.ask-ended.new.pass c.args.moment c.args.request
-    c.requires.start ended
-    (subst (λ (s : Step). CallEnds c.args.self.now.opening c.args.pass.now c.args.moment c.args.pass.now.caller s ended
-    c.ask-ended.new.pass) is c.ask-ended.ensures.asks)
-
-pub returns-clause-calls : goal.returns-clause-calls
-returns-clause-calls g c =
-    let is = call_is (of_badge c.pass.inside.badge) c.args.pass.now c.pass.view_is c.pass.inside.caller c.pass.invariant.whose
-    c.args.request c.write.new.self.step c.write.ensures in
-    let ended = call_told c.ask-ended.result c.ask-ended.new.answer in
-    call_comes c.args.self.now.opening c.ask-ended.ensures.opens c.args.pass.now c.ask-ended.new.pass c.args.moment c.args.request
-    c.write.new.self.step c.ask-ended.new.call.step is ended
-    (λ none. ap (λ (d : _). d.step) (c.ask-ended.ensures.same
-    (none_told c.ask-ended.result c.ask-ended.new.answer none))) c.call_end.result c.ask-ended.ensures.asks c.call_end.ensures
-
-pub returns-clause-keeps : goal.returns-clause-keeps
-returns-clause-keeps g c =
-    let is = call_is (of_badge c.pass.inside.badge) c.args.pass.now c.pass.view_is c.pass.inside.caller c.pass.invariant.whose
-    c.args.request c.write.new.self.step c.write.ensures in
-    let ended = call_told c.ask-ended.result c.ask-ended.new.answer in
-    calls_keep c.args.self.now.opening c.ask-ended.ensures.opens c.args.pass.now c.ask-ended.new.pass c.args.moment c.args.request
-    c.call_end.result
-    (call_comes c.args.self.now.opening c.ask-ended.ensures.opens c.args.pass.now c.ask-ended.new.pass c.args.moment c.args.request
-    c.write.new.self.step c.ask-ended.new.call.step is ended
-    (λ none. ap (λ (d : _). d.step) (c.ask-ended.ensures.same
-    (none_told c.ask-ended.result c.ask-ended.new.answer none))) c.call_end.result c.ask-ended.ensures.asks c.call_end.ensures)
+pub returns-in-Ok-clause-calls : goal.returns-in-Ok-clause-calls
+returns-in-Ok-clause-calls g c =
+    reply_taken c.args.self.now.opening c.args.pass.now c.call_into.new.pass c.args.moment c.args.request c.call_into.new.answer
+    c.reply_of.result c.reply_of.ensures c.in-Ok.ensures.calls
