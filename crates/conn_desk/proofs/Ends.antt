@@ -9,7 +9,7 @@ use Rattle.scm_model.specs.declared.calls.Reply.{Reply}
 use Rattle.rpc_session.specs.declared.state.Incoming.{Incoming}
 use Rattle.rpc_session.specs.Items.{Seen, StreamEnd, AtRest, Unfinished, BadPdu, TooLong, Gave, IsOpen, Told, items, before, open_end}
 use Rattle.rpc_session.specs.Items.{is_at_rest, unbound, to_come, told_of_pdus}
-use Rattle.rpc_session.specs.Pdus.{pdus_behind}
+use Rattle.rpc_session.specs.Pdus.{pdus_after}
 use Rattle.conn_desk.specs.declared.served.Served.{Served}
 use Rattle.conn_desk.specs.declared.served.Served.TheVariants as served
 use Rattle.conn_desk.specs.declared.serving.Stop.{Stop}
@@ -37,7 +37,7 @@ open_items s read given gave waits =
     ap items (sym (append-nil read)) ∙ gave [] ∙ ap (before given) waits
     ∙ ap (λ (x : List Incoming). record { items = x; ending = open_end s }) (append-nil given)
 
--- one piece was read behind what the session was given, all of whose items are answered
+-- one piece was read after what the session was given, all of whose items are answered
 ahead_of : (s : Seen) (read more : List ℕ) (given answered : List Incoming) → Gave read given s → IsOpen s → length more ≤ piece_size
     → Begins given answered → IsAhead (read ++ more) answered
 ahead_of s read more given answered gave waits short b = record {
@@ -218,7 +218,7 @@ module _ {D : Type 0} (called : D → D → DecodedRequest → Option Reply → 
 -- ## The beginning
 
 waits_fresh : (s : Seen) → s ≡ record { state = unbound; held = record { place = 0; rest = [] } } → IsOpen s
-unfolding to_come told_of_pdus pdus_behind
+unfolding to_come told_of_pdus pdus_after
 waits_fresh s e = rw e refl
 
 -- nothing was read

@@ -23,7 +23,7 @@ use Rattle.rpc_session.specs.declared.state.Terms.{Terms}
 use Rattle.rpc_session.specs.declared.state.Incoming.{Incoming}
 use Rattle.rpc_session.specs.declared.state.Incoming.TheVariants.{Local, Request}
 use Rattle.rpc_session.specs.declared.state.RequestItem.{RequestItem}
-use Rattle.conn_desk.specs.Bodies.{answer_to, asked, asked_by, asked_in, asked_of, asked_of_call, call_in, fault, or_fault, replies_behind}
+use Rattle.conn_desk.specs.Bodies.{answer_to, asked, asked_by, asked_in, asked_of, asked_of_call, call_in, fault, or_fault, replies_after}
 use Rattle.conn_desk.specs.Bodies.{reply_to, response, spoken}
 use Rattle.conn_desk.specs.declared.desk.HandlerError.{HandlerError}
 use Rattle.conn_desk.specs.declared.desk.HandlerError.TheVariants as lacks
@@ -36,8 +36,8 @@ use Rattle.conn_desk.specs.Along.{Answered, stop_at, write_stopped}
 request_spoken : (r : RequestItem) (o : Result DecodedRequest ℕ) (is js : List Incoming) (rs qs : List (Option Reply))
     → ((ts : List (Option Reply)) → AsMany (asked is) ts → spoken (is ++ js) (ts ++ qs) ≡ spoken is ts ++ spoken js qs)
     → AsMany (cons_option (call_in o) (asked is)) rs
-    → answer_to r o (rs ++ qs) ++ spoken (is ++ js) (replies_behind (call_in o) (rs ++ qs)) ≡ (answer_to r o rs
-    ++ spoken is (replies_behind (call_in o) rs)) ++ spoken js qs
+    → answer_to r o (rs ++ qs) ++ spoken (is ++ js) (replies_after (call_in o) (rs ++ qs)) ≡ (answer_to r o rs
+    ++ spoken is (replies_after (call_in o) rs)) ++ spoken js qs
 request_spoken r (Err status) is js rs qs more h =
     let text = fault r status in
     ap (λ x. text ++ x) (more rs h) ∙ sym (append_assoc text (spoken is rs) (spoken js qs))

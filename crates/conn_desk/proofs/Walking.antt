@@ -29,9 +29,10 @@ front_of : (s : Seen) (stream : List ℕ) (given : List Incoming) → Gave strea
 front_of s stream given gave =
     ((to_come s []).items, ap (λ (t : Told). t.items) (ap items (sym (append-nil stream)) ∙ gave []))
 
--- and of the items of what comes behind it
-front_behind : (s : Seen) (stream more : List ℕ) (given : List Incoming) → Gave stream given s → Begins given (items (stream ++ more)).items
-front_behind s stream more given gave = ((to_come s more).items, ap (λ (t : Told). t.items) (gave more))
+-- and of the items of what follows it
+front_of_more : (s : Seen) (stream more : List ℕ) (given : List Incoming) → Gave stream given s
+    → Begins given (items (stream ++ more)).items
+front_of_more s stream more given gave = ((to_come s more).items, ap (λ (t : Told). t.items) (gave more))
 
 abbrev gave_then : (s m t : Seen) (xs ys : List Incoming) → GaveMore (λ stream. stream) s m xs → GaveMore (λ stream. stream) m t ys
     → GaveMore (λ stream. stream) s t (xs ++ ys)
@@ -227,7 +228,7 @@ module _ {D : Type 0} (called : D → D → DecodedRequest → Option Reply → 
   piece_wants t = record {
     given = [];
     front = λ stream before h. subst (λ g. Begins g (items (stream ++ piece)).items) (sym (append-nil before))
-        (front_behind a.session stream piece before h);
+        (front_of_more a.session stream piece before h);
     last = a.desk;
     answers = answers_none called a.desk a.held;
     left = inl refl;

@@ -51,7 +51,7 @@ module _ {D O : Type 0} (called : D → D → DecodedRequest → Option Reply �
 
   module _ (a e : At ConnectionReader D O) (left left_now : Option (List ℕ)) (count : ℕ)
       (on : SoFar called a.place (held a.output) (point_of held a) []) where
-    -- where the serving ends behind pieces that were all eaten
+    -- where the serving ends after pieces that were all eaten
     all_eaten : (how : ReadEnd Stop) (last : At ConnectionReader D O) (read : List ℕ) → AllEaten last e left left_now 0 count read
         → Serves called rests full a.place last.place left left_now (held a.output) (held last.output)
         (served_as how (is_at_rest last.eater.session))

@@ -87,11 +87,11 @@ answer_of (Local bytes) replies = bytes
 answer_of (Request r) replies = answer_to r (asked_of r) replies
 
 -- the replies that are left after a request
-abbrev pub replies_behind : Option DecodedRequest → List (Option Reply) → List (Option Reply)
-replies_behind None replies = replies
-replies_behind (Some request) replies = drop 1 replies
+abbrev pub replies_after : Option DecodedRequest → List (Option Reply) → List (Option Reply)
+replies_after None replies = replies
+replies_after (Some request) replies = drop 1 replies
 
 -- what a connection is answered: each item its own bytes, or those of the next reply
 abbrev pub spoken : List Incoming → List (Option Reply) → List ℕ
 spoken [] replies = []
-spoken (item ∷ items) replies = answer_of item replies ++ spoken items (replies_behind (asked_by item) replies)
+spoken (item ∷ items) replies = answer_of item replies ++ spoken items (replies_after (asked_by item) replies)

@@ -1,13 +1,13 @@
 -- What becomes of requests at a desk, calls and raises alike. A desk says by three relations what they may do: called leads from it to
--- what an
--- answered request makes of it, by what was heard of the request (a reply, or that there was no memory for one), rests to what one without
--- an
--- answer leaves, and full says that it has no room for a request.
+-- what an answered request makes of it, by what was heard of the request (a reply, or that there was no memory for one), rests to what
+-- one without an answer leaves, and full says that it has no room for a request.
 use Rattle.std.specs.Prelude.{ℕ, ◌≡◌, ◌⊎◌, List, [], ◌∷◌, Option}
 use Rattle.conn_desk.specs.declared.asked.DecodedRequest.{DecodedRequest}
 use Rattle.conn_desk.specs.declared.asked.DecodedRequest.TheVariants as asks
 use Rattle.scm_model.specs.declared.calls.Reply.{Reply}
 use Rattle.scm_model.specs.declared.calls.Reply.TheVariants as reply
+use Rattle.scm_model.specs.declared.steps.Answer.{Answer}
+use Rattle.scm_model.specs.declared.steps.Answer.TheVariants as answers
 use Rattle.scm_bodies.specs.Replies.{Answers}
 use Rattle.conn_desk.specs.declared.desk.HandlerError.{HandlerError}
 use Rattle.conn_desk.specs.declared.desk.HandlerError.TheVariants as lacks
@@ -25,6 +25,11 @@ pub record CallAnswered {D : Type 0} (called : D → D → DecodedRequest → Op
   pub made : called d e request heard
   pub told : reply_to request heard ≡ reply
   pub answers : IsAnswer request reply
+
+-- the answer is a reply, and the reply is so
+abbrev pub HasReply : Answer → (Reply → Type 0) → Type 0
+HasReply (answers.Reply reply) P = P reply
+HasReply told P = ⊥
 
 -- the desk is as it was, or what a request without an answer left
 abbrev pub IsLeft : {D : Type 0} → (D → D → Type 0) → D → D → Type 0

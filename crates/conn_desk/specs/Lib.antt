@@ -4,3 +4,4 @@ pub mod Talks
 pub mod Along
 pub mod Connection
 pub mod Serves
+pub mod Buffers

@@ -1,12 +1,12 @@
-ghost use Rattle.std.specs.Prelude.{Option, IfOk, IsErrOf, IsTrue, OnErr};
+ghost use Rattle.std.specs.Prelude.{◌≡◌, Option, IfOk, IsErrOf, IsTrue, OnErr, OnOk};
 ghost use Rattle.scm_model.specs.Ranges.{in_range};
 ghost use Rattle.scm_model.specs.declared.calls.Reply.{Reply};
 ghost use Rattle.scm_model.specs.declared.calls.Reply.TheVariants.{Code};
 ghost use Rattle.conn_desk.specs.declared.asked.DecodedRequest.{DecodedRequest};
 ghost use Rattle.conn_desk.specs.declared.asked.DecodedRequest.TheVariants.{Call, Raise};
-ghost use Rattle.conn_desk.specs.Desks.{CallAnswered};
+ghost use Rattle.conn_desk.specs.Desks.{CallAnswered, HasReply};
 
-use scm_model::{Reply, Request};
+use scm_model::{Answer, Request};
 
 /// Why a request has no answer.
 #[derive(Clone, Copy)]
@@ -31,15 +31,16 @@ pub trait RequestHandler {
     /// It has no room for a request.
     ghost full: { Self → DecodedRequest → Type 0 };
 
-    /// Makes a call. Where there was no memory for it, that may stand in its place, and is
-    /// answered by the call's own refusal.
-    fn call(&mut self, request: Request) -> Result<Reply, HandlerError>
+    /// Makes a call, and puts its reply into `told`. Where there was no memory for it, that may
+    /// stand in its place, and is answered by the call's own refusal.
+    fn call(&mut self, request: Request, told: &mut Answer) -> Result<(), HandlerError>
         requires ready { ready self.old }
         requires ranged { IsTrue (in_range request) }
         ensures ready { ready self.new }
-        ensures answered { IfOk result (λ reply.
-            CallAnswered called self.old self.new (Call request) reply) }
+        ensures answered { OnOk result
+            (HasReply told.new (CallAnswered called self.old self.new (Call request))) }
         ensures left { OnErr result (rests self.old self.new) }
+        ensures untold { OnErr result (told.new ≡ told.old) }
         ensures full { IsErrOf result HandlerError.Full → full self.new (Call request) };
 
     /// Raises what has a subtype, and answers the code. Where there was no memory for it, that may

@@ -3,6 +3,7 @@
 
 mod asked;
 mod desk;
+mod reply_buffer;
 mod served;
 mod serving;
 

@@ -1,4 +1,4 @@
-ghost use Rattle.std.specs.Prelude.{◌≡◌, Err, IfErr, IfOk, IfSome, None, Ok, Result, ◌≤◌, ◌++◌, []};
+ghost use Rattle.std.specs.Prelude.{◌≡◌, Err, IfErr, IfOk, IfSome, None, Ok, Result, ◌≤◌, ◌++◌};
 ghost use Rattle.std.specs.Prelude.{IsTrue, Some, length};
 ghost use Rattle.ndr_body.specs.Reading.{Fails};
 ghost use Rattle.ndr_body.specs.declared.fault.BodyFault.{BodyFault as Fault};
@@ -13,7 +13,6 @@ ghost use Rattle.scm_model.specs.declared.calls.Reply.TheVariants.{Code};
 ghost use Rattle.scm_calls.specs.declared.raises.TheConstants.{RAISE_REPLY_BYTES};
 ghost use Rattle.conn_desk.specs.Along.{Answered, HasStopCause, Replied, stop_at, write_stopped};
 ghost use Rattle.conn_desk.specs.Along.{FedOn, stop_of};
-ghost use Rattle.conn_desk.specs.declared.desk.HandlerError.TheVariants as lacks;
 ghost use Rattle.conn_desk.specs.Desks.{Unanswered};
 ghost use Rattle.rpc_session.specs.Moves.{IsFor};
 ghost use Rattle.rpc_session.specs.declared.state.Incoming.TheVariants as items;
@@ -22,6 +21,7 @@ ghost use Rattle.feed_loop.specs.declared.fed.ReadEnd.{ReadEnd};
 ghost use Rattle.conn_desk.specs.Connection.{IsServedFor};
 
 use super::desk::{HandlerError, RequestHandler};
+use super::reply_buffer::ReplyBuffer;
 use super::served::Served;
 use feed_loop::{ByteConsumer, ReadEnd, feed_all};
 use ndr_body::BodyFault;
@@ -30,7 +30,7 @@ use rpc_pdu::PduKind;
 use rpc_session::{Incoming, Interface, RequestItem, Session, SessionFault};
 use scm_bodies::{call_at, read_request, reply_bound, write_reply};
 use scm_calls::{RAISE, RAISE_REPLY_BYTES, read_raise, write_raise_reply};
-use scm_model::{Reply, Request};
+use scm_model::{Answer, Reply, Request};
 use scm_text::Buffer;
 use std::alloc::Global;
 
@@ -119,21 +119,11 @@ fn written(reply: &Reply, out: Buffer<u8>) -> Buffer<u8>
     }
 }
 
-/// An empty buffer with room for so many bytes.
-fn room_for(alloc: Global, bytes: usize) -> Result<Buffer<u8>, HandlerError>
-    ensures ok { IfOk result (λ out. (out.items ≡ []) × (out.room ≡ bytes)) }
-    ensures err { IfErr result (λ why. why ≡ lacks.OutOfMemory) }
-{
-    match Buffer::with_room(alloc, bytes) {
-        Ok(out) => Ok(out),
-        Err(_) => Err(HandlerError::OutOfMemory),
-    }
-}
-
 /// Makes a call, and the body of its reply. There is room for the body before the call is made.
 fn replied<D: RequestHandler>(
     alloc: Global,
     desk: &mut D,
+    replies: &mut ReplyBuffer,
     request: Request,
 ) -> Result<Buffer<u8>, HandlerError>
     requires ready { D.ready desk.old }
@@ -143,17 +133,22 @@ fn replied<D: RequestHandler>(
         Replied D.called desk.old desk.new (Call request) body.items) }
     ensures err { IfErr result (Unanswered D.rests D.full desk.old desk.new (Call request)) }
 {
-    let Ok(out) = room_for(alloc, reply_bound(&request) as usize) else {
+    let Ok(out) = replies.take(alloc, reply_bound(&request) as usize) else {
         drop(request);
         return Err(HandlerError::OutOfMemory);
     };
-    match desk.call(request) {
-        Ok(reply) => {
-            let body = written(&reply, out);
-            drop(reply);
+    let mut told = Answer::Done;
+    match desk.call(request, &mut told) {
+        Ok(()) => {
+            let Answer::Reply(reply) = &told else {
+                unreachable!()
+            };
+            let body = written(reply, out);
+            drop(told);
             Ok(body)
         }
         Err(lacks) => {
+            drop(told);
             drop(out);
             Err(lacks)
         }
@@ -176,6 +171,7 @@ fn written_code(code: u32, out: Buffer<u8>) -> Buffer<u8>
 fn raised<D: RequestHandler>(
     alloc: Global,
     desk: &mut D,
+    replies: &mut ReplyBuffer,
     subtype: [u8; 16],
 ) -> Result<Buffer<u8>, HandlerError>
     requires { D.ready desk.old }
@@ -184,7 +180,7 @@ fn raised<D: RequestHandler>(
         Replied D.called desk.old desk.new (Raise subtype) body.items) }
     ensures err { IfErr result (Unanswered D.rests D.full desk.old desk.new (Raise subtype)) }
 {
-    let out = room_for(alloc, RAISE_REPLY_BYTES)?;
+    let out = replies.take(alloc, RAISE_REPLY_BYTES)?;
     let code = desk.raise(subtype)?;
     Ok(written_code(code, out))
 }
@@ -193,6 +189,7 @@ fn raised<D: RequestHandler>(
 fn answer_call<D: RequestHandler, O: Sink>(
     alloc: Global,
     desk: &mut D,
+    replies: &mut ReplyBuffer,
     session: &Session,
     item: &RequestItem,
     output: &mut O,
@@ -209,8 +206,12 @@ fn answer_call<D: RequestHandler, O: Sink>(
         return stopped(session.fault(item.call, item.context, OP_RANGE, output));
     };
     match read_request(alloc, call, item.body.as_slice()) {
-        Ok(request) => match replied(alloc, desk, request) {
-            Ok(body) => stopped(session.reply(item.call, item.context, body.as_slice(), output)),
+        Ok(request) => match replied(alloc, desk, replies, request) {
+            Ok(body) => {
+                let sent = session.reply(item.call, item.context, body.as_slice(), output);
+                replies.keep(body);
+                stopped(sent)
+            }
             Err(lacks) => Err(stop_at(lacks)),
         },
         Err(fault) => match status_of(fault) {
@@ -224,6 +225,7 @@ fn answer_call<D: RequestHandler, O: Sink>(
 fn answer_raise<D: RequestHandler, O: Sink>(
     alloc: Global,
     desk: &mut D,
+    replies: &mut ReplyBuffer,
     session: &Session,
     item: &RequestItem,
     output: &mut O,
@@ -237,8 +239,12 @@ fn answer_raise<D: RequestHandler, O: Sink>(
     ensures cause { HasStopCause (O.faults output.old) (O.faults output.new) result }
 {
     match subtype_of(item) {
-        Ok(subtype) => match raised(alloc, desk, subtype) {
-            Ok(body) => stopped(session.reply(item.call, item.context, body.as_slice(), output)),
+        Ok(subtype) => match raised(alloc, desk, replies, subtype) {
+            Ok(body) => {
+                let sent = session.reply(item.call, item.context, body.as_slice(), output);
+                replies.keep(body);
+                stopped(sent)
+            }
             Err(lacks) => Err(stop_at(lacks)),
         },
         Err(status) => stopped(session.fault(item.call, item.context, status, output)),
@@ -249,6 +255,7 @@ fn answer_raise<D: RequestHandler, O: Sink>(
 fn answer_request<D: RequestHandler, O: Sink>(
     alloc: Global,
     desk: &mut D,
+    replies: &mut ReplyBuffer,
     session: &Session,
     item: &RequestItem,
     output: &mut O,
@@ -261,8 +268,8 @@ fn answer_request<D: RequestHandler, O: Sink>(
     ensures cause { HasStopCause (O.faults output.old) (O.faults output.new) result }
 {
     match item.interface {
-        Interface::Svcctl => answer_call(alloc, desk, session, item, output),
-        Interface::Trigger => answer_raise(alloc, desk, session, item, output),
+        Interface::Svcctl => answer_call(alloc, desk, replies, session, item, output),
+        Interface::Trigger => answer_raise(alloc, desk, replies, session, item, output),
     }
 }
 
@@ -270,6 +277,7 @@ fn answer_request<D: RequestHandler, O: Sink>(
 pub fn answer<D: RequestHandler, O: Sink>(
     alloc: Global,
     desk: &mut D,
+    replies: &mut ReplyBuffer,
     session: &Session,
     item: &Incoming,
     output: &mut O,
@@ -283,7 +291,9 @@ pub fn answer<D: RequestHandler, O: Sink>(
 {
     match item {
         Incoming::Local(bytes) => stopped(write_all(output, bytes.as_slice())),
-        Incoming::Request(request) => answer_request(alloc, desk, session, request, output),
+        Incoming::Request(request) => {
+            answer_request(alloc, desk, replies, session, request, output)
+        }
     }
 }
 
@@ -302,6 +312,7 @@ fn stop_of(fault: SessionFault) -> Stop
 fn drain<D: RequestHandler, O: Sink>(
     alloc: Global,
     desk: &mut D,
+    replies: &mut ReplyBuffer,
     session: &mut Session,
     output: &mut O,
 ) -> Result<(), Stop>
@@ -316,9 +327,12 @@ fn drain<D: RequestHandler, O: Sink>(
     loop {
         match session.next(alloc) {
             Ok(None) => return Ok(()),
-            Ok(Some(item)) => match answer(alloc, desk, session, &item, output) {
-                Ok(()) => {}
-                Err(stop) => return Err(stop),
+            Ok(Some(item)) => match answer(alloc, desk, replies, session, &item, output) {
+                Ok(()) => session.recycle(item),
+                Err(stop) => {
+                    drop(item);
+                    return Err(stop);
+                }
             },
             Err(fault) => return Err(stop_of(fault)),
         }
@@ -329,6 +343,7 @@ fn drain<D: RequestHandler, O: Sink>(
 pub fn feed<D: RequestHandler, O: Sink>(
     alloc: Global,
     desk: &mut D,
+    replies: &mut ReplyBuffer,
     session: &mut Session,
     piece: &[u8],
     output: &mut O,
@@ -342,7 +357,7 @@ pub fn feed<D: RequestHandler, O: Sink>(
     ensures cause { HasStopCause (O.faults output.old) (O.faults output.new) result }
 {
     match session.feed(piece) {
-        Ok(()) => drain(alloc, desk, session, output),
+        Ok(()) => drain(alloc, desk, replies, session, output),
         Err(_) => Err(Stop::OutOfMemory),
     }
 }
@@ -351,6 +366,7 @@ pub fn feed<D: RequestHandler, O: Sink>(
 pub struct ConnectionReader {
     pub alloc: Global,
     pub session: Session,
+    pub replies: ReplyBuffer,
 }
 
 /// A drop of its own: a function that owns one drops it by a call, which is proved once.
@@ -359,8 +375,10 @@ impl Drop for ConnectionReader {
         let ConnectionReader {
             alloc: _alloc,
             session,
+            replies,
         } = self;
         drop(session);
+        drop(replies);
     }
 }
 
@@ -379,7 +397,14 @@ impl<D: RequestHandler, O: Sink> ByteConsumer<D, O> for ConnectionReader {
         (point_of O.held b) (O.faults a.output) (O.faults b.output) piece why };
 
     fn consume(&mut self, desk: &mut D, output: &mut O, piece: &[u8]) -> Result<(), Stop> {
-        feed(self.alloc, desk, &mut self.session, piece, output)
+        feed(
+            self.alloc,
+            desk,
+            &mut self.replies,
+            &mut self.session,
+            piece,
+            output,
+        )
     }
 }
 
@@ -419,6 +444,7 @@ pub fn serve<D: RequestHandler, I: Source, O: Sink>(
     let mut talker = ConnectionReader {
         alloc,
         session: Session::new(alloc),
+        replies: ReplyBuffer::new(),
     };
     let mut read = 0u64;
     let fed = feed_all(&mut talker, desk, output, input, &mut read);

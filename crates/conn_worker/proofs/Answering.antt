@@ -1,6 +1,6 @@
 -- What a pass's requests are told answers them.
-use Rattle.std.proofs.Common.{◌≡◌, ◌∙◌, ◌⊎◌, ℕ, Bool, Err, List, [], Option, None, Some, true, false, inl, inr, refl, sym, subst}
-use Rattle.std.specs.Prelude.{IsErrOf}
+use Rattle.std.proofs.Common.{◌≡◌, ◌∙◌, ◌⊎◌, ℕ, Bool, Result, Ok, Err, List, [], Option, None, Some, true, false, inl, inr, refl, sym, subst}
+use Rattle.std.specs.Prelude.{IsErrOf, OnOk}
 use Rattle.scm_model.specs.declared.calls.Reply.{Reply}
 use Rattle.scm_model.specs.declared.calls.Reply.TheVariants as replies
 use Rattle.scm_model.specs.declared.calls.Request.{Request}
@@ -19,15 +19,15 @@ use Rattle.scm_answers.specs.Answering.{LawOfAnswering, RepliesRightly, IsCode}
 use Rattle.scm_answers.proofs.Calls.{of_refused}
 use Rattle.scm_answers.proofs.Steps.{gives}
 use Rattle.book_rule.specs.declared.view.Opening.{Opening}
-use Rattle.scm_book.specs.Called.{AnsweredSo, RaiseWants, RaisedSo, WantsMemory, called, is_start, raised_by}
+use Rattle.scm_book.specs.Called.{AnsweredSo, RaiseWants, RaisedSo, RepliesSo, WantsMemory, called, is_start, raised_by}
 use Rattle.scm_book.specs.Holds.{Opens}
 use Rattle.scm_book.specs.declared.fault.MakeFault.{MakeFault}
 use Rattle.scm_book.specs.declared.fault.MakeFault.TheVariants as makes
-use Rattle.scm_book.specs.Passes.{FindsFault, Known, Made, MadeSo, room_behind}
+use Rattle.scm_book.specs.Passes.{FindsFault, Known, Learnt, Made, MadeSo, room_behind}
 use Rattle.conn_desk.specs.declared.asked.DecodedRequest.TheVariants as asks
 use Rattle.conn_desk.specs.declared.desk.HandlerError.{HandlerError}
 use Rattle.conn_desk.specs.declared.desk.HandlerError.TheVariants as lacks
-use Rattle.conn_desk.specs.Desks.{CallAnswered}
+use Rattle.conn_desk.specs.Desks.{CallAnswered, HasReply}
 use Rattle.conn_worker.specs.Connecting.{unanswered}
 use Rattle.conn_worker.specs.Serving.{IsServed}
 use Rattle.conn_worker.specs.Waiting.{WaitsAndEnds}
@@ -71,6 +71,12 @@ module _ (o : Opening) (opens : Opens o) where
       told = sym wants.refused;
       answers = subst (Answers asked) (sym wants.refused) (of_refused asked 8);
     }
+
+    -- the same of a reply that lies in its place
+    pub at_once_in : (k' : Known) (lies : Answer) → RepliesSo o k moment asked lies k'
+        → HasReply lies (CallAnswered (IsServed silent tells o) k k' (asks.Call asked))
+    at_once_in k' (answers.Reply reply) so = at_once k' reply so
+    at_once_in k' lies so = absurd so
 
     -- a start that waited
     pub waited_for : (begun k' : Known) (plan : ℕ) (reply : Reply) → is_start asked ≡ true
@@ -136,6 +142,32 @@ pub answered_caller : (o : Opening) (k k' : Known) (moment : ℕ) (asked : Reque
     → k'.caller ≡ k.caller
 answered_caller o k k' moment asked reply (inl made) = made.made.caller
 answered_caller o k k' moment asked reply (inr wants) = wants.made.made.caller
+
+pub told_caller : (o : Opening) (k k' : Known) (moment : ℕ) (asked : Request) (lies : Answer) → RepliesSo o k moment asked lies k'
+    → k'.caller ≡ k.caller
+told_caller o k k' moment asked (answers.Reply reply) so = answered_caller o k k' moment asked reply so
+told_caller o k k' moment asked lies so = absurd so
+
+pub unmade_caller : (o : Opening) (k k' : Known) (asked : Request) (fault : MakeFault) → FindsFault o k (called k asked) fault k'
+    → k'.caller ≡ k.caller
+unmade_caller o k k' asked makes.Full finds = finds.learnt.caller
+unmade_caller o k k' asked makes.OutOfMemory finds = finds.learnt.caller
+
+pub unmade_learnt : (o : Opening) (k k' : Known) (asked : Request) (fault : MakeFault) → FindsFault o k (called k asked) fault k'
+    → Learnt o k k'
+unmade_learnt o k k' asked makes.Full finds = finds.learnt
+unmade_learnt o k k' asked makes.OutOfMemory finds = finds.learnt
+
+-- a reply that is put into its place lies there
+pub put_there : (P : Reply → Type 0) (lies : Answer) (reply : Reply) → lies ≡ answers.Reply reply → P reply → HasReply lies P
+put_there P lies reply is holds = subst (λ (a : Answer). HasReply a P) (sym is) holds
+
+-- if the reply that lies in its place is so, it is also what follows from that
+pub reply_more : {T E : Type 0} (P Q : Reply → Type 0) (r : Result T E) (lies : Answer) → ((reply : Reply) → P reply → Q reply)
+    → OnOk r (HasReply lies P) → OnOk r (HasReply lies Q)
+reply_more P Q (Ok x) (answers.Reply reply) more holds = more reply holds
+reply_more P Q (Ok x) lies more holds = absurd holds
+reply_more P Q (Err fault) lies more holds = tt
 
 pub ended_caller : (silent : Bool) (tells : ℕ → Type 0) (o : Opening) (plan : ℕ) (k : Known) (reply : Reply) (k' : Known)
     → WaitsAndEnds silent tells o plan k reply k' → k'.caller ≡ k.caller

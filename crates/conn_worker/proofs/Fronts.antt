@@ -10,7 +10,7 @@ use Rattle.rpc_session.specs.declared.state.Incoming.{Incoming}
 use Rattle.rpc_session.specs.declared.state.State.{State}
 use Rattle.rpc_session.specs.Items.{Told, items, told_after, told_of, told_of_pdus, unbound}
 use Rattle.rpc_session.specs.Moves.{Move, Gives, Joins, OutOfOrder, Passes, session_move}
-use Rattle.rpc_session.specs.Pdus.{Cut, by_read, pdus_behind}
+use Rattle.rpc_session.specs.Pdus.{Cut, by_read, pdus_after}
 
 -- what is told of one stretch is a front of what is told of another
 abbrev IsFrontOf : Told → Told → Type 0
@@ -39,14 +39,14 @@ read_first place xs ys fronts (Whole pdu used) now stays s =
     (sym (stays tt))
     (after place (told_of (xs used)) (told_of (ys used)) (fronts used) (session_move s pdu))
 
-front_behind : (skip place : ℕ) (bytes more : List ℕ) (s : State) → IsFrontOf (told_of (pdus_behind Server skip place bytes) s)
-    (told_of (pdus_behind Server skip place (bytes ++ more)) s)
-unfolding told_of_pdus pdus_behind
-front_behind skip place [] more s = all (told_of (pdus_behind Server skip place more) s).items
+front_behind : (skip place : ℕ) (bytes more : List ℕ) (s : State) → IsFrontOf (told_of (pdus_after Server skip place bytes) s)
+    (told_of (pdus_after Server skip place (bytes ++ more)) s)
+unfolding told_of_pdus pdus_after
+front_behind skip place [] more s = all (told_of (pdus_after Server skip place more) s).items
 front_behind (suc skip) place (b ∷ bytes) more s = front_behind skip (place + 1) bytes more s
 front_behind zero place (b ∷ bytes) more s =
-    read_first place (λ used. pdus_behind Server (used - 1) (place + 1) bytes)
-    (λ used. pdus_behind Server (used - 1) (place + 1) (bytes ++ more))
+    read_first place (λ used. pdus_after Server (used - 1) (place + 1) bytes)
+    (λ used. pdus_after Server (used - 1) (place + 1) (bytes ++ more))
     (λ used t. front_behind (used - 1) (place + 1) bytes more t) (pdu_at Server (b ∷ bytes)) (pdu_at Server (b ∷ (bytes ++ more)))
     (λ is. settled Server (b ∷ bytes) more is) s
 

@@ -1,14 +1,15 @@
 // A connection's place at the book: its calls and its raises.
-ghost use Rattle.std.specs.Prelude.{◌≡◌, ◌≢◌, IfOk, IsErrOf, IsTrue, OnErr, true};
+ghost use Rattle.std.specs.Prelude.{◌≡◌, ◌≢◌, IfOk, IsErrOf, IsTrue, OnErr, OnOk, true};
 ghost use Rattle.scm_model.specs.Ranges.{in_range};
 ghost use Rattle.scm_book.specs.Called.{is_start};
 ghost use Rattle.scm_book.specs.Passes.{HasPlan, IsOf, Learnt};
 ghost use Rattle.conn_desk.specs.declared.asked.DecodedRequest.TheVariants.{Call, Raise};
-ghost use Rattle.conn_desk.specs.Desks.{CallAnswered};
+ghost use Rattle.conn_desk.specs.Desks.{CallAnswered, HasReply};
 ghost use Rattle.conn_worker.specs.Connecting.{HasNoRoomFor, unanswered};
 ghost use Rattle.conn_worker.specs.Serving.{IsServed};
 ghost use Rattle.conn_worker.specs.Waiting.{KeepsPlans, Looks, WaitsAndEnds};
 ghost use Rattle.scm_model.specs.declared.calls.Reply.TheVariants.{Code};
+ghost use Rattle.scm_model.specs.declared.steps.Answer.TheVariants as answers;
 ghost use Rattle.scm_answers.specs.Answering.{IsCode};
 
 use crate::waiter::Waiter;
@@ -16,7 +17,7 @@ use conn_desk::{HandlerError, RequestHandler};
 use outside::Clock;
 use record_journal::Keeper;
 use scm_book::{Book, CallEnd, EndLook, MakeFault, Pass, StartEnd};
-use scm_model::{Reply, Request};
+use scm_model::{Answer, Reply, Request};
 use std::sync::Wait;
 
 /// Whether a request is a start.
@@ -90,7 +91,57 @@ fn unanswered(fault: MakeFault) -> HandlerError
     }
 }
 
-/// Makes a call. A start that waits is answered once it is decided.
+/// Puts a reply in the place of an answer.
+#[inline(always)]
+fn put(place: &mut Answer, reply: Reply)
+    ensures { place.new ≡ answers.Reply reply }
+{
+    *place = Answer::Reply(reply);
+}
+
+/// Makes a start, and puts its reply into `told` once it is decided. It stands alone, so that no
+/// other call's frame is cleared for it.
+#[inline(never)]
+fn start<R: Wait, K: Keeper, C: Clock, W: Waiter<K>>(
+    rt: &R,
+    book: &Book<K>,
+    pass: &mut Pass,
+    clock: &C,
+    waiter: &mut W,
+    request: Request,
+    told: &mut Answer,
+) -> Result<(), HandlerError>
+    requires book { IsOf book.now pass.old }
+    requires caller { pass.old.caller ≢ 0 }
+    requires start { is_start request ≡ true }
+    requires ranged { IsTrue (in_range request) }
+    ensures book { IsOf book.now pass.new }
+    ensures caller { pass.new.caller ≡ pass.old.caller }
+    ensures answered { OnOk result (HasReply told.new (CallAnswered
+        (IsServed W.silent (C.tells clock.now) book.now.opening) pass.old pass.new
+        (Call request))) }
+    ensures left { OnErr result (Learnt book.now.opening pass.old pass.new) }
+    ensures untold { OnErr result (told.new ≡ told.old) }
+    ensures full { IsErrOf result HandlerError.Full →
+        HasNoRoomFor book.now.opening pass.new (Call request) }
+{
+    book.opens();
+    let moment = clock.now();
+    match book.begin_start(rt, pass, moment, request) {
+        StartEnd::Answered(reply) => {
+            put(told, reply);
+            Ok(())
+        }
+        StartEnd::Waiting(plan) => {
+            let reply = wait(rt, book, pass, clock, waiter, plan);
+            put(told, reply);
+            Ok(())
+        }
+        StartEnd::Unmade(fault) => Err(unanswered(fault)),
+    }
+}
+
+/// Makes a call, and puts its reply into `told`. A start that waits is answered once it is decided.
 pub fn ask<R: Wait, K: Keeper, C: Clock, W: Waiter<K>>(
     rt: &R,
     book: &Book<K>,
@@ -98,31 +149,29 @@ pub fn ask<R: Wait, K: Keeper, C: Clock, W: Waiter<K>>(
     clock: &C,
     waiter: &mut W,
     request: Request,
-) -> Result<Reply, HandlerError>
+    told: &mut Answer,
+) -> Result<(), HandlerError>
     requires book { IsOf book.now pass.old }
     requires caller { pass.old.caller ≢ 0 }
     requires ranged { IsTrue (in_range request) }
     ensures book { IsOf book.now pass.new }
     ensures caller { pass.new.caller ≡ pass.old.caller }
-    ensures answered { IfOk result (λ reply.
-        CallAnswered (IsServed W.silent (C.tells clock.now) book.now.opening) pass.old pass.new
-        (Call request) reply) }
+    ensures answered { OnOk result (HasReply told.new (CallAnswered
+        (IsServed W.silent (C.tells clock.now) book.now.opening) pass.old pass.new
+        (Call request))) }
     ensures left { OnErr result (Learnt book.now.opening pass.old pass.new) }
+    ensures untold { OnErr result (told.new ≡ told.old) }
     ensures full { IsErrOf result HandlerError.Full →
         HasNoRoomFor book.now.opening pass.new (Call request) }
 {
-    book.opens();
-    let moment = clock.now();
     if is_start(&request) {
-        match book.begin_start(rt, pass, moment, request) {
-            StartEnd::Answered(reply) => Ok(reply),
-            StartEnd::Waiting(plan) => Ok(wait(rt, book, pass, clock, waiter, plan)),
-            StartEnd::Unmade(fault) => Err(unanswered(fault)),
-        }
+        start(rt, book, pass, clock, waiter, request, told)
     } else {
-        match book.call(rt, pass, moment, request) {
-            CallEnd::Answered(reply) => Ok(reply),
-            CallEnd::Unmade(fault) => Err(unanswered(fault)),
+        book.opens();
+        let moment = clock.now();
+        match book.call_into(rt, pass, moment, request, told) {
+            Ok(()) => Ok(()),
+            Err(fault) => Err(unanswered(fault)),
         }
     }
 }
@@ -191,7 +240,7 @@ impl<'a, R: Wait, K: Keeper, C: Clock, W: Waiter<K>> RequestHandler for BookDesk
 
     ghost full = { λ d asked. HasNoRoomFor d.book.now.opening d.pass asked };
 
-    fn call(&mut self, request: Request) -> Result<Reply, HandlerError> {
+    fn call(&mut self, request: Request, told: &mut Answer) -> Result<(), HandlerError> {
         ask(
             self.rt,
             self.book,
@@ -199,6 +248,7 @@ impl<'a, R: Wait, K: Keeper, C: Clock, W: Waiter<K>> RequestHandler for BookDesk
             self.clock,
             self.waiter,
             request,
+            told,
         )
     }
 

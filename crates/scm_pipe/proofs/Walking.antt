@@ -18,7 +18,7 @@ use Rattle.start_plan.specs.Decided.{code_of}
 use Rattle.scm_rules.specs.Histories.{answer, state}
 use Rattle.scm_rules.specs.Runs.{run_state}
 use Rattle.scm_rules.specs.Steps.{step_of}
-use Rattle.scm_runs.proofs.Histories.{same_answer, state_behind, state_is, state_more, told}
+use Rattle.scm_runs.proofs.Histories.{same_answer, state_appended, state_is, state_more, told}
 use Rattle.book_rule.specs.declared.view.Opening.{Opening}
 use Rattle.scm_book.specs.Called.{RaisedSo}
 use Rattle.scm_book.specs.Passes.{Known, Learnt, Made, room_behind}
@@ -289,7 +289,7 @@ module _ (tells : ℕ → Type 0) (o : Opening) where
   -- the state behind what was seen more
   behind : (k k' : Known) (g : Flat) (entries : List Entry) → at k ≡ g → k'.seen ≡ k.seen ++ entries → at k' ≡ run_state l g entries
   behind k k' g entries is seen =
-      ap (λ (es : List Entry). state l o.first es) seen ∙ state_behind l o.first k.seen entries ∙ ap (λ (f : Flat). state l f entries) is
+      ap (λ (es : List Entry). state l o.first es) seen ∙ state_appended l o.first k.seen entries ∙ ap (λ (f : Flat). state l f entries) is
       ∙ state_is l g entries
 
   pub runs : (c : ℕ) (k k' : Known) (g : Flat) (requests : List DecodedRequest) (heard : List (Option Reply)) → k.alone ≡ true → at k ≡ g

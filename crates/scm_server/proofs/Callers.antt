@@ -20,7 +20,8 @@ use Rattle.scm_history.proofs.Anew.{makes_anew}
 use Rattle.book_rule.specs.declared.view.Opening.{Opening}
 use Rattle.conn_worker.specs.Owning.{StandAt, StandsAt}
 use Rattle.scm_server.specs.Handling.{Handed, StandsForIt}
-use Rattle.scm_server.proofs.Entries.{caller_at, made_behind}
+use Rattle.scm_book.proofs.Names.{caller_at}
+use Rattle.scm_server.proofs.Entries.{made_behind}
 use Rattle.scm_server.proofs.Lists.{Within, split_at}
 
 -- ## Lists

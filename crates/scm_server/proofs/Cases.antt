@@ -46,7 +46,8 @@ use Rattle.scm_server.specs.Pairs.{Ascends}
 use Rattle.scm_server.specs.Works.{HasJoined, IsDone, Out}
 use Rattle.scm_server.proofs.Chains.{Goes, goes_on, of_chain, of_left, rises}
 use Rattle.scm_server.proofs.Named.{are_named}
-use Rattle.scm_server.proofs.Entries.{but_last, caller_at, has_named, made_behind, named_only, not_made_before, stand_behind, stands_behind}
+use Rattle.scm_book.proofs.Names.{caller_at}
+use Rattle.scm_server.proofs.Entries.{but_last, has_named, made_behind, named_only, not_made_before, stand_behind, stands_behind}
 
 -- ## Histories that go on
 

@@ -1,5 +1,5 @@
 -- Entries of a history that goes on, and those that name a caller.
-use Rattle.std.proofs.Common.{◌≡◌, ◌∙◌, ◌||◌, ℕ, Bool, true, false, IsTrue, List, [], ◌∷◌, ◌++◌, Option, None, Some, refl, sym, ap, subst}
+use Rattle.std.proofs.Common.{◌≡◌, ◌∙◌, ℕ, Bool, true, false, IsTrue, List, [], ◌∷◌, ◌++◌, Option, None, Some, refl, sym, ap, subst}
 use Rattle.std.proofs.Common.{inl, ⊎_elim, eq-eqb, eqb-true}
 use Rattle.std.specs.Prelude.{IfSome}
 use mathlib.Core.List.{IsPrefix}
@@ -12,10 +12,9 @@ use Rattle.scm_model.specs.declared.steps.Step.TheVariants.{Gone}
 use Rattle.scm_model.specs.Entries.{Entry}
 use Rattle.scm_model.specs.Rows.{is_caller}
 use Rattle.scm_rules.specs.Histories.{Legal, state}
-use Rattle.scm_rules.specs.Named.{caller_named, has_made, is_it, makes_caller, names_caller}
+use Rattle.scm_rules.specs.Named.{caller_named, has_made, is_it, names_caller}
 use Rattle.scm_rules.specs.Opening.{IsOpening}
 use Rattle.scm_rules.specs.Runs.{IsLegal, run_state}
-use Rattle.scm_rules.specs.Steps.{step_of}
 use Rattle.scm_runs.proofs.Histories.{legal_made, made_front, may_behind, state_is}
 use Rattle.scm_runs.proofs.Sound.{begun}
 use Rattle.scm_history.specs.Owned.{Made as Told, made_of}
@@ -24,6 +23,7 @@ use Rattle.scm_history.proofs.Names.{caller_there}
 use Rattle.book_rule.specs.declared.view.Opening.{Opening}
 use Rattle.book_rule.specs.Ways.{Has}
 use Rattle.scm_book.specs.Naming.{caller_names}
+use Rattle.scm_book.proofs.Names.{caller_more}
 use Rattle.conn_worker.specs.Owning.{StandAt, StandsAt}
 use Rattle.conn_worker.proofs.Owning.{stay_at, stays_at}
 use Rattle.scm_server.specs.Handling.{NamedOnlyAt}
@@ -65,33 +65,6 @@ at_some : {A : Type 0} (P : A → Type 0) (o : Option A) (x : A) → o ≡ Some 
 at_some P o x is all = subst (λ (o : Option _). IfSome o P) is all
 
 -- ## Who was made
-
-or_left : (a b : Bool) → a ≡ true → (a || b) ≡ true
-or_left a b is = ap (λ (x : Bool). x || b) is
-
-or_right : (a b : Bool) → b ≡ true → (a || b) ≡ true
-or_right true b is = refl
-or_right false b is = is
-
-or_more : (a b c : Bool) → (b ≡ true → c ≡ true) → (a || b) ≡ true → (a || c) ≡ true
-or_more true b c later is = refl
-or_more false b c later is = later is
-
-pub caller_at : (l : Limits) (f : Flat) (number : ℕ) (front : List Entry) (e : Entry) (rest : List Entry)
-    → makes_caller (state l f front) number e.1 ≡ true → has_made l f number (front ++ e ∷ rest) ≡ true
-unfolding state
-caller_at l f number [] e rest is = or_left (makes_caller f number e.1) (has_made l (step_of l f e.0 e.1).flat number rest) is
-caller_at l f number (x ∷ front) e rest is =
-    or_right (makes_caller f number x.1) (has_made l (step_of l f x.0 x.1).flat number (front ++ e ∷ rest))
-    (caller_at l (step_of l f x.0 x.1).flat number front e rest is)
-
-caller_more : (l : Limits) (f : Flat) (number : ℕ) (front rest : List Entry) → has_made l f number front ≡ true
-    → has_made l f number (front ++ rest) ≡ true
-caller_more l f number [] rest is = absurd cc
-caller_more l f number (x ∷ front) rest is =
-    let later = (step_of l f x.0 x.1).flat in
-    or_more (makes_caller f number x.1) (has_made l later number front) (has_made l later number (front ++ rest))
-    (caller_more l later number front rest) is
 
 pub made_behind : (l : Limits) (f : Flat) (number : ℕ) (front longer : List Entry) → IsPrefix front longer
     → has_made l f number front ≡ true → has_made l f number longer ≡ true

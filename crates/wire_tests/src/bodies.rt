@@ -206,7 +206,7 @@ fn faults_tell_their_places(rt: HostRuntime) -> Result<(), Fail> {
         (
             Item::NoName,
             "00000000",
-            "bytes stand at 20 behind the last item",
+            "bytes stand at 20 after the last item",
         ),
     ];
     for (item, digits, want) in rows {

@@ -11,7 +11,7 @@ use scm_model::codes::{
     R_START_SERVICE_W, R_UNLOCK_SERVICE_DATABASE,
 };
 use scm_model::{
-    Action, ChangeService, Info, NewService, ProcessStatus, Reply, Request, Shown, Status,
+    Action, Apart, ChangeService, Info, NewService, ProcessStatus, Reply, Request, Shown, Status,
     TriggerIn,
 };
 use scm_text::{Items, OutOfMemory, WText};
@@ -24,7 +24,7 @@ fn word(words: Words, place: usize) -> &'static str {
 }
 
 /// The words after the first.
-fn behind(words: Words) -> Words {
+fn tail(words: Words) -> Words {
     words.get(1..).unwrap_or(&[])
 }
 
@@ -97,9 +97,9 @@ fn status(words: Words) -> Status {
     }
 }
 
-fn change(alloc: Global, words: Words) -> ChangeService {
-    ChangeService {
-        handle: u64::from(number(words, 0)),
+fn change(alloc: Global, words: Words, handle: u64) -> Request {
+    let change = ChangeService {
+        handle,
         kind: number(words, 1),
         start: number(words, 2),
         error: number(words, 3),
@@ -109,12 +109,16 @@ fn change(alloc: Global, words: Words) -> ChangeService {
         needs: needs(alloc, words, 7),
         account: some_text(alloc, words, 8),
         display: some_text(alloc, words, 9),
+    };
+    match Apart::new(alloc, change) {
+        Ok(change) => Request::Change(change),
+        Err(_) => Request::Close { handle },
     }
 }
 
-fn new_service(alloc: Global, words: Words) -> NewService {
-    NewService {
-        handle: u64::from(number(words, 0)),
+fn creation(alloc: Global, words: Words, handle: u64) -> Request {
+    let new = NewService {
+        handle,
         name: text(alloc, words, 1),
         display: some_text(alloc, words, 2),
         access: number(words, 3),
@@ -126,6 +130,10 @@ fn new_service(alloc: Global, words: Words) -> NewService {
         tag: some_number(words, 9),
         needs: needs(alloc, words, 10),
         account: some_text(alloc, words, 11),
+    };
+    match Apart::new(alloc, new) {
+        Ok(new) => Request::Create(new),
+        Err(_) => Request::Close { handle },
     }
 }
 
@@ -172,14 +180,14 @@ fn triggers(alloc: Global, words: Words) -> Items<TriggerIn> {
 
 /// What is asked at the level that the first word tells. A `-` and the level are for nothing.
 fn info(alloc: Global, words: Words) -> Info {
-    let rest = behind(words);
+    let rest = tail(words);
     match word(words, 0) {
         "-" => Info::Nothing(number(rest, 0)),
         "1" => Info::Description(some_text(alloc, rest, 0)),
         "2" => Info::Failure {
             reset: number(rest, 0),
             command: some_text(alloc, rest, 1),
-            actions: actions(alloc, behind(behind(rest))),
+            actions: actions(alloc, tail(tail(rest))),
         },
         "3" => Info::Delayed(number(rest, 0) == 1),
         "4" => Info::OnExit(number(rest, 0) == 1),
@@ -202,7 +210,7 @@ pub fn request(alloc: Global, opnum: u16, words: Words) -> Request {
         R_QUERY_SERVICE_STATUS => Request::QueryStatus { handle },
         R_SET_SERVICE_STATUS => Request::SetStatus {
             handle,
-            status: status(behind(words)),
+            status: status(tail(words)),
         },
         R_UNLOCK_SERVICE_DATABASE => Request::Unlock { handle },
         R_QUERY_SERVICE_CONFIG_W => Request::QueryConfig {
@@ -278,19 +286,19 @@ fn request_for_security(alloc: Global, opnum: u16, words: Words, handle: u64) ->
         _ => Request::SetSecurity {
             handle,
             parts,
-            bytes: each_byte(alloc, behind(behind(words))),
+            bytes: each_byte(alloc, tail(tail(words))),
         },
     }
 }
 
 fn request_with_texts(alloc: Global, opnum: u16, words: Words, handle: u64) -> Request {
     match opnum {
-        R_CHANGE_SERVICE_CONFIG_W => Request::Change(change(alloc, words)),
+        R_CHANGE_SERVICE_CONFIG_W => change(alloc, words, handle),
         R_CHANGE_SERVICE_CONFIG2_W => Request::Change2 {
             handle,
-            info: info(alloc, behind(words)),
+            info: info(alloc, tail(words)),
         },
-        R_CREATE_SERVICE_W => Request::Create(new_service(alloc, words)),
+        R_CREATE_SERVICE_W => creation(alloc, words, handle),
         R_OPEN_SC_MANAGER_W => Request::OpenManager {
             database: some_text(alloc, words, 0),
             access: number(words, 1),
@@ -302,7 +310,7 @@ fn request_with_texts(alloc: Global, opnum: u16, words: Words, handle: u64) -> R
         },
         R_START_SERVICE_W => Request::Start {
             handle,
-            words: Some(texts(alloc, behind(words))),
+            words: Some(texts(alloc, tail(words))),
         },
         R_GET_SERVICE_DISPLAY_NAME_W => Request::DisplayName {
             handle,
@@ -317,11 +325,11 @@ fn request_with_texts(alloc: Global, opnum: u16, words: Words, handle: u64) -> R
     }
 }
 
-fn some_shown(alloc: Global, words: Words) -> Option<Shown> {
+fn some_shown(alloc: Global, words: Words) -> Option<Apart<Shown>> {
     if word(words, 0) == "-" {
         return None;
     }
-    Some(Shown {
+    let shown = Shown {
         kind: number(words, 0),
         start: number(words, 1),
         error: number(words, 2),
@@ -331,7 +339,8 @@ fn some_shown(alloc: Global, words: Words) -> Option<Shown> {
         needs: text(alloc, words, 6),
         account: text(alloc, words, 7),
         display: text(alloc, words, 8),
-    })
+    };
+    Apart::new(alloc, shown).ok()
 }
 
 /// The letters of a word as bytes.
@@ -376,7 +385,7 @@ fn reply_with_bytes(alloc: Global, opnum: u16, words: Words) -> Reply {
 fn security(alloc: Global, words: Words) -> Reply {
     Reply::Bytes {
         size: number(words, 0),
-        bytes: each_byte(alloc, behind(behind(behind(words)))),
+        bytes: each_byte(alloc, tail(tail(tail(words)))),
         needed: number(words, 1),
         code: number(words, 2),
     }
@@ -384,7 +393,7 @@ fn security(alloc: Global, words: Words) -> Reply {
 
 fn notice(alloc: Global, words: Words) -> Reply {
     let status = ProcessStatus {
-        status: status(behind(words)),
+        status: status(tail(words)),
         pid: number(words, 8),
         flags: number(words, 9),
     };
@@ -418,7 +427,7 @@ pub fn reply(alloc: Global, opnum: u16, words: Words) -> Reply {
                 code: number(words, 1),
             },
         R_QUERY_SERVICE_CONFIG_W => Reply::Shown {
-            config: some_shown(alloc, behind(behind(words))),
+            config: some_shown(alloc, tail(tail(words))),
             needed: number(words, 0),
             code: number(words, 1),
         },

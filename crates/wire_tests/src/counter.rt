@@ -1,6 +1,7 @@
 use conn_desk::{HandlerError, RequestHandler};
-use scm_model::{Reply, Request, refused};
+use scm_model::{Answer, Request, refused};
 use std::alloc::Global;
+use std::mem::replace;
 
 /// Refuses each request by a code that says how many came before it. It has room for so many.
 #[derive(Drop)]
@@ -22,13 +23,14 @@ impl RequestHandler for Counter {
 
     ghost full = { λ d request. d.room ≤ d.asked };
 
-    fn call(&mut self, request: Request) -> Result<Reply, HandlerError> {
+    fn call(&mut self, request: Request, told: &mut Answer) -> Result<(), HandlerError> {
         if self.room <= self.asked {
             return Err(HandlerError::Full);
         }
         let reply = refused(self.alloc, &request, self.asked);
+        drop(replace(told, Answer::Reply(reply)));
         self.asked += 1;
-        Ok(reply)
+        Ok(())
     }
 
     fn raise(&mut self, _subtype: [u8; 16]) -> Result<u32, HandlerError> {

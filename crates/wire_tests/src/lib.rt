@@ -1,7 +1,7 @@
-//! Tests of texts, bodies, PDUs, sessions and connections, and a desk that counts: what no clause
-//! says, in rows that show answers beside what they answer. The bodies of the calls stand in hex
-//! beside what they ask or tell, and were written by hand after the formats, and not by the crates
-//! below.
+//! Tests of texts, bodies, lines, PDUs, sessions and connections, and a desk that counts: what no
+//! clause says, in rows that show answers beside what they answer. The bodies of the calls stand in
+//! hex beside what they ask or tell, and were written by hand after the formats, and not by the
+//! crates below.
 #![tactic(auto)]
 
 #[cfg(test)]
@@ -17,6 +17,8 @@ mod calls;
 #[cfg(test)]
 mod connections;
 mod counter;
+#[cfg(test)]
+mod lines;
 #[cfg(test)]
 mod pdus;
 #[cfg(test)]

@@ -22,11 +22,11 @@ returns-in-Ok-replied-clause-answered g c =
     let told = c.in-Ok-replied.ensures.ok in
     let read = ap (λ body. request_at c.in-Some.call body) (sym c.as_slice.ensures) ∙ c.in-Ok.ensures.exact in
     rw c.stopped-in-Ok-replied.ensures
-    (answered_by d.called d.rests d.full c.args.desk.now c.replied.new.desk _ _ _ (response r told.reply) c.reply.result
+    (answered_by d.called d.rests d.full c.args.desk.now c.replied.new.desk _ _ _ (response r told.reply) c.reply-sent.result
     (talks_call d.called c.args.desk.now c.replied.new.desk r (Call c.in-Ok.request) told.reply
     (asks_call r c.in-Some.call c.in-Ok.request c.requires.svcctl (sym c.in-Some.ensures) read) told.answered)
-    (written_at c.args.session.now.state.terms r.transmit _ _ c.reply.result r.call r.context c.as_slice-in-Ok-replied.result.now
-    (body_of told.reply) (c.as_slice-in-Ok-replied.ensures ∙ told.written) c.requires.bound c.reply.ensures.written))
+    (written_at c.args.session.now.state.terms r.transmit _ _ c.reply-sent.result r.call r.context c.as_slice-in-Ok-replied.result.now
+    (body_of told.reply) (c.as_slice-in-Ok-replied.ensures ∙ told.written) c.requires.bound c.reply-sent.ensures.written))
 
 pub returns-in-Err-replied-clause-answered : goal.returns-in-Err-replied-clause-answered
 returns-in-Err-replied-clause-answered g c =

@@ -11,10 +11,10 @@ returns-in-Ok-raised-clause-answered g c =
     let r = c.args.item.now in
     let told = c.in-Ok-raised.ensures.ok in
     rw c.stopped.ensures
-    (answered_by d.called d.rests d.full c.args.desk.now c.raised.new.desk _ _ _ (response r told.reply) c.reply.result
+    (answered_by d.called d.rests d.full c.args.desk.now c.raised.new.desk _ _ _ (response r told.reply) c.reply-sent.result
     (talks_call d.called c.args.desk.now c.raised.new.desk r (Raise c.in-Ok.subtype) told.reply c.in-Ok.ensures.ok told.answered)
-    (written_at c.args.session.now.state.terms r.transmit _ _ c.reply.result r.call r.context c.as_slice.result.now (body_of told.reply)
-    (c.as_slice.ensures ∙ told.written) c.requires.bound c.reply.ensures.written))
+    (written_at c.args.session.now.state.terms r.transmit _ _ c.reply-sent.result r.call r.context c.as_slice.result.now
+    (body_of told.reply) (c.as_slice.ensures ∙ told.written) c.requires.bound c.reply-sent.ensures.written))
 
 pub returns-in-Err-clause-answered : goal.returns-in-Err-clause-answered
 returns-in-Err-clause-answered g c =

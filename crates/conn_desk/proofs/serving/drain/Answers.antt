@@ -36,17 +36,10 @@ item_answered g c =
     c.in-Ok-Some.ensures.gave)
     c.in-Ok.ensures.answered
 
-pub loop-item-preserved-in-Ok : goal.loop-item-preserved-in-Ok
-loop-item-preserved-in-Ok g c = record {
-  ready = c.in-Ok.ensures.ready;
-  on = item_answered g (goal.at.loop-item-preserved-in-Ok g c).In-Ok;
-  faults = c.in-Ok.ensures.cause.caused ∙ c.loop-item.invariant.faults;
-}
-
 pub loop-item-preserved : goal.loop-item-preserved
 loop-item-preserved g c = record {
   ready = c.in-Ok.ensures.ready;
-  on = item_answered g (goal.at.loop-item-preserved g c).In-Ok;
+  on = rw c.recycle.ensures (item_answered g (goal.at.loop-item-preserved g c).In-Ok);
   faults = c.in-Ok.ensures.cause.caused ∙ c.loop-item.invariant.faults;
 }
 

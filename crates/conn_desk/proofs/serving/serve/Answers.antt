@@ -7,7 +7,7 @@ use Rattle.conn_desk.proofs.serving.serve.Goals as goal
 pub returns-clause-served : goal.returns-clause-served
 returns-clause-served g c =
     let d = g.D.RequestHandler in
-    let reader : ConnectionReader = record { alloc = c.args.alloc; session = c.new.result } in
+    let reader : ConnectionReader = record { alloc = c.args.alloc; session = c.new.result; replies = c.new-2.result } in
     let a = fed_at reader c.args.desk.now c.args.output.now in
     let e = fed_at c.feed_all-fed.new.eater c.feed_all-fed.new.place c.feed_all-fed.new.output in
     rw (c.served_as.ensures, c.at_rest.ensures)
@@ -19,7 +19,7 @@ returns-clause-served g c =
 pub returns-clause-output : goal.returns-clause-output
 returns-clause-output g c =
     let d = g.D.RequestHandler in
-    let reader : ConnectionReader = record { alloc = c.args.alloc; session = c.new.result } in
+    let reader : ConnectionReader = record { alloc = c.args.alloc; session = c.new.result; replies = c.new-2.result } in
     let a = fed_at reader c.args.desk.now c.args.output.now in
     let e = fed_at c.feed_all-fed.new.eater c.feed_all-fed.new.place c.feed_all-fed.new.output in
     grows_fed d.called d.rests d.full g.O.Sink.held g.O.Sink.faults a e (g.I.Source.left c.args.input.now)
@@ -29,7 +29,7 @@ returns-clause-output g c =
 pub returns-clause-cause : goal.returns-clause-cause
 returns-clause-cause g c =
     let d = g.D.RequestHandler in
-    let reader : ConnectionReader = record { alloc = c.args.alloc; session = c.new.result } in
+    let reader : ConnectionReader = record { alloc = c.args.alloc; session = c.new.result; replies = c.new-2.result } in
     let a = fed_at reader c.args.desk.now c.args.output.now in
     let e = fed_at c.feed_all-fed.new.eater c.feed_all-fed.new.place c.feed_all-fed.new.output in
     rw c.served_as.ensures
