@@ -20,7 +20,7 @@ use Rattle.scm_model.specs.Ready.{is_ready, is_fulfilled, is_up, state_in, state
 use Rattle.scm_model.specs.Refused.{first_refusal}
 use Rattle.scm_model.specs.Rows.{service_of}
 use Rattle.start_plan.specs.declared.settling.Move.TheVariants as moves
-use Rattle.start_plan.specs.Entered.{entered_at, is_shared_by, notified_of_start, started_if, starting_in, wanted_process, wanted_row}
+use Rattle.start_plan.specs.Entered.{entered_at, is_shared_by, notified_of_start, started_if, starting, starting_in, wanted_process, wanted_row}
 use Rattle.start_plan.specs.Entered.{with_entered}
 use Rattle.start_plan.specs.Hosts.{host, host_at, is_launched_at}
 use Rattle.start_plan.specs.Moves.{cause_at, cause_of, entering_at, is_full, is_pending, move_by, move_of}
@@ -200,18 +200,7 @@ module _ (l : Limits) (n : ℕ) (look : ℕ → Live) (processes : List Process)
             let kind : (look k).status.kind ≡ 0x10 = subst (λ m. (look m).status.kind ≡ 0x10) (sym same) still.kind in
             ap (λ b. cond (b && (look k).status.state == 1) (starting_in process row) row) e
             ∙ ap (λ v. cond (v == 1) (starting_in process row) row) state
-            ∙ ap (λ v. row_at k (record {
-              status = record {
-                kind = v;
-                state = 2;
-                accepted = 0;
-                win32 = 0;
-                specific = 0;
-                checkpoint = 0;
-                hint = 0;
-              };
-              process = process;
-            })) kind
+            ∙ ap (λ v. row_at k (record { status = starting (record (look k).status { kind = v }); process = process })) kind
         | false ↦ λ e. ap (λ b. cond (b && (look k).status.state == 1) (starting_in process (row_at k (look k))) (row_at k (look k))) e
       ] refl
 

@@ -8,7 +8,7 @@ use scm_model::codes::{
     MAXIMUM_ALLOWED, SERVICE_ALL_ACCESS, SERVICE_DEMAND_START, SERVICE_ERROR_NORMAL,
     SERVICE_WIN32_OWN_PROCESS,
 };
-use scm_model::{Kept, NewService, Principal, Request, Step};
+use scm_model::{Apart, Kept, NewService, Principal, Request, Step};
 use scm_text::OutOfMemory;
 use std::alloc::Global;
 
@@ -37,13 +37,13 @@ pub fn begin(run: &mut Run) -> Result<(), OutOfMemory>
 }
 
 /// What is asked of the service with this number.
-fn new_service(alloc: Global, number: u32) -> Result<NewService, OutOfMemory>
+fn new_service(alloc: Global, number: u32) -> Result<Apart<NewService>, OutOfMemory>
     ensures { IfOk result (λ new. new ≡ nth_service number) }
 {
     let name = name_of(alloc, number)?;
     let path = text_of(alloc, "/bin/true")?;
     let needs = needing(alloc, number / 2)?;
-    Ok(NewService {
+    let new = NewService {
         handle: MANAGER,
         name,
         display: None,
@@ -56,7 +56,8 @@ fn new_service(alloc: Global, number: u32) -> Result<NewService, OutOfMemory>
         tag: None,
         needs,
         account: None,
-    })
+    };
+    Apart::new(alloc, new)
 }
 
 /// Creates the service with this number.

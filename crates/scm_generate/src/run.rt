@@ -8,7 +8,7 @@ ghost use Rattle.scm_generate.specs.Summary.{launch_in};
 
 use super::summary::summary_lines;
 use scm_core::Manager;
-use scm_model::{Limits, Step};
+use scm_model::{Answer, Limits, Step};
 use scm_text::{Items, OutOfMemory};
 use std::alloc::Global;
 use std::marker::Model;
@@ -59,7 +59,9 @@ fn act(manager: &mut Manager, step: &mut Step)
     ensures steps { manager.new.steps ≡ manager.old.steps + 1 }
     ensures text { manager.new.text ≡ manager.old.text + text_of step.old }
 {
-    let _answer = manager.step_at(MOMENT, step);
+    let mut answer = Answer::Done;
+    manager.step_at(MOMENT, step, &mut answer);
+    drop(answer);
 }
 
 impl Run {

@@ -25,7 +25,7 @@ told_rightly true false = refl
 told_rightly true true = refl
 
 -- a step that may come may be made once it tells what became of its change
-may_made : (l : Limits) (f : Flat) (moment : ℕ) (step : Step) (fails : Bool) → may_come l f moment step ≡ true
+pub may_made : (l : Limits) (f : Flat) (moment : ℕ) (step : Step) (fails : Bool) → may_come l f moment step ≡ true
     → may l f moment (with_kept step (kept_as (is_some (change_of l f step)) fails)) ≡ true
 may_made l f moment (Call caller asked append) fails h = both (is_caller f caller && in_range asked) _ h
     (told_rightly (is_some (change_of_call l f caller asked)) fails)

@@ -5,11 +5,11 @@ use Rattle.scm_model.specs.declared.flat.Limits.{Limits}
 use Rattle.scm_model.specs.declared.steps.Answer.{Answer}
 use Rattle.scm_model.specs.declared.steps.Answer.TheVariants as answers
 use Rattle.scm_rules.specs.Steps.{may_come, step_of}
-use Rattle.scm_replay.specs.declared.line.Line.{Line}
+use Rattle.scm_lines.specs.declared.line.Line.{Line}
 use Rattle.scm_replay.specs.declared.missed.Missed.{Missed}
 use Rattle.scm_replay.specs.declared.outcome.Outcome.{Outcome}
 use Rattle.scm_replay.specs.declared.outcome.Outcome.TheVariants.{Full}
-use Rattle.scm_replay.specs.Lines.{line_at}
+use Rattle.scm_lines.specs.Lines.{line_at}
 use Rattle.scm_replay.specs.Outcomes.{Standing, step_made, finds_room, goes_on, is_shared_by, outcome_by, outcome_made, outcome_at}
 use Rattle.scm_replay.specs.Outcomes.{outcome_of, step_in, unless_missed, unmet}
 

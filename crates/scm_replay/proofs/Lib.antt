@@ -3,5 +3,5 @@ mod Stretches
 mod Bad
 pub mod Ends
 mod Whole
-mod Admitted
+pub mod Admitted
 mod Standings

@@ -11,7 +11,7 @@ use Rattle.scm_model.specs.declared.steps.Step.{Step}
 use Rattle.scm_rules.specs.Steps.{may_come, step_of}
 use Rattle.scm_rules.specs.Verdicts.{change_of}
 use Rattle.scm_replay.specs.Outcomes.{Standing, finds_room, kept_as, outcome_made, step_in, step_made, unmet}
-use Rattle.scm_replay.specs.declared.line.Line.{Line}
+use Rattle.scm_lines.specs.declared.line.Line.{Line}
 use Rattle.scm_replay.specs.declared.outcome.Outcome.TheVariants.{Full}
 
 chosen : {A : Type 0} (x y z : A) (a b : Bool) → a ≡ true → b ≡ true → (if not a then x else if not b then y else z) ≡ z

@@ -21,12 +21,12 @@ use Rattle.scm_rules.specs.Due.{is_due}
 use Rattle.scm_rules.specs.Steps.{wants_launch, may_come, step_of}
 use Rattle.scm_rules.specs.Verdicts.{change_of}
 use Rattle.scm_core.specs.Managed.{Managed}
-use Rattle.scm_replay.specs.declared.line.Line.{Line}
+use Rattle.scm_lines.specs.declared.line.Line.{Line}
 use Rattle.scm_replay.specs.declared.missed.Missed.{Missed}
 use Rattle.scm_replay.specs.declared.missed.Missed.TheVariants.{Again, Empty, Over, Idle}
 use Rattle.scm_replay.specs.declared.outcome.Outcome.{Outcome}
 use Rattle.scm_replay.specs.declared.outcome.Outcome.TheVariants.{Answered, Handed, InVain, TooMany, Full, Bad}
-use Rattle.scm_replay.specs.Lines.{line_at}
+use Rattle.scm_lines.specs.Lines.{line_at}
 
 -- where a manager stands: its state, how many steps were made, and how much text they had
 pub record Standing : Type 0 where

@@ -5,11 +5,10 @@ ghost use Rattle.scm_replay.specs.Along.{IsFit, Keeps};
 ghost use Rattle.scm_replay.specs.Outcomes.{finds_room, is_shared_by, kept_as, outcome_at};
 ghost use Rattle.scm_replay.specs.Outcomes.{outcome_by, outcome_in, outcome_made, standing, unmet};
 
-use super::line::Line;
 use super::looking::missed_by;
 use super::outcome::Outcome;
-use super::reading::read_line;
 use scm_core::{Manager, is_owed};
+use scm_lines::{Line, read_line};
 use scm_model::{Answer, Kept, Step};
 use scm_shapes::Values;
 use scm_text::OutOfMemory;
@@ -120,7 +119,8 @@ fn made_in(manager: &mut Manager, line: &mut Line, outcome: &mut Outcome) -> Res
     let shared = is_shared_by(manager, &line.step);
     let kept = kept_as(manager.makes_change(&line.step), line.fails);
     keep_as(&mut line.step, kept);
-    let answer = manager.step_at(line.moment, &mut line.step);
+    let mut answer = Answer::Done;
+    manager.step_at(line.moment, &mut line.step, &mut answer);
     put(outcome, outcome_by_answer(shared, answer));
     Ok(())
 }

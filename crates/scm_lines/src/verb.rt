@@ -1,5 +1,5 @@
 ghost use Rattle.std.specs.Prelude.{◌≡◌};
-ghost use Rattle.scm_replay.specs.Verbs.{fails_by, verb_at};
+ghost use Rattle.scm_lines.specs.Verbs.{fails_by, verb_at};
 
 use super::words::is;
 

@@ -13,11 +13,11 @@ use Rattle.decimal_words.specs.Numbers.{decimal_number, number_below}
 use Rattle.scm_bodies.specs.Calls.{call_at as served_at}
 use Rattle.scm_bodies.specs.Requests.{request_at}
 use Rattle.scm_calls.specs.Raises.{raise_at}
-use Rattle.scm_replay.specs.declared.line.Line.{Line}
-use Rattle.scm_replay.specs.declared.verb.Verb.{Verb}
-use Rattle.scm_replay.specs.declared.verb.Verb.TheVariants as verb
-use Rattle.scm_replay.specs.Verbs.{fails_by, verb_at}
-use Rattle.scm_replay.specs.Words.{◌>>=◌, line_words, hex_at}
+use Rattle.scm_lines.specs.declared.line.Line.{Line}
+use Rattle.scm_lines.specs.declared.verb.Verb.{Verb}
+use Rattle.scm_lines.specs.declared.verb.Verb.TheVariants as verb
+use Rattle.scm_lines.specs.Verbs.{fails_by, verb_at}
+use Rattle.scm_lines.specs.Words.{◌>>=◌, line_words, hex_at}
 
 -- ## What is read into its place
 

@@ -1,7 +1,7 @@
 -- The words that say what a line's step is.
 use Rattle.std.specs.Prelude.{ℕ, Bool, true, false, List, Option, None, Some, bytes_eq, codes, if◌then◌else◌}
-use Rattle.scm_replay.specs.declared.verb.Verb.{Verb}
-use Rattle.scm_replay.specs.declared.verb.Verb.TheVariants as verb
+use Rattle.scm_lines.specs.declared.verb.Verb.{Verb}
+use Rattle.scm_lines.specs.declared.verb.Verb.TheVariants as verb
 
 unfoldable pub verb_at : List ℕ → Option Verb
 verb_at word =

@@ -1,6 +1,6 @@
 ghost use Rattle.std.specs.Prelude.{◌≡◌, ◌==◌, IfOk, bytes_eq, map};
 ghost use Rattle.std.specs.List.{list_any};
-ghost use Rattle.scm_replay.specs.Words.{hex_at, is_upper, line_words};
+ghost use Rattle.scm_lines.specs.Words.{hex_at, is_upper, line_words};
 
 use hex::FromHexError;
 use scm_text::{Items, OutOfMemory};

@@ -2,7 +2,7 @@ use Rattle.std.proofs.Common.{◌==◌, ◌≡◌, ◌++◌, ◌∙◌, List, Op
 use Rattle.std.specs.Iterator.{Drains, DrainsIf}
 use Rattle.std.proofs.lemmas.Iterator.{YieldsList, items_from_drains}
 use Rattle.std.proofs.lemmas.Iterator.Splits.{YieldsList-from_slice_split}
-use Rattle.scm_replay.proofs.words.split.Goals as goal
+use Rattle.scm_lines.proofs.words.split.Goals as goal
 
 -- what is appended of an iterator that gives these
 appended : {S A B : Type 0} {steps : S → Option A → S → Type 0} {v : A → B} {s : S} {all : List B} (i : S) (xs : List A) → i ≡ s

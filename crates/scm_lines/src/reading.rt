@@ -6,12 +6,12 @@ ghost use Rattle.scm_model.specs.declared.steps.Step.TheVariants.{NoMemory};
 ghost use Rattle.decimal_words.specs.Numbers.{decimal_number, number_below};
 ghost use Rattle.ndr_body.specs.declared.fault.BodyFault.{BodyFault};
 ghost use Rattle.ndr_body.specs.Reading.{Gives};
-ghost use Rattle.scm_replay.specs.Lines.{LeavesFound, call_in_words, end_at, joined_at};
-ghost use Rattle.scm_replay.specs.Lines.{launched_at};
-ghost use Rattle.scm_replay.specs.Lines.{line_at, line_in, line_in_words, naming_in_words};
-ghost use Rattle.scm_replay.specs.Lines.{plain_at, raise_in_words, report_at, report_in_words};
-ghost use Rattle.scm_replay.specs.Lines.{request_in};
-ghost use Rattle.scm_replay.specs.Lines.{status_at, status_in_words, step_at, unlaunched_at};
+ghost use Rattle.scm_lines.specs.Lines.{LeavesFound, call_in_words, end_at, joined_at};
+ghost use Rattle.scm_lines.specs.Lines.{launched_at};
+ghost use Rattle.scm_lines.specs.Lines.{line_at, line_in, line_in_words, naming_in_words};
+ghost use Rattle.scm_lines.specs.Lines.{plain_at, raise_in_words, report_at, report_in_words};
+ghost use Rattle.scm_lines.specs.Lines.{request_in};
+ghost use Rattle.scm_lines.specs.Lines.{status_at, status_in_words, step_at, unlaunched_at};
 
 use super::line::Line;
 use super::verb::{Verb, verb_at};

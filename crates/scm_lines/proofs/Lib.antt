@@ -1,0 +1,3 @@
+pub mod Spaced
+mod Asked
+pub mod Again

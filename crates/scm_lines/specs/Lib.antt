@@ -1,0 +1,5 @@
+pub mod Words
+pub mod Verbs
+pub mod Lines
+pub mod Answers
+pub mod Entries
