@@ -93,8 +93,8 @@ fn needs(alloc: Global) -> Result<Items<Need>, OutOfMemory> {
     }
 }
 
-/// A service that needs another and a group, is restarted at failures and has a trigger, but for its
-/// texts.
+/// A service that needs another and a group, is restarted at failures and has a trigger, but for
+/// its texts.
 fn needing(alloc: Global) -> Result<Config, OutOfMemory> {
     let (Ok(needs), Ok(actions)) = (needs(alloc), restart(alloc)) else {
         return Err(OutOfMemory);

@@ -5,7 +5,9 @@ ghost use Rattle.scm_core.specs.Managed.{WasMadeFor};
 
 use crate::limits::{LIMITS, new_manager};
 use scm_core::Manager;
-use scm_model::{Answer, Kept, NewService, Principal, Reply, Request, Status, Step, zero_status};
+use scm_model::{
+    Answer, Apart, Kept, NewService, Principal, Reply, Request, Status, Step, zero_status,
+};
 use scm_text::{Items, OutOfMemory, TextRoom, WText};
 use std::alloc::Global;
 use std::test::Fail;
@@ -89,7 +91,7 @@ fn creation(alloc: Global, name: u8, needed: &str) -> Result<Request, OutOfMemor
     ) else {
         return Err(OutOfMemory);
     };
-    Ok(Request::Create(NewService {
+    let new = NewService {
         handle: 1,
         name,
         display: None,
@@ -102,7 +104,8 @@ fn creation(alloc: Global, name: u8, needed: &str) -> Result<Request, OutOfMemor
         tag: None,
         needs: Some(needs),
         account: None,
-    }))
+    };
+    Ok(Request::Create(Apart::new(alloc, new)?))
 }
 
 fn opening(alloc: Global, handle: u64, name: u8) -> Result<Request, OutOfMemory> {

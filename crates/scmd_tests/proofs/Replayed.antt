@@ -1,43 +1,21 @@
 -- The state in which a replay leaves a manager is one of a run.
-use Rattle.std.proofs.Common.{inl, inr, ℕ, ◌≡◌, ◌&&◌, Bool, true, false, not, if◌then◌else◌, IsTrue, List, [], ◌∷◌, refl, subst, sym}
-use Rattle.std.specs.Prelude.{◌⊎◌, Option, None, Some, is_some}
-use Rattle.scm_model.specs.declared.flat.Flat.{Flat}
+use Rattle.std.proofs.Common.{inl, inr, ℕ, ◌≡◌, Bool, true, false, not, if◌then◌else◌, List, [], ◌∷◌, refl, subst, sym}
+use Rattle.std.specs.Prelude.{◌⊎◌, Option, None, Some}
 use Rattle.scm_model.specs.declared.flat.Limits.{Limits}
-use Rattle.scm_model.specs.declared.steps.Step.{Step}
-use Rattle.scm_model.specs.declared.steps.Step.TheVariants.{Call}
-use Rattle.scm_model.specs.Entries.{with_kept}
-use Rattle.scm_model.specs.Ranges.{in_range}
-use Rattle.scm_model.specs.Rows.{is_caller}
 use Rattle.scm_rules.specs.Opening.{IsOpening}
-use Rattle.scm_rules.specs.Steps.{may, may_come, step_of}
+use Rattle.scm_rules.specs.Steps.{may_come, step_of}
 use Rattle.scm_rules.specs.Valid.{IsValid}
-use Rattle.scm_rules.specs.Verdicts.{change_of, change_of_call, tells_right}
 use Rattle.scm_runs.proofs.Clear.{Clear, clear_begun, clear_keeps, is_valid_clear}
-use Rattle.scm_replay.specs.declared.line.Line.{Line}
+use Rattle.scm_lines.specs.declared.line.Line.{Line}
 use Rattle.scm_replay.specs.declared.missed.Missed.{Missed}
 use Rattle.scm_replay.specs.declared.outcome.Outcome.{Outcome}
 use Rattle.scm_replay.specs.declared.outcome.Outcome.TheVariants.{Full}
 use Rattle.scm_replay.specs.declared.replayed.Replayed.{Replayed}
 use Rattle.scm_replay.specs.declared.replayed.Replayed.TheVariants as ended
-use Rattle.scm_replay.specs.Outcomes.{Standing, finds_room, goes_on, kept_as, outcome_at, outcome_made, outcome_of, step_in, step_made}
+use Rattle.scm_replay.specs.Outcomes.{Standing, finds_room, goes_on, outcome_at, outcome_made, outcome_of, step_in, step_made}
 use Rattle.scm_replay.specs.Outcomes.{unless_missed, unmet}
+use Rattle.scm_replay.proofs.Admitted.{may_made}
 use Rattle.scm_replay.specs.Replay.{IsReplayed, ReachedLine, Told, replay_told, replayed_from, told_from}
-
-both : (a b : Bool) → a ≡ true → b ≡ true → (a && b) ≡ true
-both true b h e = e
-both false b h e = absurd cc
-
-told_rightly : (changes fails : Bool) → tells_right changes (kept_as changes fails) ≡ true
-told_rightly false fails = refl
-told_rightly true false = refl
-told_rightly true true = refl
-
--- a step that may come may be made once it tells what became of its change
-may_made : (l : Limits) (f : Flat) (moment : ℕ) (step : Step) (fails : Bool) → may_come l f moment step ≡ true
-    → may l f moment (with_kept step (kept_as (is_some (change_of l f step)) fails)) ≡ true
-may_made l f moment (Call caller asked append) fails h = both (is_caller f caller && in_range asked) _ h
-    (told_rightly (is_some (change_of_call l f caller asked)) fails)
-may_made l f moment step fails h = both _ true h refl
 
 -- one of three, of which the last needs both
 one_of : (l : Limits) (x y z : Outcome × Standing) (a b : Bool) → Clear l x.1.flat → Clear l y.1.flat → (a ≡ true → Clear l z.1.flat)

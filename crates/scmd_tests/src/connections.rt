@@ -26,7 +26,7 @@ fn front(length: usize) -> Option<Talk> {
     Some(row)
 }
 
-/// Whether the front of this length comes to its end.
+/// Whether the front of this length ends as its row says.
 fn front_comes_to<R: Wait>(rt: &R, alloc: Global, length: usize) -> bool {
     match front(length) {
         Some(row) => comes_to(rt, alloc, &row),

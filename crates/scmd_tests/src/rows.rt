@@ -107,7 +107,8 @@ pub const BODIES: [(&str, &str); 4] = [
 pub const GROUPS: Table = &[
     (
         "bind",
-        "| pdu 11 3 1 #16D016D0 0 1 x00000100 svcctl ndr | pdu 12 3 1 #16D016D0 1 x01000000 1 0 ndr",
+        "| pdu 11 3 1 #16D016D0 0 1 x00000100 svcctl ndr \
+         | pdu 12 3 1 #16D016D0 1 x01000000 1 0 ndr",
     ),
     (
         "triggers",
@@ -187,16 +188,16 @@ it runs, and accepts a stop | report 1 16 4 1 0 0 0 0 | done",
     ),
     (
         "hosted",
-        "A has type 0x20        | call 1 create h1 'A' - #F01FF 32 3 1 '/bin/sh' plain | reply - h2 0
-B has it, and A's path | call 1 create h1 'B' - #F01FF 32 3 1 '/bin/sh' plain | reply - h3 0
-A is started           | call 1 start h2 0 -; take; launched 1 101            | plan 1; launch 1; done
-                       | end 1 1                                              | reply 0
-its process gets       | control 1; control 1                                 | control 1 0; empty
-A runs                 | report 1 1 32 4 1 0 0 0 0                            | done
-B is started at once   | call 1 start h3 0 -                                  | reply 0
-no launch is wanted    | take                                                 | empty
-A's process gets       | control 1; control 1                                 | control 2 0; empty
-B runs                 | report 1 2 32 4 1 0 0 0 0                            | done",
+        "A has type 0x20      | call 1 create h1 'A' - #F01FF 32 3 1 '/bin/sh' plain | reply - h2 0
+B has it and its path | call 1 create h1 'B' - #F01FF 32 3 1 '/bin/sh' plain | reply - h3 0
+A is started          | call 1 start h2 0 -; take; launched 1 101 | plan 1; launch 1; done
+                      | end 1 1                                   | reply 0
+its process gets      | control 1; control 1                      | control 1 0; empty
+A runs                | report 1 1 32 4 1 0 0 0 0                 | done
+B is started at once  | call 1 start h3 0 -                       | reply 0
+no launch is wanted   | take                                      | empty
+A's process gets      | control 1; control 1                      | control 2 0; empty
+B runs                | report 1 2 32 4 1 0 0 0 0                 | done",
     ),
     (
         "group",
@@ -217,14 +218,14 @@ pub const PIPES: &str = "
 fourteen bytes | hex 05000b0310000000480000000100 |
 = 6 pipe: a byte more of it
 fifteen bytes | hex 05000b031000000048000000010000 |
-= 7 pipe: a byte behind the last context
+= 7 pipe: a byte after the last context
  | pdu 11 3 1 #16D016D0 0 1 x00000100 svcctl ndr x00 |
 = 7 pipe: a second bind
 bind
  | pdu 11 3 1 #16D016D0 0 1 x00000100 svcctl ndr |
 = 0 pipe: a bind with an authentication
 no bind by this | hex 05000b031000000018000800010000000000000000000000 | pdu 13 3 1 x0000010500
-= 0 pipe: a bind behind it
+= 0 pipe: a bind after it
  | hex 05000b031000000018000800010000000000000000000000 | pdu 13 3 1 x0000010500
 bind
 = 7 pipe: an alter_context without a bind
@@ -300,10 +301,13 @@ bind
 manager
         | create h1 'A' - own '/bin/a' plain | - h2 0
         | create h1 'B' - own '/bin/b' plain | - h3 0
-the first page  | services h1 #30 3 44 * 0 | 44 36 40 16 1 0 1077 0 0 0 x4100000041000000 44 1 * 1 234
+the first page  | services h1 #30 3 44 * 0 \
+    | 44 36 40 16 1 0 1077 0 0 0 x4100000041000000 44 1 * 1 234
 the second      | services h1 #30 3 44 * 1 | 44 36 40 16 1 0 1077 0 0 0 x4200000042000000 0 1 * 0 0
-room for both   | services h1 #30 3 88 - | 88 72 76 16 1 0 1077 0 0 0 80 84 16 1 0 1077 0 0 0 x41000000410000004200000042000000 0 2 - 0
-a byte less     | services h1 #30 3 87 - | 87 36 40 16 1 0 1077 0 0 0 x4100000041000000 x00^43 44 1 - 234
+room for both   | services h1 #30 3 88 - \
+    | 88 72 76 16 1 0 1077 0 0 0 80 84 16 1 0 1077 0 0 0 x41000000410000004200000042000000 0 2 - 0
+a byte less     | services h1 #30 3 87 - \
+    | 87 36 40 16 1 0 1077 0 0 0 x4100000041000000 x00^43 44 1 - 234
 no room         | services h1 #30 3 0 * 0 | 0 88 0 * 0 234
 of another type | services h1 #20 3 8 * 1 | 8 x00^8 0 0 * 0 0
 none is active  | services h1 #10 1 8 - | 8 x00^8 0 0 - 0
@@ -317,7 +321,8 @@ manager
         | create h1 'A' - own '/bin/a' plain | - h2 0
 B needs A | create h1 'B' - own '/bin/b' - - * [A] 6 - - 0 | - h3 0
 C needs B | create h1 'C' - own '/bin/c' - - * [B] 6 - - 0 | - h4 0
-both            | dependents h2 3 88 | 88 72 76 16 1 0 1077 0 0 0 80 84 16 1 0 1077 0 0 0 x43000000430000004200000042000000 0 2 0
+both            | dependents h2 3 88 \
+    | 88 72 76 16 1 0 1077 0 0 0 80 84 16 1 0 1077 0 0 0 x43000000430000004200000042000000 0 2 0
 a byte too few  | dependents h2 3 87 | 87 x00^87 88 0 234
 no room         | dependents h2 3 0  | 0 88 0 234
 none is active  | dependents h2 1 0  | 0 0 0 0
@@ -338,15 +343,23 @@ out of its range    | process h2 0 8193 | fault #6F7
 bind
 manager
                         | create h1 'A' - own '/bin/a' plain | - h2 0
-the default list        | secured h2 4 76     | 76 x0100048000000000000000000000000014000000020038000200000000001800ff810f0001020000000000052000000020020000000018008d00020001020000000000052000000021020000 0 0
+the default list        | secured h2 4 76 \
+    | 76 x01000480000000000000000000000000140000000200380002000000\
+    00001800ff810f0001020000000000052000000020020000\
+    000018008d00020001020000000000052000000021020000 0 0
 a byte too few          | secured h2 4 75     | 75 x00^75 76 122
 all parts               | secured h2 7 0      | 0 100 122
 none                    | secured h2 0 4      | 4 x00^4 0 87
 another                 | secured h2 8 4      | 4 x00^4 0 87
 of the manager          | secured h1 4 4      | 4 x00^4 0 6
 out of its range        | secured h2 4 262145 | fault #6F7
-another list            | secure h2 4 72 x0100048000000000000000000000000014000000020034000200000001001800040000000102000000000005200000002102000000001400ff010f00010100000000000100000000 72 | 0
-                        | secured h2 4 72     | 72 x0100048000000000000000000000000014000000020034000200000001001800040000000102000000000005200000002102000000001400ff010f00010100000000000100000000 0 0
+another list            | secure h2 4 72 x01000480000000000000000000000000140000000200340002000000\
+    010018000400000001020000000000052000000021020000\
+    00001400ff010f00010100000000000100000000 72 | 0
+                        | secured h2 4 72 \
+    | 72 x01000480000000000000000000000000140000000200340002000000\
+    010018000400000001020000000000052000000021020000\
+    00001400ff010f00010100000000000100000000 0 0
 no descriptor           | secure h2 4 4 x01020304 4 | 87
 no part                 | secure h2 0 4 x01020304 4 | 87
 of the manager          | secure h1 4 4 x01020304 4 | 6
@@ -383,12 +396,12 @@ of the manager          | level h1 1 1 -             | 6
                         | leveled h1 1 4             | 4 x00^4 0 6
 out of its range        | leveled h2 1 8193          | fault #6F7
 a handle that may change | open h1 'A' 2             | h3 0
-is not told             | leveled h3 1 4             | 4 x00^4 0 5
-a handle that is told   | open h1 'A' 1              | h4 0
+may not read            | leveled h3 1 4             | 4 x00^4 0 5
+a handle that may read  | open h1 'A' 1              | h4 0
 may not change          | level h4 5 5               | 5
 a marked service        | delete h2                  | 0
 has no other level      | level h2 5 5               | 1072
-and is told             | leveled h2 4 4             | 4 0 0 0
+but may be read         | leveled h2 4 4             | 4 0 0 0
 = 0 pipe: what is done after failures
 bind
 manager
@@ -439,7 +452,8 @@ of another type         | level h2 8 8 * 1 * - 1 19 2 * 0 - x0011223344556677889
 that does nothing       | level h2 8 8 * 1 * - 1 20 0 * 0 - x00112233445566778899aabbccddeeff | 87
 with data               | level h2 8 8 * 1 * - 1 20 2 * 1 - x00112233445566778899aabbccddeeff | 87
 without a subtype       | level h2 8 8 * 1 * - 1 20 2 - 0 - | 87
-two, one without        | level h2 8 8 * 2 * - 2 20 1 * 0 - 20 1 - 0 - x00112233445566778899aabbccddeeff | 87
+two, one without        \
+    | level h2 8 8 * 2 * - 2 20 1 * 0 - 20 1 - 0 - x00112233445566778899aabbccddeeff | 87
 no list                 | level h2 8 8 * 1 - - | fault #6F7
 none of them is there   | leveled h2 8 28      | 28 1 20 2 x00112233445566778899aabbccddeeff 0 0
 an empty list           | level h2 8 8 * 0 - - | 0
@@ -453,7 +467,7 @@ a service creates none  | watch h2 #80  | h0 87
 nothing                 | watch h2 0    | h0 87
 a handle that there is not | watch h9 1 | h0 6
 the present state       | watch h2 1    | h3 0
-is told at once         | event h3      | 1 16 1 0 1077 0 0 0 0 0 * 'A' 0
+is notified at once     | event h3      | 1 16 1 0 1077 0 0 0 0 0 * 'A' 0
 and once                | event h3      | 0 0 0 0 0 0 0 0 0 0 - 0
 a creation              | watch h1 #80  | h4 0
 no event yet            | event h4      | 0 0 0 0 0 0 0 0 0 0 - 0
@@ -635,7 +649,8 @@ A
 runs
 a user               | join user; call 2 manager - - #2000000 | caller 2; reply h3 0
 with all rights      | call 2 open h3 'A' #2000000  | reply h4 0
-to see its texts     | call 2 config h4 8192        | reply 16 3 1 * * 0 * * * '/bin/a' '' '' 'LocalSystem' 'A' 82 0
+to see its texts     | call 2 config h4 8192 \
+    | reply 16 3 1 * * 0 * * * '/bin/a' '' '' 'LocalSystem' 'A' 82 0
 its status           | call 2 status h4             | reply 16 4 1 0 0 0 0 0
 what needs it        | call 2 dependents h4 3 0     | reply 0 0 0 0
 to ask how it is     | call 2 control h4 4          | reply 16 4 1 0 0 0 0 0
@@ -686,22 +701,22 @@ and no more    | control 1                    | empty
 = 0 replay: a process of a service that may share it
 administrator
 with type 0x20           | call 1 create h1 'Sh' - #F01FF 32 3 1 '/bin/sh' plain | reply - h2 0
-it is started            | call 1 start h2 0 -                                   | plan 1
-its process is launched  | take; launched 1 101; end 1 1                         | launch 1; done; reply 0
-it is told which service | control 1; control 1                                  | control 1 0; empty
-the service reports      | report 1 1 32 4 1 0 0 0 0                             | done
-it runs                  | call 1 status h2                                      | reply 32 4 1 0 0 0 0 0
-there is no service 2    | report 1 2 32 4 1 0 0 0 0                             | stale
+it is started            | call 1 start h2 0 -           | plan 1
+its process is launched  | take; launched 1 101; end 1 1 | launch 1; done; reply 0
+it gets the service      | control 1; control 1          | control 1 0; empty
+the service reports      | report 1 1 32 4 1 0 0 0 0     | done
+it runs                  | call 1 status h2              | reply 32 4 1 0 0 0 0 0
+there is no service 2    | report 1 2 32 4 1 0 0 0 0     | stale
 = 0 replay: a stop of a service that may share its process
 administrator
 with type 0x20           | call 1 create h1 'Sh' - #F01FF 32 3 1 '/bin/sh' plain | reply - h2 0
-                         | call 1 start h2 0 -                                   | plan 1
-                         | take; launched 1 101; end 1 1                         | launch 1; done; reply 0
-by no number             | report 1 32 4 1 0 0 0 0                               | done
-it is stopped            | call 1 control h2 1                                   | reply 32 4 1 0 0 0 0 0
-its start comes first    | control 1; control 1; control 1                       | control 1 0; control 1 1; empty
-a stop waits             | call 1 control h2 1                                   | reply 32 4 1 0 0 0 0 0
-until it has stopped     | report 1 1 32 1 0 0 0 0 0; control 1                  | done; empty
+                         | call 1 start h2 0 -                  | plan 1
+                         | take; launched 1 101; end 1 1        | launch 1; done; reply 0
+by no number             | report 1 32 4 1 0 0 0 0              | done
+it is stopped            | call 1 control h2 1                  | reply 32 4 1 0 0 0 0 0
+its start comes first    | control 1; control 1; control 1      | control 1 0; control 1 1; empty
+a stop waits             | call 1 control h2 1                  | reply 32 4 1 0 0 0 0 0
+until it has stopped     | report 1 1 32 1 0 0 0 0 0; control 1 | done; empty
 = 0 replay: a service enters the process of another that has its path
 administrator
 hosted
@@ -766,8 +781,9 @@ its launch      | take; unlaunched 1 5                                 | launch 
 administrator
 A has type 0x20     | call 1 create h1 'A' - #F01FF 32 3 1 '/bin/sh' plain | reply - h2 0
                     | call 1 create h1 'M' - own '/bin/m' plain            | reply - h3 0
-B needs M           | call 1 create h1 'B' - #F01FF 32 3 1 '/bin/sh' - - * [M] 6 - - 0 | reply - h4 0
-T needs B           | call 1 create h1 'T' - own '/bin/t' - - * [B] 6 - - 0            | reply - h5 0
+B needs M           | call 1 create h1 'B' - #F01FF 32 3 1 '/bin/sh' - - * [M] 6 - - 0 \
+    | reply - h4 0
+T needs B           | call 1 create h1 'T' - own '/bin/t' - - * [B] 6 - - 0 | reply - h5 0
 A is launched       | call 1 start h2 0 -; take; launched 1 101  | plan 1; launch 1; done
 B waits for M       | call 1 start h4 0 -; end 1 2               | plan 2; again
 it needs M no more  | call 1 change h4 kept - - - * [] 2 - - 0 - | reply - 0
@@ -804,7 +820,8 @@ another caller       | join admin; call 2 manager - - #F003F | caller 2; reply h
                      | call 2 open h3 'A' #F01FF             | reply h4 0
 one waits for it     | call 1 watch h1 #180                  | reply h5 0
 A is deleted         | call 1 delete h2; call 1 close h2     | reply 0; reply h0 0
-and is listed        | call 1 services h1 #30 3 44 - | reply 44 36 40 16 1 0 1077 0 0 0 x4100000041000000 0 1 - 0
+and is listed        | call 1 services h1 #30 3 44 - \
+    | reply 44 36 40 16 1 0 1077 0 0 0 x4100000041000000 0 1 - 0
                      | call 1 event h5 | reply 0 0 0 0 0 0 0 0 0 0 - 0
 its last handle goes | gone 2          | done
 and A with it        | call 1 services h1 #30 3 44 - | reply 44 x00^44 0 0 - 0
@@ -817,14 +834,17 @@ runs
 one has it               | call 1 event h3 | reply 2 16 2 0 0 0 0 0 0 0 * 'A' 0
 and nothing more         | call 1 event h3 | reply 0 0 0 0 0 0 0 0 0 0 - 0
 the other has the first  | call 1 event h4 | reply 2 16 2 0 0 0 0 0 0 0 * 'A' 0
-RUNNING is told at once  | call 1 watch h2 8 | reply h5 0
+RUNNING is sent at once  | call 1 watch h2 8 | reply h5 0
                          | call 1 event h5   | reply 8 16 4 1 0 0 0 0 101 0 * 'A' 0
 and once                 | call 1 event h5   | reply 0 0 0 0 0 0 0 0 0 0 - 0
-its process is told      | call 1 process h2 0 36 | reply 36 16 4 1 0 0 0 0 101 0 0 0
-it is active             | call 1 services h1 #10 1 44 - | reply 44 36 40 16 4 1 0 0 0 0 x4100000041000000 0 1 - 0
+its process is shown     | call 1 process h2 0 36 | reply 36 16 4 1 0 0 0 0 101 0 0 0
+it is active             | call 1 services h1 #10 1 44 - \
+    | reply 44 36 40 16 4 1 0 0 0 0 x4100000041000000 0 1 - 0
 a pause and a stop       | call 1 watch h2 #44; call 1 watch h2 1 | reply h6 0; reply h7 0
-the same state again     | report 1 16 4 3 0 0 0 0; call 1 event h6 | done; reply 0 0 0 0 0 0 0 0 0 0 - 0
-it pauses                | report 1 16 7 3 0 0 0 0; call 1 event h6 | done; reply #40 16 7 3 0 0 0 0 101 0 * 'A' 0
+the same state again     | report 1 16 4 3 0 0 0 0; call 1 event h6 \
+    | done; reply 0 0 0 0 0 0 0 0 0 0 - 0
+it pauses                | report 1 16 7 3 0 0 0 0; call 1 event h6 \
+    | done; reply #40 16 7 3 0 0 0 0 101 0 * 'A' 0
 its process ends         | ended 1; call 1 event h7 | done; reply 1 16 1 0 1067 0 0 0 0 0 * 'A' 0
 = 0 replay: an old process stops no new run
 administrator
@@ -917,7 +937,8 @@ and the same are no change  | failcall 1 level h2 8 8 * 1 * - 1 20 2 * 0 - xaa^1
 an automatic start          | call 1 change h2 keep 2 keep - - - - 0 - - 0 - | reply - 0
 whose delay can't be kept   | failcall 1 level h2 3 3 * 1               | reply 1013
 is not delayed              | call 1 leveled h2 3 4                     | reply 4 0 0 0
-this time it is             | call 1 level h2 3 3 * 1; failcall 1 level h2 3 3 * 1 | reply 0; reply 0
+this time it is             | call 1 level h2 3 3 * 1; failcall 1 level h2 3 3 * 1 \
+    | reply 0; reply 0
                             | call 1 leveled h2 3 4                     | reply 4 1 0 0
 nothing is due              | tick                                      | idle
 = 0 replay: a start is given up after two minutes
@@ -1081,7 +1102,7 @@ runs
 it fails at the end of time | 18446744073709551615 ended 1    | done
 one tick starts and ends it | tick; take; tick                | done; empty; idle
                            | call 1 status h2                 | reply 16 1 0 1067 0 0 0 0
-so does the one behind     | call 1 start h2 0 -; tick; end 1 3 | plan 3; done; reply 1053
+so does the next           | call 1 start h2 0 -; tick; end 1 3 | plan 3; done; reply 1053
 = 0 replay: a command is run after a failure, and reboots are none
 administrator
 A
@@ -1124,7 +1145,10 @@ so it does not start       | raise 1 aaaaaaaaaaaaaaaaaaaaaaaaaaaaaaaa; take | re
 = 0 replay: a security descriptor narrows what is granted
 administrator
 A
-users are denied 4, and all else is allowed | call 1 secure h2 4 72 x0100048000000000000000000000000014000000020034000200000001001800040000000102000000000005200000002102000000001400ff010f00010100000000000100000000 72 | reply 0
+users are denied 4, and all else is allowed \
+    | call 1 secure h2 4 72 x01000480000000000000000000000000140000000200340002000000\
+    010018000400000001020000000000052000000021020000\
+    00001400ff010f00010100000000000100000000 72 | reply 0
 a user                    | join user; call 2 manager - - #2000000 | caller 2; reply h3 0
 is denied 4               | call 2 open h3 'A' 4                   | reply h0 5
 and 4 with 8              | call 2 open h3 'A' #C                  | reply h0 5
@@ -1164,7 +1188,7 @@ B before A                 | call 1 process h2 0 36           | reply 36 16 2 0 
 
 /// Jobs by their words, and words that are none.
 pub const JOBS: &str = "
-= 11 replay: nothing is read behind a bad line
+= 11 replay: nothing is read after a bad line
 | join admin; ended 9; join admin | caller 1; bad line 2
 = 11 replay: a raise of a caller that is not there
 | join admin; raise 2 aaaaaaaaaaaaaaaaaaaaaaaaaaaaaaaa | caller 1; bad line 2

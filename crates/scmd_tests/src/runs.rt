@@ -17,8 +17,8 @@ use svcctl_words::{Sheet, Side, put_hex, put_hex_lines};
 pub enum Port<'a> {
     /// Nobody comes.
     Idle,
-    /// So many come that ask the smallest session, and so many of them are served. Which calls fail,
-    /// the next one last: the first listens, and the others accept.
+    /// So many come that ask the smallest session, and so many of them are served. Which calls
+    /// fail, the next one last: the first listens, and the others accept.
     Comes {
         come: usize,
         served: usize,
@@ -35,8 +35,8 @@ pub struct Run<'a> {
     pub asked: &'a str,
     /// How many bytes a read gives at most.
     pub piece: usize,
-    /// What becomes of its reads, of its writes and of the calls of its keeper and of the disk of its
-    /// store, the next one last.
+    /// What becomes of its reads, of its writes and of the calls of its keeper and of the disk of
+    /// its store, the next one last.
     pub reads: &'a [bool],
     pub writes: &'a [bool],
     pub keeps: &'a [Fate],
@@ -151,7 +151,7 @@ fn judge<'a>(
     let written = world.output.bytes();
     sheet.begins(run.words, run.told, written)?;
     if !is_no_more(sheet, run, written) {
-        Err("more is told")
+        Err("more is written")
     } else if !is_kept(alloc, run.kept, world.keeper.bytes()) {
         Err("something else is kept")
     } else if !is_served(sheet, run.admin, &world.admin)

@@ -51,3 +51,12 @@ module _ (words : List (List ℕ)) (task : Task) (path store names : Option (Bor
     pub none_named : (status : ℕ) → (status ≡ 5 ↔ IsNone (mode_by task (is_some path) (is_some store)))
         → (status ≡ 5 ↔ IsNone (mode_of words))
     none_named status is = subst (λ (m : Option Mode). status ≡ 5 ↔ IsNone m) same_mode is
+
+-- what holds of the mode of a task and of what is lent holds of the mode of the words
+pub by_task : (words : List (List ℕ)) (task : Task) (found : Option Task) (path store names : Option (Bor (List ℕ))) → found ≡ task_of words
+    → found ≡ Some task → IsText (path_of words) path → IsText (store_of words) store → IsText (listed_groups words) names
+    → (P : Bool → List (List ℕ) → Mode → Type 0)
+    → IfSome (mode_by task (is_some path) (is_some store)) (λ mode. P (is_some path) (groups_in (lent names)) mode)
+    → IfSome (mode_of words) (λ mode. P (names_file words) (groups_listed words) mode)
+by_task words task found path store names of is a_path a_store a_list P run =
+    as_named words task path store names (named words task found path store names of is a_path a_store a_list) P run

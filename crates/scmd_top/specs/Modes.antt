@@ -54,8 +54,8 @@ HasAllDoneAs path (OverKeeper job) s store p status = HasAllDone path job s p st
 HasAllDoneAs path (OverStore job) s store p status = HasAllDone true job (over_store s store) p status
 HasAllDoneAs path mode s store p status = Unit {0}
 
--- Over the keeper the store is left as it was, and over the store the keeper. A compaction touches the store alone, and a move the keeper and
--- the store alone.
+-- Over the keeper the store is left as it was, and over the store the keeper. A compaction touches the store alone, and a move the keeper
+-- and the store alone.
 abbrev pub LeavesWorld : {I O K Q N P C : Type 0} → (path : Bool) → Mode → (w w' : World I O K Q N P C) → Type 0
 LeavesWorld path (OverKeeper job) w w' =
     (w'.store ≡ w.store) × LeavesKeeper path job w.keeper w'.keeper × LeavesOthers job (keeper_world w) (keeper_world w')

@@ -3,7 +3,7 @@ use Rattle.std.specs.Prelude.{ℕ, ◌&&◌, ◌==◌, Bool, false, true, not, n
 use Rattle.std.specs.Prelude.{Some, option_and_then, option_map, if◌then◌else◌}
 use Rattle.std.specs.Cmp.Lexicographic.{pointwise}
 use Rattle.std.specs.List.{after_first, before_first, position_or_len}
-use Rattle.scm_replay.specs.Words.{decimal_at, ◌>>=◌}
+use Rattle.scm_lines.specs.Words.{decimal_at, ◌>>=◌}
 use Rattle.scm_model.specs.declared.flat.Principal.{Principal}
 use Rattle.scm_model.specs.declared.flat.Principal.TheVariants.{Admin, User}
 use Rattle.scmd_top.specs.declared.settings.Setting.{Setting}

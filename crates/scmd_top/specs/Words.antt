@@ -4,7 +4,7 @@ use Rattle.std.specs.Prelude.{option_map, is_some, if◌then◌else◌}
 use Rattle.scm_model.specs.declared.flat.Principal.{Principal}
 use Rattle.scm_model.specs.declared.flat.Principal.TheVariants.{Admin}
 use Rattle.scmd_top.specs.declared.words.Job.{Job}
-use Rattle.scm_replay.specs.Words.{decimal_at}
+use Rattle.scm_lines.specs.Words.{decimal_at}
 use Rattle.scmd_top.specs.declared.words.Job.TheVariants.{Pipe, Replay, Generate, Serve}
 use Rattle.scmd_top.specs.Settings.{is_word, no_options, options_from, value_from}
 use Rattle.scmd_top.specs.declared.settings.Setting.{Setting}

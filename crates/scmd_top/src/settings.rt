@@ -7,8 +7,8 @@ ghost use Rattle.scmd_top.specs.Settings.{options_from, with_name, with_option, 
 ghost use Rattle.scmd_top.specs.Settings.{is_plain, named_value, principal_named};
 ghost use Rattle.scmd_top.specs.Settings.{value_from, value_in};
 
+use decimal_words::number_at;
 use scm_model::Principal;
-use scm_replay::number_at;
 use scm_text::Text;
 
 /// What an option says.

@@ -1,5 +1,5 @@
 ghost use Rattle.std.specs.Prelude.{◌≡◌, ◌≤◌, IfSome, option_and_then, option_map};
-ghost use Rattle.scm_replay.specs.Words.{decimal_at};
+ghost use Rattle.scm_lines.specs.Words.{decimal_at};
 ghost use Rattle.scmd_top.specs.Parts.{IsText};
 ghost use Rattle.scmd_top.specs.Words.{HasFew, IsFew, bare_task, generate_with, is_bare};
 ghost use Rattle.scmd_top.specs.Words.{job_named, listed_groups, path_of, pipe_of, replay_job};
@@ -8,9 +8,9 @@ ghost use Rattle.scmd_top.specs.Words.{within};
 ghost use Rattle.scmd_top.specs.declared.words.Task.TheVariants as tasks;
 
 use crate::settings::{Settings, file_of, groups_text, store_in};
+use decimal_words::number_at;
 use scm_listener::Listening;
 use scm_model::Principal;
-use scm_replay::number_at;
 use scm_text::{Items, Text};
 
 /// Why the words of the program can't be had.

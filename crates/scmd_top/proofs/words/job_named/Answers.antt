@@ -23,7 +23,8 @@ module _ (word : List ℕ) (options : List (List ℕ)) where
       ∙ ap (λ (b : Bool). cond b (with_options replay_job options)
       (cond (is_word word (codes "generate")) (generate_with options)
       (cond (is_word word (codes "serve")) (with_options serving_of options) None))) replay
-      ∙ ap (λ (b : Bool). cond b (generate_with options) (cond (is_word word (codes "serve")) (with_options serving_of options) None)) generate
+      ∙ ap (λ (b : Bool). cond b (generate_with options)
+      (cond (is_word word (codes "serve")) (with_options serving_of options) None)) generate
       ∙ ap (λ (b : Bool). cond b (with_options serving_of options) None) serve
 
 pub returns-in_default-clause-job : goal.returns-in_default-clause-job
