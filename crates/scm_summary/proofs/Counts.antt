@@ -5,13 +5,56 @@ use Rattle.std.proofs.lemmas.List.{get_or_past}
 use Rattle.scm_model.specs.Entries.{Entry}
 use Rattle.scm_summary.specs.Calls.{calling, calls_from, calls_of, joined_in, one_if_its, one_joined}
 use Rattle.scm_summary.specs.Lines.{caller_line, callers_from}
-use Rattle.scm_summary.specs.Counting.{CountsTo, HasRoomFor, IsZeros, Raises}
+use Rattle.scm_model.specs.declared.steps.Step.{Step}
+use Rattle.scm_model.specs.declared.steps.Step.TheVariants as steps
+use Rattle.step_code.specs.Fronts.{front_of}
+use Rattle.step_code.specs.declared.fronts_read.Front.{Front}
+use Rattle.scm_trail.specs.Cursor.{TakesFront}
+use Rattle.scm_summary.specs.Counting.{caller_of, one_of, CountsTo, HasRoomFor, IsZeros, Raises}
+
+-- ## Fronts
+
+-- the front of a step says whether it joins a caller, and whose call it is
+front_joined : (step : Step) → one_of (front_of step) ≡ one_joined step
+front_joined (steps.Joined p) = refl
+front_joined (steps.Call c r k) = refl
+front_joined (steps.EndStart c p) = refl
+front_joined steps.LaunchTaken = refl
+front_joined (steps.Launched p i) = refl
+front_joined (steps.LaunchFailed p c) = refl
+front_joined (steps.Report p s r) = refl
+front_joined (steps.Ended p) = refl
+front_joined (steps.ControlTaken p) = refl
+front_joined steps.Tick = refl
+front_joined (steps.Raised c s) = refl
+front_joined (steps.Gone c) = refl
+front_joined (steps.NoMemory c) = refl
+
+front_calling : (step : Step) → caller_of (front_of step) ≡ calling step
+front_calling (steps.Joined p) = refl
+front_calling (steps.Call c r k) = refl
+front_calling (steps.EndStart c p) = refl
+front_calling steps.LaunchTaken = refl
+front_calling (steps.Launched p i) = refl
+front_calling (steps.LaunchFailed p c) = refl
+front_calling (steps.Report p s r) = refl
+front_calling (steps.Ended p) = refl
+front_calling (steps.ControlTaken p) = refl
+front_calling steps.Tick = refl
+front_calling (steps.Raised c s) = refl
+front_calling (steps.Gone c) = refl
+front_calling (steps.NoMemory c) = refl
 
 -- ## Joinings
 
 -- one entry less is left
-pub joined_one : (left now : List Entry) (e : Entry) → left ≡ e ∷ now → joined_in left ≡ one_joined e.1 + joined_in now
-joined_one left now e is = ap joined_in is
+pub joined_one : (left now : List Entry) (front : Front) → TakesFront left (Some front) now → joined_in left ≡ one_of front + joined_in now
+joined_one left now front taken =
+    ap joined_in taken.1 ∙ ap (λ n. n + joined_in now) (sym (front_joined taken.0.1) ∙ ap one_of (sym taken.2))
+
+-- the caller of the entry that was taken
+pub taken_calling : (left now : List Entry) (front : Front) (taken : TakesFront left (Some front) now) → caller_of front ≡ calling taken.0.1
+taken_calling left now front taken = ap caller_of taken.2 ∙ front_calling taken.0.1
 
 -- ## Calls
 

@@ -1,6 +1,8 @@
 -- Counts of calls while they are made: the first is that of caller 1, and each is the only one of its caller.
-use Rattle.std.specs.Prelude.{ℕ, ◌≡◌, ◌+◌, ◌<◌, ◌^◌, List, Option, length, get_or}
+use Rattle.std.specs.Prelude.{ℕ, ◌≡◌, ◌+◌, ◌<◌, ◌^◌, List, Option, None, Some, length, get_or}
 use Rattle.scm_model.specs.Entries.{Entry}
+use Rattle.step_code.specs.declared.fronts_read.Front.{Front}
+use Rattle.step_code.specs.declared.fronts_read.Front.TheVariants as fronts
 use Rattle.scm_summary.specs.Calls.{calls_of, one_if_its}
 
 pub record IsZeros (count : ℕ) (counts : List ℕ) : Type 0 where
@@ -20,3 +22,12 @@ pub record Raises (counts : List ℕ) (caller : Option ℕ) (now : List ℕ) : T
 pub record CountsTo (h left : List Entry) (callers : ℕ) (counts : List ℕ) : Type 0 where
   pub long : length counts ≡ callers
   pub each : (k : ℕ) → k < callers → get_or counts k 0 + calls_of (k + 1) left ≡ calls_of (k + 1) h
+
+-- what an entry's front adds to the callers that joined, and whose call it is
+abbrev pub one_of : Front → ℕ
+one_of fronts.Joined = 1
+one_of front = 0
+
+abbrev pub caller_of : Front → Option ℕ
+caller_of (fronts.Called caller) = Some caller
+caller_of front = None

@@ -1,35 +1,30 @@
 ghost use Rattle.std.specs.Prelude.{◌≡◌, ◌≤◌, [], length, IfOk, OnOk};
-ghost use Rattle.scm_summary.specs.Calls.{calling, calls_from, joined_in, one_joined};
+ghost use Rattle.scm_summary.specs.Calls.{calls_from, joined_in};
 ghost use Rattle.scm_summary.specs.Counting.{CountsTo, HasRoomFor, IsZeros, Raises};
+ghost use Rattle.scm_summary.specs.Counting.{caller_of, one_of};
 
-use scm_model::Step;
 use scm_text::OutOfMemory;
 use scm_trail::Trail;
 use std::alloc::Global;
+use step_code::Front;
 
-/// 1 where a step joins a caller.
-fn one_joined(step: &Step) -> u64
-    ensures value { result ≡ one_joined step.now }
+/// 1 where a caller joins.
+fn one_joined(front: Front) -> u64
+    ensures value { result ≡ one_of front }
     ensures small { result ≤ 1 }
 {
-    match step {
-        Step::Joined { principal: _ } => 1,
+    match front {
+        Front::Joined => 1,
         _ => 0,
     }
 }
 
-/// The caller whose call or raise a step is.
-fn calling(step: &Step) -> Option<u64>
-    ensures { result ≡ calling step.now }
+/// The caller whose call or raise it is.
+fn calling(front: Front) -> Option<u64>
+    ensures { result ≡ caller_of front }
 {
-    match step {
-        Step::Call {
-            caller,
-            request: _,
-            kept: _,
-        } => Some(*caller),
-        Step::Raised { caller, subtype: _ } => Some(*caller),
-        Step::NoMemory { caller } => Some(*caller),
+    match front {
+        Front::Called { caller } => Some(caller),
         _ => None,
     }
 }
@@ -40,9 +35,8 @@ fn joined_in(trail: &Trail) -> Result<u64, OutOfMemory>
 {
     let mut entries = trail.entries();
     let mut count = 0;
-    while let Some((_, step)) = entries.next()? {
-        count += one_joined(&step);
-        drop(step);
+    while let Some(front) = entries.next_front()? {
+        count += one_joined(front);
     }
     Ok(count)
 }
@@ -79,9 +73,8 @@ fn count_calls(counts: &mut [u64], trail: &Trail) -> Result<(), OutOfMemory>
     ensures { OnOk result (CountsTo trail.now.entries [] (length counts.old) counts.new) }
 {
     let mut entries = trail.entries();
-    while let Some((_, step)) = entries.next()? {
-        raise(counts, calling(&step));
-        drop(step);
+    while let Some(front) = entries.next_front()? {
+        raise(counts, calling(front));
     }
     Ok(())
 }

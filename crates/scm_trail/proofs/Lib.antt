@@ -1,3 +1,4 @@
 mod Codes
 mod Telling
 mod Lists
+mod Briefs

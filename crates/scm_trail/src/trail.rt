@@ -27,9 +27,10 @@ const MOST: u64 = 128;
 /// The entries of a history: moments in milliseconds and steps, in order. Contracts see them, and
 /// how many entries and how much text more find room.
 ///
-/// Each entry is kept as its code, which `step_code` writes. The codes lie in segments of 65,536
-/// bytes and what was promised beside them, one after another, each in one segment, so that no
-/// code is ever moved. Where a segment is added, only their list may be copied.
+/// Each entry is kept as its code, which `write_code` of `step_code` describes. Its note has the
+/// code already, so `push` copies bytes alone. The codes lie in segments of 65,536 bytes and what
+/// was promised beside them, one after another, each in one segment, so that no code is ever
+/// moved. Where a segment is added, only their list may be copied.
 pub struct Trail {
     segments: Vec<Segment>,
     /// The place of the segment that the last entry lies in.

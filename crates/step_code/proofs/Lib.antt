@@ -8,3 +8,4 @@ pub mod Entries
 pub mod Taken
 pub mod TakenRequests
 pub mod TakenEntries
+pub mod Fronts

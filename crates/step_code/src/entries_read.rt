@@ -57,7 +57,7 @@ fn joined_of(bytes: &[u8]) -> Result<(Step, &[u8]), Stop>
 }
 
 #[tactic(auto, unfolding(crate::specs::Reading::kept_at))]
-fn kept_at(bytes: &[u8]) -> Result<(Kept, &[u8]), Stop>
+pub(crate) fn kept_at(bytes: &[u8]) -> Result<(Kept, &[u8]), Stop>
     ensures { Yields (λ x. (x.0, x.1.now)) result (kept_at bytes.now) }
 {
     let (byte, rest) = byte_of(bytes)?;

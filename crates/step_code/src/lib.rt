@@ -5,6 +5,7 @@ mod entries_read;
 mod entries_written;
 mod fields_read;
 mod fields_written;
+mod fronts_read;
 mod law;
 mod length;
 mod requests_read;
@@ -12,5 +13,6 @@ mod requests_written;
 
 pub use entries_read::{DecodedEntry, read_entry};
 pub use entries_written::{write_code, write_step};
+pub use fronts_read::{DecodedFront, Front, read_front};
 pub use law::codes_are_read;
 pub use length::code_length;

@@ -2,6 +2,8 @@
 #![tactic(auto)]
 
 #[cfg(test)]
+mod fronts;
+#[cfg(test)]
 mod infos;
 #[cfg(test)]
 mod requests;
