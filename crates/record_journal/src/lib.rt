@@ -13,6 +13,7 @@ mod opening;
 mod reading;
 mod replaying;
 
+pub use configs::Configs;
 pub use file::FileKeeper;
 pub use journal::Journal;
 pub use keeper::{KeepFault, Keeper};

@@ -245,11 +245,6 @@ module _ (o : Opening) (k k' : Known) (moment : ℕ) (asked : Request) where
       → Calls o k moment asked k' (calls.Answered reply)
   reply_taken told reply is so = subst (λ (a : Answer). RepliesSo o k moment asked a k') is so
 
--- what holds in any case holds if there is an error
-pub on_err : {T E : Type 0} (P : Type 0) (r : Result T E) → P → OnErr r P
-on_err P (Ok x) holds = tt
-on_err P (Err fault) holds = holds
-
 -- what lay in the place of the answer stays there if no step is made
 pub untold_into : (ended : Result Recorded MakeFault) (refusal : Reply) (end : Result (Unit {0}) MakeFault) (before lay lies : Answer)
     → OnErr ended (lay ≡ before) → CallToldInto (call_told ended lay) refusal end lay lies → OnErr end (lies ≡ before)
