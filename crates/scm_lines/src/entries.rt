@@ -42,8 +42,8 @@ fn add_number(line: &mut Vec<u8>, number: u64) -> Result<(), OutOfMemory>
     add_word(line, itoa::Buffer::new().format(number).as_bytes())
 }
 
-/// Adds numbers in decimal form.
-fn add_numbers(line: &mut Vec<u8>, numbers: &[u64]) -> Result<(), OutOfMemory>
+/// Adds numbers in decimal form, each after a space.
+pub fn add_numbers(line: &mut Vec<u8>, numbers: &[u64]) -> Result<(), OutOfMemory>
     ensures { OnOk result (line.new.items ≡ line.old.items ++ spaced_numbers numbers.now) }
 {
     for number in numbers {
@@ -72,8 +72,8 @@ fn add_numbered(line: &mut Vec<u8>, verb: &str, numbers: &[u64]) -> Result<(), O
     add_numbers(line, numbers)
 }
 
-/// Adds bytes in hexadecimal.
-fn add_hex(alloc: Global, line: &mut Vec<u8>, bytes: &[u8]) -> Result<(), OutOfMemory>
+/// Adds a space and bytes in hexadecimal, in lower case.
+pub fn add_hex(alloc: Global, line: &mut Vec<u8>, bytes: &[u8]) -> Result<(), OutOfMemory>
     ensures { OnOk result (line.new.items ≡ line.old.items ++ 32 ∷ encode_lower bytes.now) }
 {
     let text = hex_of(alloc, bytes)?;

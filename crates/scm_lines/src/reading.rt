@@ -43,8 +43,8 @@ fn joined_at(name: &[u8]) -> Option<Step>
     }
 }
 
-/// A number of 32 bits.
-fn code_at(text: &[u8]) -> Option<u32>
+/// The number of 32 bits of which a word is the decimal form.
+pub fn code_at(text: &[u8]) -> Option<u32>
     ensures { result ≡ number_below (2 ^ 32) text.now }
 {
     let number = number_below(1 << 32, text)?;

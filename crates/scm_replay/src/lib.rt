@@ -12,5 +12,6 @@ mod replayer;
 mod replaying;
 mod stop;
 
+pub use making::{is_shared_by, keep_as, kept_as, makes_room};
 pub use replayed::Replayed;
 pub use replaying::replay;

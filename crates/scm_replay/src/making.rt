@@ -15,7 +15,7 @@ use scm_text::OutOfMemory;
 use std::alloc::Global;
 
 /// What becomes of a change, where there is one.
-fn kept_as(changes: bool, fails: bool) -> Kept
+pub fn kept_as(changes: bool, fails: bool) -> Kept
     ensures { result ≡ kept_as changes fails }
 {
     match (changes, fails) {
@@ -43,7 +43,7 @@ fn finds_room(manager: &Manager, step: &Step) -> bool
 }
 
 /// Makes room for a step, if there is memory and the manager can still count it.
-fn makes_room(manager: &mut Manager, step: &Step) -> bool
+pub fn makes_room(manager: &mut Manager, step: &Step) -> bool
     ensures flat { manager.new.flat ≡ manager.old.flat }
     ensures limits { manager.new.limits ≡ manager.old.limits }
     ensures steps { manager.new.steps ≡ manager.old.steps }
@@ -58,7 +58,7 @@ fn makes_room(manager: &mut Manager, step: &Step) -> bool
 }
 
 /// Lets a step tell what became of its change.
-fn keep_as(step: &mut Step, now: Kept)
+pub fn keep_as(step: &mut Step, now: Kept)
     ensures { step.new ≡ with_kept step.old now }
 {
     if let Step::Call { kept, .. } = step {
@@ -67,7 +67,7 @@ fn keep_as(step: &mut Step, now: Kept)
 }
 
 /// Whether the process whose order a step takes is shared.
-fn is_shared_by(manager: &Manager, step: &Step) -> bool
+pub fn is_shared_by(manager: &Manager, step: &Step) -> bool
     ensures { result ≡ is_shared_by manager.now.flat step.now }
 {
     match step {

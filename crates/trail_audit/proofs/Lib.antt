@@ -1,0 +1,6 @@
+mod Opened
+mod Placed
+mod Stretches
+mod Ends
+mod Whole
+mod Entered

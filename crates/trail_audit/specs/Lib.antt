@@ -1,0 +1,4 @@
+pub mod Audited
+pub mod Heads
+pub mod Along
+pub mod Entered

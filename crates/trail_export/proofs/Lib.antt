@@ -1,0 +1,2 @@
+mod Sinking
+mod Parts

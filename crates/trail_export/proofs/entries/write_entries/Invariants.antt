@@ -1,0 +1,14 @@
+use Rattle.std.proofs.Common.{◌≡◌, length}
+use Rattle.trail_text.specs.Histories.{ended, entry_lines}
+use Rattle.trail_export.proofs.Parts.{IsUnderWay}
+use Rattle.trail_export.proofs.entries.write_entries.Given as goal
+
+abbrev pub invariant-loop-moment : goal.invariant-loop-moment
+invariant-loop-moment g l = record {
+  way : IsUnderWay (ended (entry_lines l.fn.manager.limits l.fn.manager.flat l.trail.entries)) (g.T.Sink.held l.fn.sink)
+      (g.T.Sink.held l.sink) l.manager l.entries;
+  faults : g.T.Sink.faults l.sink ≡ g.T.Sink.faults l.fn.sink;
+}
+
+abbrev pub decreases-loop-moment : goal.decreases-loop-moment
+decreases-loop-moment g l = length l.entries

@@ -1,0 +1,25 @@
+use Rattle.std.proofs.Common.{◌++◌, ◌∷◌, ◌∙◌, [], subst, refl}
+use Rattle.std.proofs.lemmas.Result.{err_from_is_err_and}
+use Rattle.outside.proofs.Sending.{sent_none}
+use Rattle.opening_lines.specs.Heads.{config_line}
+use Rattle.trail_export.proofs.Sinking.{line_failed, line_sent, lines_sent}
+use Rattle.trail_export.proofs.head.write_configs.Goals as goal
+
+pub loop-config-preserved : goal.loop-config-preserved
+loop-config-preserved g c = record {
+  sent = line_sent config_line c.args.configs.now c.loop-config.config-index (g.T.Sink.held c.args.sink.now)
+      (g.T.Sink.held c.loop-config.sink) (g.T.Sink.held c.write_config.new.sink) c.config-item.result c.config-item.is
+      c.loop-config-test.true c.loop-config.invariant.sent c.in_ok-write_config.ensures.written;
+  faults = c.in_ok-write_config.ensures.cause.caused ∙ c.loop-config.invariant.faults;
+}
+
+pub returns-in_err-write_config-clause-written : goal.returns-in_err-write_config-clause-written
+returns-in_err-write_config-clause-written g c =
+    rw (err_from_is_err_and c.from_residual.result c.from_residual.ensures.1).1
+    (line_failed config_line c.args.configs.now c.loop-config.config-index (g.T.Sink.held c.args.sink.now)
+    (g.T.Sink.held c.loop-config.sink) (g.T.Sink.held c.write_config.new.sink) c.config-item.result c.config-item.is
+    c.loop-config-test.true c.loop-config.invariant.sent c.in_err-write_config.ensures.written)
+
+pub returns-clause-written : goal.returns-clause-written
+returns-clause-written g c = lines_sent config_line c.args.configs.now c.loop-config.config-index (g.T.Sink.held c.args.sink.now)
+    (g.T.Sink.held c.loop-config.sink) c.loop-config-test.false c.loop-config.invariant.sent

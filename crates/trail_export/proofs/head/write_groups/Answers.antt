@@ -1,0 +1,25 @@
+use Rattle.std.proofs.Common.{◌++◌, ◌∷◌, ◌∙◌, [], subst, refl}
+use Rattle.std.proofs.lemmas.Result.{err_from_is_err_and}
+use Rattle.outside.proofs.Sending.{sent_none}
+use Rattle.opening_lines.specs.Heads.{group_line}
+use Rattle.trail_export.proofs.Sinking.{line_failed, line_sent, lines_sent}
+use Rattle.trail_export.proofs.head.write_groups.Goals as goal
+
+pub loop-group-preserved : goal.loop-group-preserved
+loop-group-preserved g c = record {
+  sent = line_sent group_line c.args.groups.now c.loop-group.group-index (g.T.Sink.held c.args.sink.now)
+      (g.T.Sink.held c.loop-group.sink) (g.T.Sink.held c.write_group.new.sink) c.group-item.result c.group-item.is
+      c.loop-group-test.true c.loop-group.invariant.sent c.in_ok-write_group.ensures.written;
+  faults = c.in_ok-write_group.ensures.cause.caused ∙ c.loop-group.invariant.faults;
+}
+
+pub returns-in_err-write_group-clause-written : goal.returns-in_err-write_group-clause-written
+returns-in_err-write_group-clause-written g c =
+    rw (err_from_is_err_and c.from_residual.result c.from_residual.ensures.1).1
+    (line_failed group_line c.args.groups.now c.loop-group.group-index (g.T.Sink.held c.args.sink.now)
+    (g.T.Sink.held c.loop-group.sink) (g.T.Sink.held c.write_group.new.sink) c.group-item.result c.group-item.is
+    c.loop-group-test.true c.loop-group.invariant.sent c.in_err-write_group.ensures.written)
+
+pub returns-clause-written : goal.returns-clause-written
+returns-clause-written g c = lines_sent group_line c.args.groups.now c.loop-group.group-index (g.T.Sink.held c.args.sink.now)
+    (g.T.Sink.held c.loop-group.sink) c.loop-group-test.false c.loop-group.invariant.sent

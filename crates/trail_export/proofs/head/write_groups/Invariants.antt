@@ -1,0 +1,12 @@
+use Rattle.std.proofs.Common.{◌≡◌, drop, map}
+use Rattle.outside.proofs.Sending.{Sent}
+use Rattle.opening_lines.specs.Heads.{group_line}
+use Rattle.trail_text.specs.Histories.{ended}
+use Rattle.trail_export.proofs.head.write_groups.Given as goal
+
+-- the lines so far were written
+abbrev pub invariant-loop-group : goal.invariant-loop-group
+invariant-loop-group g l = record {
+  sent : Sent (g.T.Sink.held l.fn.sink) (g.T.Sink.held l.sink) (ended (map group_line l.groups)) (ended (map group_line (drop l.group-index l.groups)));
+  faults : g.T.Sink.faults l.sink ≡ g.T.Sink.faults l.fn.sink;
+}

@@ -1,0 +1,20 @@
+-- Histories whose lines can be read.
+use Rattle.std.specs.Prelude.{◌<◌, ◌^◌, All, List}
+use Rattle.std.specs.List.{AllByRecursion}
+use Rattle.hex.specs.Hex.{IsBytes}
+use Rattle.scm_model.specs.declared.flat.Config.{Config}
+use Rattle.scm_model.specs.Entries.{Entry}
+use Rattle.service_record.specs.Spelling.{IsConfig, IsUnit, encoding}
+use Rattle.scm_lines.specs.Entries.{HasLine}
+use Rattle.opening_lines.specs.declared.opening.Opening.{Opening}
+
+-- a configuration that a record encodes
+abbrev pub HasRecord : Config → Type 0
+HasRecord config = IsConfig config × IsBytes (encoding config)
+
+-- numbers of the bits that they are written with, and texts, records and bodies that can be read
+pub record IsReadable (o : Opening) (h : List Entry) : Type 0 where
+  pub moment : o.moment < 2 ^ 64
+  pub groups : AllByRecursion (λ group. All IsUnit group) o.groups
+  pub configs : AllByRecursion HasRecord o.configs
+  pub entries : AllByRecursion HasLine h

@@ -1,0 +1,63 @@
+ghost use Rattle.std.specs.Prelude.{IfErr, OnOk, ◌+◌, ◌≡◌, ◌≤◌, ◌^◌, length};
+ghost use Rattle.outside.specs.Written.{Writes};
+ghost use Rattle.scm_core.specs.Managed.{AreSmall};
+ghost use Rattle.scm_rules.specs.Histories.{Legal};
+ghost use Rattle.scm_rules.specs.Opening.{CanOpen};
+ghost use Rattle.scm_rules.specs.Runs.{IsLegal};
+ghost use Rattle.trail_export.specs.Exports.{HasExportCause, IsExportCaused};
+ghost use Rattle.trail_text.specs.Histories.{first_of, told};
+
+use super::beginning::manager_from;
+use super::entries::write_entries;
+use super::fault::ExportFault;
+use super::head::write_head;
+use opening_lines::Opening;
+use outside::Sink;
+use scm_core::Manager;
+use scm_trail::Trail;
+use std::alloc::Global;
+
+/// Writes a history with a manager that stands where it begins, in the line's room.
+fn write_told<T: Sink>(
+    alloc: Global,
+    manager: &mut Manager,
+    trail: &Trail,
+    opening: &Opening,
+    line: &mut Vec<u8>,
+    sink: &mut T,
+) -> Result<(), ExportFault>
+    requires flat { manager.old.flat ≡ first_of opening.now }
+    requires limits { manager.old.limits ≡ opening.now.limits }
+    requires steps { manager.old.steps + length trail.now.entries ≤ 2 ^ 50 }
+    requires legal { IsLegal opening.now.limits (first_of opening.now) trail.now.entries }
+    ensures written { Writes (T.held sink.old) (T.held sink.new) result
+        (told opening.now trail.now.entries) }
+    ensures cause { HasExportCause (T.faults sink.old) (T.faults sink.new) result }
+{
+    write_head(alloc, opening, line, sink)?;
+    write_entries(alloc, manager, trail, line, sink)
+}
+
+/// Writes a legal history as text: the opening, then for each entry its line and that of its
+/// answer. Beside a manager that makes the steps anew this holds one line and one entry.
+pub fn export<T: Sink>(
+    alloc: Global,
+    trail: &Trail,
+    opening: &Opening,
+    sink: &mut T,
+) -> Result<(), ExportFault>
+    requires small { AreSmall opening.now.limits }
+    requires can { CanOpen opening.now.limits opening.now.configs }
+    requires legal { Legal opening.now.limits (first_of opening.now) trail.now.entries }
+    ensures written { Writes (T.held sink.old) (T.held sink.new) result
+        (told opening.now trail.now.entries) }
+    ensures grows { T.faults sink.old ≤ T.faults sink.new }
+    ensures cause { IsExportCaused result (T.faults sink.old) (T.faults sink.new) }
+{
+    let mut manager = manager_from(alloc, opening)?;
+    let mut line = Vec::new(alloc);
+    let written = write_told(alloc, &mut manager, trail, opening, &mut line, sink);
+    drop(line);
+    manager.close();
+    written
+}

@@ -1,0 +1,114 @@
+// The lines before the entries.
+ghost use Rattle.std.specs.Prelude.{◌++◌, ◌∷◌, [], map};
+ghost use Rattle.outside.specs.Written.{Writes};
+ghost use Rattle.opening_lines.specs.Heads.{config_line, group_line, head_lines, limits_line};
+ghost use Rattle.opening_lines.specs.Heads.{moment_line};
+ghost use Rattle.trail_text.specs.Histories.{ended};
+ghost use Rattle.trail_export.specs.Exports.{HasExportCause};
+
+use super::fault::ExportFault;
+use super::writing::write_line;
+use opening_lines::{Opening, put_config, put_group, put_limits, put_moment};
+use outside::Sink;
+use scm_model::{Config, Limits};
+use scm_text::WText;
+use std::alloc::Global;
+
+fn write_limits<T: Sink>(
+    limits: &Limits,
+    line: &mut Vec<u8>,
+    sink: &mut T,
+) -> Result<(), ExportFault>
+    ensures written { Writes (T.held sink.old) (T.held sink.new) result
+        (limits_line limits.now ++ 10 ∷ []) }
+    ensures cause { HasExportCause (T.faults sink.old) (T.faults sink.new) result }
+{
+    put_limits(line, limits)?;
+    write_line(line, sink)
+}
+
+fn write_moment<T: Sink>(moment: u64, line: &mut Vec<u8>, sink: &mut T) -> Result<(), ExportFault>
+    ensures written { Writes (T.held sink.old) (T.held sink.new) result
+        (moment_line moment ++ 10 ∷ []) }
+    ensures cause { HasExportCause (T.faults sink.old) (T.faults sink.new) result }
+{
+    put_moment(line, moment)?;
+    write_line(line, sink)
+}
+
+fn write_group<T: Sink>(
+    alloc: Global,
+    group: &WText,
+    line: &mut Vec<u8>,
+    sink: &mut T,
+) -> Result<(), ExportFault>
+    ensures written { Writes (T.held sink.old) (T.held sink.new) result
+        (group_line group.now ++ 10 ∷ []) }
+    ensures cause { HasExportCause (T.faults sink.old) (T.faults sink.new) result }
+{
+    put_group(alloc, line, group)?;
+    write_line(line, sink)
+}
+
+fn write_groups<T: Sink>(
+    alloc: Global,
+    groups: &[WText],
+    line: &mut Vec<u8>,
+    sink: &mut T,
+) -> Result<(), ExportFault>
+    ensures written { Writes (T.held sink.old) (T.held sink.new) result
+        (ended (map group_line groups.now)) }
+    ensures cause { HasExportCause (T.faults sink.old) (T.faults sink.new) result }
+{
+    for group in groups {
+        write_group(alloc, group, line, sink)?;
+    }
+    Ok(())
+}
+
+fn write_config<T: Sink>(
+    alloc: Global,
+    config: &Config,
+    line: &mut Vec<u8>,
+    sink: &mut T,
+) -> Result<(), ExportFault>
+    ensures written { Writes (T.held sink.old) (T.held sink.new) result
+        (config_line config.now ++ 10 ∷ []) }
+    ensures cause { HasExportCause (T.faults sink.old) (T.faults sink.new) result }
+{
+    put_config(alloc, line, config)?;
+    write_line(line, sink)
+}
+
+fn write_configs<T: Sink>(
+    alloc: Global,
+    configs: &[Config],
+    line: &mut Vec<u8>,
+    sink: &mut T,
+) -> Result<(), ExportFault>
+    ensures written { Writes (T.held sink.old) (T.held sink.new) result
+        (ended (map config_line configs.now)) }
+    ensures cause { HasExportCause (T.faults sink.old) (T.faults sink.new) result }
+{
+    for config in configs {
+        write_config(alloc, config, line, sink)?;
+    }
+    Ok(())
+}
+
+/// Writes what a manager begins with, in the line's room.
+pub fn write_head<T: Sink>(
+    alloc: Global,
+    opening: &Opening,
+    line: &mut Vec<u8>,
+    sink: &mut T,
+) -> Result<(), ExportFault>
+    ensures written { Writes (T.held sink.old) (T.held sink.new) result
+        (ended (head_lines opening.now)) }
+    ensures cause { HasExportCause (T.faults sink.old) (T.faults sink.new) result }
+{
+    write_limits(&opening.limits, line, sink)?;
+    write_moment(opening.moment, line, sink)?;
+    write_groups(alloc, opening.groups.as_slice(), line, sink)?;
+    write_configs(alloc, opening.configs.as_slice(), line, sink)
+}
