@@ -46,9 +46,17 @@ fn opened(alloc: Global, mut keeper: MemoryKeeper) -> Option<Opened<MemoryKeeper
         &mut keeper,
         Some("a"),
         0,
+        false,
     );
     match opened {
-        Ok(scm_restored::Opened { manager, journal }) => {
+        Ok(
+            scm_restored::Opened {
+                manager,
+                journal,
+                configs,
+            },
+        ) => {
+            drop(configs);
             match Book::new(alloc, manager, journal, keeper) {
                 Ok(opened) => Some(opened),
                 Err(keeper) => {

@@ -15,11 +15,12 @@ pub record IsUnmoved (limits : Limits) (m : Managed) : Type 0 where
   pub steps : m.steps ≡ 0
   pub text : m.text ≡ 0
 
--- a manager opens with the configurations of a journal that was read, unless there was no memory
+-- a manager opens with the configurations of a journal that was read, of which a copy is returned if any is, unless there was no memory
 -- for it; if the journal was not read, its fault is returned
 abbrev pub Manages : Limits → (groups : List (List ℕ)) (moment : ℕ) → Result Restored JournalFault → Result Opened JournalFault → Type 0
 Manages limits groups moment (Ok journal) (Ok opened) =
     (opened.manager.flat ≡ opening limits groups journal.configs moment) × (opened.journal ≡ journal.journal)
+    × IfSome opened.configs (λ configs. configs ≡ journal.configs)
 Manages limits groups moment (Ok journal) (Err faults.OutOfMemory) = Unit {0}
 Manages limits groups moment (Ok journal) (Err fault) = ⊥
 Manages limits groups moment (Err fault) (Ok opened) = ⊥

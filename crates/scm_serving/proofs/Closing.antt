@@ -29,7 +29,7 @@ short_where history services ends.OutOfMemory end t enough = absurd (false≢tru
 ends_as : (o : Opening) (history : List Entry) (a a' u u' : Told) (how : ServeEnd) (end : BookEnd)
     → IsTold history (length (state o.limits o.first history).services) how end
     → EndsAll how a a' u u' → EndsAs o history a a' u u' end
-ends_as o history a a' u u' ends.Ended (Ended text) t e = (t, e)
+ends_as o history a a' u u' ends.Ended (Ended text trail) t e = (t.0, t.1, e)
 ends_as o history a a' u u' ends.Ended ListenFault t e = absurd cc
 ends_as o history a a' u u' ends.Ended OutOfMemory t e = (inl e.0, inl e.1)
 ends_as o history a a' u u' ends.ListenFault end t e = subst (EndsAs o history a a' u u') (sym t) e

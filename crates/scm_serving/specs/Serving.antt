@@ -25,15 +25,16 @@ abbrev pub lacked_memory : BookEnd → Bool
 lacked_memory OutOfMemory = true
 lacked_memory end = false
 
--- how serving ended; the text that is returned is the summary
+-- how serving ended; at its end the history is returned, and its summary
 abbrev pub EndsAs : Opening → List Entry → (a a' u u' : Told) → BookEnd → Type 0
-EndsAs o history a a' u u' (Ended text) = (text ≡ summary_of o history) × EndsAll ends.Ended a a' u u'
+EndsAs o history a a' u u' (Ended text trail) =
+    (text ≡ summary_of o history) × (trail.entries ≡ history) × EndsAll ends.Ended a a' u u'
 EndsAs o history a a' u u' ListenFault = EndsAll ends.ListenFault a a' u u'
 EndsAs o history a a' u u' OutOfMemory = EndsAll ends.OutOfMemory a a' u u'
 
 -- what is returned for how serving ended, over a history that left so many services
 abbrev pub IsTold : List Entry → (services : ℕ) → ServeEnd → BookEnd → Type 0
-IsTold history services ends.Ended (Ended text) = text ≡ summary history services
+IsTold history services ends.Ended (Ended text trail) = (text ≡ summary history services) × (trail.entries ≡ history)
 IsTold history services ends.ListenFault end = end ≡ ListenFault
 IsTold history services fault end = end ≡ OutOfMemory
 

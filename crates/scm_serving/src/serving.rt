@@ -26,8 +26,8 @@ use std::time;
 /// How a server over a book of its own ended.
 #[derive(Drop)]
 pub enum BookEnd {
-    /// Both listeners are closed. This is the summary of the whole history.
-    Ended(Items<u8>),
+    /// Both listeners are closed. The summary is that of the whole history.
+    Ended { summary: Items<u8>, history: Trail },
     /// A listener failed.
     ListenFault,
     /// There was no memory for the book, for a connection or for the summary.
@@ -45,17 +45,19 @@ pub struct BookServed<K: Keeper, N, P> {
 }
 
 /// How a server ended over a book with this history, which left so many services.
-fn book_end(alloc: Global, end: ServeEnd, trail: &Trail, services: u64) -> BookEnd
-    ensures { IsTold trail.now.entries services end result }
+fn book_end(alloc: Global, end: ServeEnd, history: Trail, services: u64) -> BookEnd
+    ensures { IsTold history.entries services end result }
 {
-    match end {
-        ServeEnd::Ended => match summary_of(alloc, trail, services) {
-            Ok(text) => BookEnd::Ended(text),
+    let fault = match end {
+        ServeEnd::Ended => match summary_of(alloc, &history, services) {
+            Ok(summary) => return BookEnd::Ended { summary, history },
             Err(OutOfMemory) => BookEnd::OutOfMemory,
         },
         ServeEnd::ListenFault => BookEnd::ListenFault,
         ServeEnd::OutOfMemory => BookEnd::OutOfMemory,
-    }
+    };
+    drop(history);
+    fault
 }
 
 /// Closes the book after its last pass, and sums its history up.
@@ -83,8 +85,7 @@ fn closed<R: Wait, K: Keeper, N, P>(
         keeper,
         services,
     } = book.close(rt, last);
-    let end = book_end(alloc, end, &trail, services);
-    drop(trail);
+    let end = book_end(alloc, end, trail, services);
     BookServed {
         end,
         keeper,

@@ -1,8 +1,9 @@
 //! `scmd`: the service control manager. `scmd pipe` serves one connection of svcctl from its input
 //! to its output, `scmd replay` makes the steps that stand in the lines of its input and answers
-//! them, `scmd generate N` prints the summary of a stated list of steps, and `scmd serve` serves
-//! the connections of two ports of the loopback. `scmd compact` makes the journal in a store as
-//! short as it can be, and `scmd move` moves a journal from a plain file to a store.
+//! them, `scmd audit` says whether its input is a legal history, `scmd generate N` prints the
+//! summary of a stated list of steps, and `scmd serve` serves the connections of two ports of the
+//! loopback. `scmd compact` makes the journal in a store as short as it can be, and `scmd move`
+//! moves a journal from a plain file to a store.
 #![tactic(auto)]
 
 use child_link::{Feed, Link};

@@ -110,6 +110,14 @@ const ROWS: &[Run] = &[
         told: FINDS_NONE,
         ..KEEPS_NOTHING
     },
+    Run {
+        words: "serve --admin 135 --user 139 --db journal --export",
+        stands: A_AND_B,
+        asked: EXPORTS_BOTH,
+        told: EXPORTS_BOTH,
+        kept: Some(A_AND_B),
+        ..KEEPS_NOTHING
+    },
     // What starts by itself is due at the opening, and where nothing is ticked it doesn't start.
     Run {
         words: "replay --db journal",
@@ -209,6 +217,14 @@ manager
                      | open h1 'B' 4 | h2 0
 stopped, never began | status h2     | 16 1 0 1077 0 0 0 0
                      | open h1 'A' 4 | h3 0
+";
+
+const EXPORTS_BOTH: &str = "|| limits 1024 1024 64 64 128 16 16777216 268435456; moment 7
+|| config 010000004100010000004100100000000300000001000000020000002f00610000000000\
+000000000000000000000000000000000000000000000000000000000000
+|| config 010000004200010000004200100000000300000001000000020000002f00610000000000\
+000000000000000000000000000000000000000000000000000000000000
+|| steps 0; services 2
 ";
 
 const FINDS_NONE: &str = "bind

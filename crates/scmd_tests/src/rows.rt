@@ -1208,6 +1208,72 @@ runs
 = 6 replay: a line without its line feed
 | join admin           | caller 1
 | hex 3020676f6e652031 |
+= 0 audit: a legal history
+| limits 1024 1024 64 64 128 16 16777216 268435456 |
+| moment 0                                         |
+| 0 join admin; = caller 1                         |
+| 0 gone 1; = done                                 | legal 2
+= 14 audit: another answer
+| limits 1024 1024 64 64 128 16 16777216 268435456 |
+| moment 0                                         |
+| 0 join admin; = caller 2                         |
+| 0 gone 1; = done                                 | line 4
+= 14 audit: a caller who isn't there
+| limits 1024 1024 64 64 128 16 16777216 268435456 |
+| moment 0                                         |
+| 0 join admin; = caller 1                         |
+| 0 gone 2; = done                                 | line 5
+= 0 audit: calls
+| limits 1024 1024 64 64 128 16 16777216 268435456; moment 7 |
+| 7 join admin; = caller 1                                   |
+| 7 call 1 15 000000000000000000000000                       |
+| = reply 000000000100000000000000000000000000000000000000   |
+| 7 call 1 0 0000000001000000000000000000000000000000        |
+| = reply 000000000000000000000000000000000000000000000000   |
+| 7 gone 1; = done                                           | legal 4
+= 14 audit: a number with a zero before it
+| limits 1024 1024 64 64 128 16 16777216 268435456; moment 7 |
+| 07 join admin                                              | line 3
+= 0 audit: a moment before the last one
+| limits 1024 1024 64 64 128 16 16777216 268435456; moment 7 |
+| 6 join admin; = caller 1                                   | legal 1
+= 0 audit: nothing happened
+| limits 1 1 1 1 1 1 1 1; moment 18446744073709551615 | legal 0
+= 0 audit: groups and services
+| limits 1024 1024 64 64 128 16 16777216 268435456; moment 7; group 4100; group 62006300     |
+| config 010000004100010000004100100000000300000001000000020000002f00610000000000\
+000000000000000000000000000000000000000000000000000000000000                                |
+| 7 join user; = caller 1                                                                   |
+| 7 gone 1; = done                                                                          | legal 2
+= 14 audit: a name twice
+| limits 1024 1024 64 64 128 16 16777216 268435456; moment 7                                |
+| config 010000004100010000004100100000000300000001000000020000002f00610000000000\
+000000000000000000000000000000000000000000000000000000000000                                |
+| config 010000004100010000004100100000000300000001000000020000002f00610000000000\
+000000000000000000000000000000000000000000000000000000000000                                | line 4
+= 14 audit: a greater limit than the program's
+| limits 1025 1024 64 64 128 16 16777216 268435456 | line 1
+= 14 audit: a failed append of a call that changes nothing
+| limits 1024 1024 64 64 128 16 16777216 268435456 |
+| moment 0                                         |
+| 0 join admin; = caller 1                         |
+| 0 failcall 1 15 000000000000000000000000         | line 5
+= 14 audit: an order that nobody wanted
+| limits 1024 1024 64 64 128 16 16777216 268435456 |
+| moment 0                                         |
+| 0 take                                           | line 3
+= 6 audit: no moment
+| limits 1024 1024 64 64 128 16 16777216 268435456 |
+= 6 audit: no answer
+| limits 1024 1024 64 64 128 16 16777216 268435456 |
+| moment 0; 0 join admin                           |
+= 6 audit: a line without its line feed
+| limits 1024 1024 64 64 128 16 16777216 268435456 |
+| moment 0                                         |
+| hex 30                                           |
+= 6 audit: nothing
+= 5 audit journal: a word too many
+= 5 audit --db journal: no option of an audit
 = 0 generate 1: one service
 || steps 11; services 1; launches 1; running 0
 = 0 generate 2: two, with their needs
@@ -1237,6 +1303,20 @@ runs
 || steps 0; services 0
 = 0 serve --admin 135 --groups=A --user 139: one group
 || steps 0; services 0
+= 0 serve --admin 135 --user 139 --export: nothing happened
+|| limits 1024 1024 64 64 128 16 16777216 268435456; moment 7; steps 0; services 0
+= 0 serve --export --groups A,bc --admin=135 --user=139: groups
+|| limits 1024 1024 64 64 128 16 16777216 268435456; moment 7; group 4100; group 62006300
+|| steps 0; services 0
+= 5 serve --admin 135 --user 139 --export=yes: it has no value
+= 5 serve --admin 135 --user 139 --export yes: it has no value
+= 5 serve --admin 135 --user 139 --export --export: twice
+= 5 serve --admin 135 --user 139 --db --export: another option
+= 5 serve --export: no port
+= 5 pipe --export: no option of a pipe
+= 5 replay --export: no option of a replay
+= 5 generate 1 --export: a word too many
+= 5 audit --export: a word too many
 = 5 pipe --db: no file
 = 5 pipe --db=: no file
 = 5 pipe --db -a: another option

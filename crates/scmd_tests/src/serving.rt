@@ -5,6 +5,17 @@ use record_journal::Fate;
 /// What the server writes once it has served both.
 const SUMMARY: &str = "|| steps 8; caller 1 calls 2; caller 2 calls 2; services 0";
 
+/// What a server exports that served an administrator alone.
+const EXPORTED: &str = "|| limits 1024 1024 64 64 128 16 16777216 268435456; moment 7
+|| 7 join admin; = caller 1
+|| 7 call 1 15 000000000000000000000000
+|| = reply 000000000100000000000000000000000000000000000000
+|| 7 call 1 0 0000000001000000000000000000000000000000
+|| = reply 000000000000000000000000000000000000000000000000
+|| 7 gone 1; = done
+|| steps 4; caller 1 calls 2; services 0
+";
+
 const SERVED: Port = Port::Comes {
     come: 1,
     served: 1,
@@ -37,6 +48,14 @@ const SERVER: Run = Run {
     admin: SERVED,
     user: SERVED,
     ..PIPE
+};
+
+/// One that is to export its history.
+const EXPORTER: Run = Run {
+    words: "serve --admin 135 --user 139 --export",
+    asked: EXPORTED,
+    user: Port::Idle,
+    ..SERVER
 };
 
 pub const SERVERS: &[Run] = &[
@@ -80,6 +99,16 @@ pub const SERVERS: &[Run] = &[
         writes: &[true],
         status: 2,
         ..SERVER
+    },
+    Run {
+        told: EXPORTED,
+        ..EXPORTER
+    },
+    // A front is written.
+    Run {
+        writes: &[true, false],
+        status: 2,
+        ..EXPORTER
     },
     // The journal isn't opened.
     Run {

@@ -1,5 +1,5 @@
 -- What a status says of a compaction and a move.
-use Rattle.std.proofs.Common.{ℕ, ◌≡◌, ◌≢◌, ◌∙◌, inl, inr, Ok, Err, refl, sym, subst}
+use Rattle.std.proofs.Common.{ℕ, ◌≡◌, ◌≢◌, inr, Ok, Err, refl, sym, subst}
 use Rattle.std.specs.Prelude.{Result}
 use Rattle.record_journal.specs.Keepers.{SettledSince, Settles}
 use Rattle.record_journal.specs.declared.keeper.KeepFault.TheVariants as keeps

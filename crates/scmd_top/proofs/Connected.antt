@@ -1,5 +1,5 @@
 -- A connection over a book of its own, behind the opening of its journal.
-use Rattle.std.proofs.Common.{ℕ, ◌≡◌, ◌≢◌, ◌≤◌, ◌∙◌, ◌⊎◌, Bool, inl, inr, refl, sym, ap, subst, List, [], length, take, Option, None, Some}
+use Rattle.std.proofs.Common.{ℕ, ◌≡◌, ◌≢◌, ◌∙◌, ◌⊎◌, Bool, inl, inr, refl, sym, ap, subst, List, [], length, Option, None, Some}
 use Rattle.std.proofs.Common.{arith}
 use Rattle.std.specs.Prelude.{IfSome}
 use Rattle.outside.specs.Causes.{Rose}
@@ -9,7 +9,6 @@ use Rattle.scm_model.specs.declared.flat.Principal.{Principal}
 use Rattle.scm_model.specs.declared.steps.Change.{Change}
 use Rattle.scm_model.specs.declared.steps.Form.{Form}
 use Rattle.scm_model.specs.Entries.{Entry}
-use Rattle.scm_core.specs.Managed.{Managed}
 use Rattle.scm_history.specs.Kept.{kept_changes}
 use Rattle.scm_history.proofs.Kept.{law_of_kept}
 use Rattle.record_journal.specs.Bearing.{Bears, Stood, and_changes, stood_in}
@@ -19,12 +18,11 @@ use Rattle.record_journal.specs.declared.opening.JournalFault.{JournalFault}
 use Rattle.record_journal.specs.declared.replaying.Replay.{Replay}
 use Rattle.scm_book.specs.Holds.{RoseBy, failures_in}
 use Rattle.rpc_session.specs.Items.{StreamEnd, AtRest, Unfinished, BadPdu, TooLong, items}
-use Rattle.conn_desk.specs.Connection.{IsServedFor}
 use Rattle.conn_desk.specs.declared.served.Served.{Served}
 use Rattle.conn_desk.specs.declared.served.Served.TheVariants as served
 use Rattle.conn_worker.specs.Complete.{IsComplete as EndsAsItsInput, EndsAs as EndsSo, FindsRoom, EndsOrLacks as IsDue, end_as}
 use Rattle.scm_pipe.specs.declared.alone.Piped.{Piped}
-use Rattle.scm_pipe.specs.Piping.{HasRoomForAll, IsEnd, IsKept, IsUnjoined, begun_with}
+use Rattle.scm_pipe.specs.Piping.{HasRoomForAll, IsEnd, IsKept, begun_with}
 use Rattle.scm_restored.specs.declared.Opened.{Opened}
 use Rattle.scmd_top.specs.Opening.{FailsToOpen, HasOpened, IsCut, IsUnopened, kept_front, program_opening, status_of_fault}
 use Rattle.scmd_top.specs.Pipe.{EndsAs, HasCome, HasNotJoined, HasPiped, HasRoomAlways, IsComplete, IsOrFails, KeepsJournal, pipe_status}

@@ -1,6 +1,6 @@
 -- No job has the status of words that are none.
-use Rattle.std.proofs.Common.{Bool, true, false, ℕ, ◌≡◌, ◌≢◌, ◌∙◌, List, inl, inr, sym, Ok, Err}
-use Rattle.std.specs.Prelude.{Result}
+use Rattle.std.proofs.Common.{Bool, true, false, ℕ, ◌≡◌, ◌≢◌, ◌∙◌, List, Option, inl, inr, sym, Ok, Err}
+use Rattle.std.specs.Prelude.{Result, codes}
 use Rattle.record_journal.specs.declared.keeper.KeepFault.TheVariants as keeps
 use Rattle.record_journal.specs.declared.opening.JournalFault.{JournalFault}
 use Rattle.scm_compacted.specs.declared.moving.MoveFault.{MoveFault}
@@ -12,11 +12,16 @@ use Rattle.scm_generate.specs.declared.generated.Generated.TheVariants as printe
 use Rattle.scm_replay.specs.declared.replayed.Replayed.{Replayed}
 use Rattle.scm_replay.specs.declared.replayed.Replayed.TheVariants as answered
 use Rattle.scmd_top.specs.declared.words.Job.{Job}
-use Rattle.scmd_top.specs.declared.words.Job.TheVariants.{Pipe, Replay, Generate, Serve}
+use Rattle.scmd_top.specs.declared.words.Job.TheVariants.{Audit, Pipe, Replay, Generate, Serve}
+use Rattle.trail_audit.specs.declared.audited.Audited.{Audited}
+use Rattle.trail_audit.specs.declared.audited.Audited.TheVariants as audited
+use Rattle.scm_summary.specs.Lines.{numbered}
+use Rattle.scmd_top.specs.Auditing.{HasVerdict, IsPrinted}
 use Rattle.scmd_top.specs.Jobs.{HasAnswered, HasReplayed, HasRun, status_of_generate, status_of_replay}
 use Rattle.scmd_top.specs.Opening.{HasNotOpened}
 use Rattle.scmd_top.specs.Pipe.{status_of}
 use Rattle.scmd_top.proofs.Openings.{not_of_fault}
+use Rattle.opening_lines.specs.declared.opening.Opening.{Opening as Beginning}
 use Rattle.scm_serving.specs.declared.serving.BookEnd.{BookEnd}
 use Rattle.scm_serving.specs.declared.serving.BookEnd.TheVariants.{Ended, ListenFault, OutOfMemory}
 use Rattle.scmd_top.specs.Serving.{HasSummary}
@@ -48,14 +53,28 @@ not_of_generate printed.Ended = λ e. cc
 not_of_generate printed.WriteFault = λ e. cc
 not_of_generate printed.OutOfMemory = λ e. cc
 
+not_printed : (text : List ℕ) (due : ℕ) (output : Side) (status : ℕ) → due ≢ 5 → IsPrinted text due output status → status ≢ 5
+not_printed text due output status other (inl p) = λ e. other (sym p.0 ∙ e)
+not_printed text due output status other (inr (inl p)) = λ e. absurd (cc (p.0, e))
+not_printed text due output status other (inr (inr p)) = λ e. absurd (cc (p.0, e))
+
+not_of_audit : (how : Audited) (output : Side) (status : ℕ) → HasVerdict how output status → status ≢ 5
+not_of_audit (audited.Legal entries) output status v = not_printed (numbered (codes "legal ") entries) 0 output status (λ e. cc) v
+not_of_audit (audited.NotLegal line) output status v = not_printed (numbered (codes "line ") line) 14 output status (λ e. cc) v
+not_of_audit audited.ReadFault output status v = λ e. absurd (cc (v.0, e))
+not_of_audit audited.Truncated output status v = λ e. absurd (cc (v.0, e))
+not_of_audit audited.OutOfMemory output status v = λ e. absurd (cc (v.0, e))
+not_of_audit audited.Worn output status v = λ e. absurd (cc (v.0, e))
+
 not_10 : (status : ℕ) → status ≡ 10 → status ≢ 5
 not_10 status is = λ e. cc
 
-not_of_serve : (end : BookEnd) (output : Side) (status : ℕ) → HasSummary end output status → status ≢ 5
-not_of_serve (Ended text) output status (inl h) = λ e. absurd (cc (h.0, e))
-not_of_serve (Ended text) output status (inr h) = λ e. absurd (cc (h.0, e))
-not_of_serve OutOfMemory output status h = λ e. absurd (cc (h.0, e))
-not_of_serve ListenFault output status h = not_10 status h.0
+not_of_serve : (begun : Option Beginning) (end : BookEnd) (output : Side) (status : ℕ) → HasSummary begun end output status → status ≢ 5
+not_of_serve begun (Ended text trail) output status (inl h) = λ e. absurd (cc (h.0, e))
+not_of_serve begun (Ended text trail) output status (inr (inl h)) = λ e. absurd (cc (h.0, e))
+not_of_serve begun (Ended text trail) output status (inr (inr h)) = λ e. absurd (cc (h.0, e))
+not_of_serve begun OutOfMemory output status h = λ e. absurd (cc (h.0, e))
+not_of_serve begun ListenFault output status h = not_10 status h.0
 
 not_answered : (path : Bool) (s : Sides) (status : ℕ) → HasAnswered path s status → status ≢ 5
 not_answered path s status h = λ e. not_of_replay h.how (sym h.status_is ∙ e)
@@ -74,9 +93,10 @@ not_5 tells path groups (Pipe principal) s p status (inl h) = λ e. not_of_pipe 
 not_5 tells path groups (Pipe principal) s p status (inr h) = not_opened path s status h
 not_5 tells path groups Replay s p status h = not_replayed path s status h
 not_5 tells path groups (Generate services) s p status h = λ e. not_of_generate h.0.how (sym h.0.status_is ∙ e)
-not_5 tells path groups (Serve admin user) s p status (inl h, untouched) = not_of_serve h.end s.output status h.written
-not_5 tells path groups (Serve admin user) s p status (inr (inl h), untouched) = not_10 status h.status_is
-not_5 tells path groups (Serve admin user) s p status (inr (inr h), untouched) = not_opened path s status h.0
+not_5 tells path groups Audit s p status h = not_of_audit h.0.how s.output status h.0.verdict
+not_5 tells path groups (Serve admin user export) s p status (inl h, untouched) = not_of_serve h.begun h.end s.output status h.written
+not_5 tells path groups (Serve admin user export) s p status (inr (inl h), untouched) = not_10 status h.status_is
+not_5 tells path groups (Serve admin user export) s p status (inr (inr h), untouched) = not_opened path s status h.0
 
 -- ## Modes
 

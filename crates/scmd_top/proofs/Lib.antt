@@ -2,9 +2,11 @@ mod Ends
 mod Openings
 mod Again
 mod Replays
+mod Audits
 mod Connected
 mod Summaries
 mod Options
 mod Served
+mod Writing
 mod Named
 mod ByStatus

@@ -1,7 +1,7 @@
 -- The opening of a run, and what is said where there is none.
 use Rattle.std.proofs.Common.{ℕ, ◌≡◌, ◌≢◌, ◌≤◌, ◌∙◌, ◌⊎◌, Bool, true, false, inl, inr, refl, sym, ap, subst, List, [], ◌∷◌, append-nil}
 use Rattle.std.proofs.Common.{length, take, Option, None, Some, Result, Ok, Err, arith}
-use Rattle.std.specs.Prelude.{IfOk, IfSome, IsErrOf, OnOk}
+use Rattle.std.specs.Prelude.{IfOk, IfSome, IsErrOf, OnOk, is_some}
 use Rattle.std.specs.Io.KnownBytes.{Keeps}
 use Rattle.outside.specs.Causes.{Rose}
 use Rattle.scm_model.specs.declared.flat.Config.{Config}
@@ -14,16 +14,18 @@ use Rattle.scm_rules.specs.Opening.{CanOpen, IsOpening, opening}
 use Rattle.scm_kept.specs.Replayed.{unmarked}
 use Rattle.scm_kept.proofs.Opened.{of_opening}
 use Rattle.record_journal.specs.Bearing.{Bears, stood_in}
-use Rattle.record_journal.specs.Keepers.{IsEmptied, SettledSince, Settles}
+use Rattle.record_journal.specs.Keepers.{IsEmptied, Settles}
 use Rattle.record_journal.specs.Opening.{Restores, LeavesAt, LeavesAll}
 use Rattle.record_journal.specs.declared.journal.Journal.{Journal}
 use Rattle.record_journal.specs.declared.opening.JournalFault.{JournalFault}
 use Rattle.record_journal.specs.declared.opening.JournalFault.TheVariants as faults
 use Rattle.record_journal.specs.declared.opening.Restored.{Restored}
+use Rattle.record_journal.specs.declared.replaying.Replay.{Replay}
 use Rattle.scm_restored.specs.Restored.{Comes, IsUnmoved, Manages}
 use Rattle.scm_restored.specs.declared.Opened.{Opened}
-use Rattle.scmd_top.specs.Opening.{FailsToOpen, HasOpened, IsCut, IsDamaged, IsJournalLeft, IsNew, IsOpenable, IsUnopened, OpensJournal}
-use Rattle.scmd_top.specs.Opening.{LeavesSettled, OpensSettled, program_opening, status_of_fault}
+use Rattle.opening_lines.specs.declared.opening.Opening.{Opening as Beginning}
+use Rattle.scmd_top.specs.Opening.{FailsToOpen, HasBegun, HasOpened, IsCut, IsDamaged, IsNew, IsOpenable, IsRead, IsUnopened}
+use Rattle.scmd_top.specs.Opening.{LeavesSettled, OpensJournal, OpensSettled, beginning_if, beginning_of, program_opening, status_of_fault}
 use Rattle.scmd_top.specs.Sides.{Side}
 use Rattle.scmd_top.specs.Statuses.{program_limits}
 
@@ -70,15 +72,18 @@ begins_empty m groups moment new =
     subst (λ (l : Limits). IsOpening l m.flat) (sym new.limits)
     (record { groups = groups; configs = []; moment = moment; can = opens_with_nothing program_limits; is = new.flat })
 
-pub opens_empty_at : (keeper : Side) (groups : List (List ℕ)) (moment : ℕ) (m : Managed) (j : Journal) → j ≡ empty_journal
-    → IsEmptied keeper.told keeper.told_now → keeper.faults_now ≡ keeper.faults → IsNew groups [] moment m
-    → OpensJournal false groups keeper moment (Ok (record { manager = m; journal = j }))
-opens_empty_at keeper groups moment m j is e same new = record {
+pub opens_empty_at : (keeper : Side) (groups : List (List ℕ)) (moment : ℕ) (m : Managed) (j : Journal) (copy : Option (List Config))
+    → j ≡ empty_journal → IsEmptied keeper.told keeper.told_now → keeper.faults_now ≡ keeper.faults → IsNew groups [] moment m
+    → IfSome copy (λ configs. configs ≡ [])
+    → OpensJournal false groups keeper moment (Ok (record { manager = m; journal = j; configs = copy }))
+opens_empty_at keeper groups moment m j copy is e same new copied = record {
   replay = record { configs = []; kept = 0; form = Second };
   read = refl;
   new = new;
   begins = begins_empty m groups moment new;
   cut = emptied_cut keeper.told keeper.told_now e;
+  emptied = e;
+  copied = copied;
   form = ap (λ (x : Journal). x.form) is;
   bears = subst (λ (x : Journal). Bears (stood_in x.form keeper.told_now) x keeper.told_now) (sym is)
       (emptied_bears keeper.told keeper.told_now e);
@@ -122,6 +127,8 @@ opened_so keeper groups moment o (Ok r) a l m begins u b same = record {
   new = record { flat = m.0; limits = u.limits_are; steps = u.steps; text = u.text };
   begins = subst (λ (l : Limits). IsOpening l o.manager.flat) (sym u.limits_are) begins;
   cut = cut_so keeper.told keeper.told_now r l;
+  emptied = tt;
+  copied = m.2;
   form = ap (λ (x : Journal). x.form) m.1;
   bears = b;
   faults = same;
@@ -188,6 +195,48 @@ pub untouched_so : (keeper : Side) (groups : List (List ℕ)) (moment : ℕ) →
     → OpensJournal true groups keeper moment (Err faults.OutOfMemory)
 untouched_so keeper groups moment same = subst (λ (now : Option (List ℕ)). LeavesAll keeper.told now (Err faults.Failed)) (sym same)
     (left_untouched keeper.told)
+
+-- ## What is told of an opening
+
+-- what an opening left is what is left where there is no memory for more
+cut_left : (told now : Option (List ℕ)) (replay : Replay) → IsRead true told replay → IsCut replay.kept told now
+    → LeavesAll told now (Err faults.Failed)
+cut_left None now replay read cut = tt
+cut_left (Some bytes) None replay read cut = absurd cc
+cut_left (Some bytes) (Some now) replay read cut =
+    let same : now ≡ take replay.kept bytes = cc in
+    inr (replay, read, same)
+
+pub lacks_more : (path : Bool) (groups : List (List ℕ)) (keeper : Side) (moment : ℕ) (o : Opened) → HasOpened path groups keeper moment o
+    → IsUnopened path keeper faults.OutOfMemory
+lacks_more false groups keeper moment o h = h.emptied
+lacks_more true groups keeper moment o h = cut_left keeper.told keeper.told_now h.replay h.read h.cut
+
+beginning_so : (groups : List (List ℕ)) (copy : Option (List Config)) (configs : List Config) (moment : ℕ) (export : Bool)
+    → is_some copy ≡ export → IfSome copy (λ c. c ≡ configs) → beginning_of groups copy moment ≡ beginning_if export groups configs moment
+beginning_so groups None configs moment export is same = ap (λ (b : Bool). beginning_if b groups configs moment) is
+beginning_so groups (Some copy) configs moment export is same =
+    ap (λ (cs : List Config). beginning_of groups (Some cs) moment) same
+    ∙ ap (λ (b : Bool). beginning_if b groups configs moment) is
+
+pub has_begun : (export path : Bool) (groups : List (List ℕ)) (keeper : Side) (moment : ℕ) (o : Opened) (begun : Option Beginning)
+    → HasOpened path groups keeper moment o → is_some o.configs ≡ export → begun ≡ beginning_of groups o.configs moment
+    → HasBegun export path groups keeper moment (record { manager = o.manager; journal = o.journal; opening = begun })
+has_begun export path groups keeper moment o begun h is e = record {
+  opened = record {
+    replay = h.replay;
+    read = h.read;
+    new = h.new;
+    begins = h.begins;
+    cut = h.cut;
+    emptied = h.emptied;
+    copied = tt;
+    form = h.form;
+    bears = h.bears;
+    faults = h.faults;
+  };
+  known = e ∙ beginning_so groups o.configs h.replay.configs moment export is h.copied;
+}
 
 -- ## A run without one
 

@@ -1,14 +1,13 @@
 -- Options, word by word.
-use Rattle.std.proofs.Common.{ℕ, ◌≡◌, ◌∙◌, ◌<◌, Bool, true, false, cond, List, [], ◌∷◌, Option, None, Some, length, drop, get_or, refl, sym}
-use Rattle.std.proofs.Common.{ap, suc, arith, add-one, drop-cons}
+use Rattle.std.proofs.Common.{ℕ, ◌≡◌, ◌<◌, true, false, List, Option, None, Some, length, refl}
+use Rattle.std.proofs.Common.{arith}
 use Rattle.std.specs.Prelude.{nat_lt}
 use Rattle.std.specs.Borrow.{Bor}
 use Rattle.std.specs.List.{after_first, before_first, position_or_len}
 use Rattle.std.specs.Option.{MatchOption}
 use Rattle.std.proofs.lemmas.Str.Pattern.{IsSplitOnceResult, split_once_first}
 use Rattle.scmd_top.specs.Parts.{IsParts}
-use Rattle.scmd_top.specs.Settings.{is_equals, named_value, options_from}
-use Rattle.scmd_top.specs.declared.settings.Settings.{Settings}
+use Rattle.scmd_top.specs.Settings.{is_equals, named_value}
 
 not_below : (n : ℕ) → nat_lt n n ≡ false
 not_below n = grind arith

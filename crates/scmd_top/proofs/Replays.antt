@@ -1,5 +1,5 @@
 -- A replay without faults ends with the status of its input, or for want of memory.
-use Rattle.std.proofs.Common.{[], ◌∷◌, ◌≤◌, subst, ℕ, ◌≡◌, inl, inr, ◌⊎◌, Bool, true, false, ◌<◌, ◌^◌, List, ◌++◌, length, Option, None}
+use Rattle.std.proofs.Common.{[], ◌∷◌, ◌≤◌, subst, ℕ, ◌≡◌, inl, inr, ◌⊎◌, true, false, ◌<◌, ◌^◌, List, ◌++◌, length, Option, None}
 use Rattle.std.proofs.Common.{Some, refl, sym, ap, ◌∙◌, append_assoc, arith}
 use Rattle.std.specs.Prelude.{IfSome}
 use Rattle.outside.specs.Causes.{Rose}
@@ -15,9 +15,9 @@ use Rattle.scm_replay.specs.Replay.{TextEnd, AtRest, Unfinished, BadLine, EndsBa
 use Rattle.scm_replay.specs.Replay.{IsReplayCaused, replay_told}
 use Rattle.scm_replay.specs.declared.replayed.Replayed.{Replayed}
 use Rattle.scm_replay.specs.declared.replayed.Replayed.TheVariants as answered
-use Rattle.scmd_top.specs.Jobs.{EndsAsLines, EndsOver, HasAllReplayed, HasAnswered, HasReplayed, LeavesReplayed, program_start}
+use Rattle.scmd_top.specs.Jobs.{EndsAsLines, EndsOver, HasAllReplayed, HasReplayed, LeavesReplayed, program_start}
 use Rattle.scmd_top.specs.Jobs.{status_behind, status_of_replay}
-use Rattle.scmd_top.specs.Opening.{FailsToOpen, HasNotOpened, HasOpened, IsNew, IsOpenable, IsUnopened, program_opening, status_of_fault}
+use Rattle.scmd_top.specs.Opening.{FailsToOpen, HasOpened, IsNew, IsOpenable, IsUnopened, program_opening, status_of_fault}
 use Rattle.scmd_top.specs.Sides.{IsUntouched, Side, Sides}
 use Rattle.scmd_top.specs.Statuses.{program_limits}
 use Rattle.scmd_top.proofs.Openings.{fails, openable}

@@ -16,7 +16,8 @@ use Rattle.scm_model.specs.declared.flat.Config.{Config}
 use Rattle.record_journal.specs.declared.replaying.Replay.{Replay as Restoring}
 use Rattle.scmd_top.specs.Opening.{FailsToOpen, HasNotOpened, IsCut, IsOpenable, LeavesSettled, program_opening}
 use Rattle.scmd_top.specs.declared.words.Job.{Job}
-use Rattle.scmd_top.specs.declared.words.Job.TheVariants.{Pipe, Replay, Generate, Serve}
+use Rattle.scmd_top.specs.declared.words.Job.TheVariants.{Audit, Pipe, Replay, Generate, Serve}
+use Rattle.scmd_top.specs.Auditing.{HasAllAudited, HasAudited}
 use Rattle.scmd_top.specs.Pipe.{HasPiped, IsComplete}
 use Rattle.scmd_top.specs.Serving.{HasServed, IsServingComplete as IsServed}
 use Rattle.scmd_top.specs.Sides.{IsUntouched, LeavesPorts, Ports, Side, Sides}
@@ -82,7 +83,9 @@ abbrev pub HasRun : (tells : ℕ → Type 0) → (path : Bool) → (groups : Lis
 HasRun tells path groups (Pipe principal) s p status = HasPiped tells path principal s status
 HasRun tells path groups Replay s p status = HasReplayed path s status
 HasRun tells path groups (Generate services) s p status = HasPrinted services s.output status × IsUntouched s.input × IsUntouched s.keeper
-HasRun tells path groups (Serve admin user) s p status = HasServed tells path groups admin user s p status × IsUntouched s.input
+HasRun tells path groups Audit s p status = HasAudited s status × IsUntouched s.keeper
+HasRun tells path groups (Serve admin user export) s p status =
+    HasServed tells path groups export admin user s p status × IsUntouched s.input
 
 -- no other jobs than a pipe and a server touch the keeper, and a replay over what stands under a path
 abbrev pub LeavesKeeper : {K : Type 0} → (path : Bool) → Job → (keeper now : K) → Type 0
@@ -90,7 +93,8 @@ LeavesKeeper path (Pipe principal) keeper now = Unit {0}
 LeavesKeeper false Replay keeper now = now ≡ keeper
 LeavesKeeper true Replay keeper now = Unit {0}
 LeavesKeeper path (Generate services) keeper now = now ≡ keeper
-LeavesKeeper path (Serve admin user) keeper now = Unit {0}
+LeavesKeeper path Audit keeper now = now ≡ keeper
+LeavesKeeper path (Serve admin user export) keeper now = Unit {0}
 
 -- those leave the keeper settled, unless it failed
 abbrev pub SettlesKeeper : (path : Bool) → Job → (old : Type 0) → (before now status : ℕ) → (settled : Type 0) → Type 0
@@ -98,11 +102,12 @@ SettlesKeeper path (Pipe principal) old before now status settled = LeavesSettle
 SettlesKeeper false Replay old before now status settled = Unit {0}
 SettlesKeeper true Replay old before now status settled = LeavesSettled old before now status settled
 SettlesKeeper path (Generate services) old before now status settled = Unit {0}
-SettlesKeeper path (Serve admin user) old before now status settled = LeavesSettled old before now status settled
+SettlesKeeper path Audit old before now status settled = Unit {0}
+SettlesKeeper path (Serve admin user export) old before now status settled = LeavesSettled old before now status settled
 
 -- no other job than a server touches the listeners and what starts programs
 abbrev pub LeavesOthers : {I O K N P C : Type 0} → Job → (w w' : JobWorld I O K N P C) → Type 0
-LeavesOthers (Serve admin user) w w' = Unit {0}
+LeavesOthers (Serve admin user export) w w' = Unit {0}
 LeavesOthers job w w' = LeavesPorts w w'
 
 -- ## Completeness
@@ -141,4 +146,5 @@ abbrev pub HasAllDone : (path : Bool) → Job → Sides → Ports → (status : 
 HasAllDone path (Pipe principal) s p status = IsComplete path principal s status
 HasAllDone path Replay s p status = HasAllReplayed path s status
 HasAllDone path (Generate services) s p status = HasSummedUp s.output status
-HasAllDone path (Serve admin user) s p status = IsServed path s p status
+HasAllDone path Audit s p status = HasAllAudited s status
+HasAllDone path (Serve admin user export) s p status = IsServed path s p status

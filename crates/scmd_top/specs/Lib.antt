@@ -7,6 +7,7 @@ pub mod Words
 pub mod Opening
 pub mod Pipe
 pub mod Serving
+pub mod Auditing
 pub mod Jobs
 pub mod Stores
 pub mod Modes

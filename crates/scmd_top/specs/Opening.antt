@@ -15,6 +15,8 @@ use Rattle.record_journal.specs.declared.opening.JournalFault.{JournalFault}
 use Rattle.record_journal.specs.declared.opening.JournalFault.TheVariants as faults
 use Rattle.record_journal.specs.declared.replaying.Replay.{Replay}
 use Rattle.scm_restored.specs.declared.Opened.{Opened}
+use Rattle.opening_lines.specs.declared.opening.Opening.{Opening as Beginning}
+use Rattle.scmd_top.specs.declared.opening.Begun.{Begun}
 use Rattle.scmd_top.specs.Sides.{IsUntouched, Side, Sides}
 use Rattle.scmd_top.specs.Statuses.{program_limits}
 
@@ -45,6 +47,11 @@ abbrev pub IsCut : (kept : ℕ) → (old now : Option (List ℕ)) → Type 0
 IsCut kept None now = Unit {0}
 IsCut kept (Some bytes) now = now ≡ Some (take kept bytes)
 
+-- without a path nothing is left
+abbrev pub IsEmptiedAt : (path : Bool) → (old now : Option (List ℕ)) → Type 0
+IsEmptiedAt false old now = IsEmptied old now
+IsEmptiedAt true old now = Unit {0}
+
 -- ## An opening
 
 -- the state in which a run's history begins: these services are there, all stopped, those that start by themselves are due, in the order of
@@ -59,13 +66,15 @@ pub record IsNew (groups : List (List ℕ)) (configs : List Config) (moment : �
   pub steps : m.steps ≡ 0
   pub text : m.text ≡ 0
 
--- a manager has what stood under the path, and the keeper bears it in the form in which it ends
+-- a manager has what stood under the path, of which a copy is returned if any is, and the keeper bears it in the form in which it ends
 pub record HasOpened (path : Bool) (groups : List (List ℕ)) (keeper : Side) (moment : ℕ) (o : Opened) : Type 0 where
   pub replay : Replay
   pub read : IsRead path keeper.told replay
   pub new : IsNew groups replay.configs moment o.manager
   pub begins : IsOpening o.manager.limits o.manager.flat
   pub cut : IsCut replay.kept keeper.told keeper.told_now
+  pub emptied : IsEmptiedAt path keeper.told keeper.told_now
+  pub copied : IfSome o.configs (λ configs. configs ≡ replay.configs)
   pub form : o.journal.form ≡ replay.form
   pub bears : Bears (stood_in o.journal.form keeper.told_now) o.journal keeper.told_now
   pub faults : keeper.faults_now ≡ keeper.faults
@@ -88,6 +97,31 @@ IsUnopened true keeper (faults.Damaged place) =
 abbrev pub OpensJournal : (path : Bool) → (groups : List (List ℕ)) → (keeper : Side) → (moment : ℕ) → Result Opened JournalFault → Type 0
 OpensJournal path groups keeper moment (Ok opened) = HasOpened path groups keeper moment opened
 OpensJournal path groups keeper moment (Err fault) = IsUnopened path keeper fault
+
+-- ## An opening that is told
+
+-- what a manager begins with, if its configurations are known
+abbrev pub beginning_of : (groups : List (List ℕ)) → Option (List Config) → (moment : ℕ) → Option Beginning
+beginning_of groups None moment = None
+beginning_of groups (Some configs) moment =
+    Some (record { limits = program_limits; groups = groups; configs = configs; moment = moment })
+
+-- what a manager begins with, if its history is to be exported
+abbrev pub beginning_if : (export : Bool) → (groups : List (List ℕ)) → List Config → (moment : ℕ) → Option Beginning
+beginning_if false groups configs moment = None
+beginning_if true groups configs moment = beginning_of groups (Some configs) moment
+
+abbrev pub opened_of : Begun → Opened
+opened_of b = record { manager = b.manager; journal = b.journal; configs = None }
+
+-- it opened so, and what it begins with is known if its history is to be exported
+pub record HasBegun (export path : Bool) (groups : List (List ℕ)) (keeper : Side) (moment : ℕ) (b : Begun) : Type 0 where
+  pub opened : HasOpened path groups keeper moment (opened_of b)
+  pub known : b.opening ≡ beginning_if export groups opened.replay.configs moment
+
+abbrev pub BeginsAt : (export path : Bool) → (groups : List (List ℕ)) → (keeper : Side) → (moment : ℕ) → Result Begun JournalFault → Type 0
+BeginsAt export path groups keeper moment (Ok begun) = HasBegun export path groups keeper moment begun
+BeginsAt export path groups keeper moment (Err fault) = IsUnopened path keeper fault
 
 -- ## Crashes
 

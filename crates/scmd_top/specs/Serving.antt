@@ -1,14 +1,18 @@
 -- `serve`: the connections of two listeners over one book.
-use Rattle.std.specs.Prelude.{ℕ, ◌≡◌, ◌⊎◌, Bool, List, []}
+use Rattle.std.specs.Prelude.{ℕ, ◌≡◌, ◌⊎◌, Bool, List, [], ◌++◌, IsSome, Option, None, Some}
 use Rattle.std.specs.Io.KnownBytes.{Appends}
 use Rattle.outside.specs.Causes.{Rose}
 use Rattle.outside.specs.Written.{AppendsFront}
 use Rattle.scm_model.specs.Entries.{Entry}
+use Rattle.scm_core.specs.Managed.{AreSmall}
 use Rattle.scm_rules.specs.Histories.{Legal}
+use Rattle.scm_rules.specs.Opening.{CanOpen}
 use Rattle.scm_history.specs.Kept.{kept_changes}
 use Rattle.record_journal.specs.declared.replaying.Replay.{Replay}
 use Rattle.scm_model.specs.declared.flat.Config.{Config}
 use Rattle.book_rule.specs.declared.view.Opening.{Opening}
+use Rattle.opening_lines.specs.declared.opening.Opening.{Opening as Beginning}
+use Rattle.trail_text.specs.Histories.{first_of, told}
 use Rattle.scm_book.specs.Holds.{failures_in}
 use Rattle.scm_kept.specs.Fitting.{AllFit}
 use Rattle.scm_listener.specs.declared.listener.Listening.{Listening}
@@ -18,20 +22,44 @@ use Rattle.scm_serving.specs.Listening.{HandsNothing, listening_at}
 use Rattle.scm_serving.specs.Serving.{EndsAs, lacked_memory}
 use Rattle.scm_serving.specs.declared.serving.BookEnd.{BookEnd}
 use Rattle.scm_serving.specs.declared.serving.BookEnd.TheVariants.{Ended, ListenFault, OutOfMemory}
-use Rattle.scmd_top.specs.Opening.{HasNotOpened, IsOpenable, program_opening}
+use Rattle.scmd_top.specs.Opening.{HasNotOpened, IsOpenable, beginning_if, program_opening}
 use Rattle.scmd_top.specs.Pipe.{IsOrFails, KeepsJournal, OpensAgain}
 use Rattle.scmd_top.specs.Sides.{IsUntouched, Ports, Side, Sides}
 use Rattle.scmd_top.specs.Statuses.{program_limits}
 
 -- ## What is written
 
--- the whole summary, or a front of it where the output failed; at another end nothing
-abbrev pub HasSummary : BookEnd → (output : Side) → (status : ℕ) → Type 0
-HasSummary (Ended text) output status =
+-- a history as text, from what its manager began with, if it is to be exported
+abbrev pub exported : Option Beginning → List Entry → List ℕ
+exported None history = []
+exported (Some begun) history = told begun history
+
+-- it is legal from there, where a manager can begin
+pub record CanTell (begun : Beginning) (history : List Entry) : Type 0 where
+  pub small : AreSmall begun.limits
+  pub can : CanOpen begun.limits begun.configs
+  pub legal : Legal begun.limits (first_of begun) history
+
+abbrev pub CanExport : Option Beginning → List Entry → Type 0
+CanExport None history = Unit {0}
+CanExport (Some begun) history = CanTell begun history
+
+abbrev pub CanEnd : Option Beginning → BookEnd → Type 0
+CanEnd begun (Ended text trail) = CanExport begun trail.entries
+CanEnd begun end = Unit {0}
+
+-- the whole text, or a front of it where the output failed, or where there was no memory for a history that is exported
+abbrev pub IsPut : (text : List ℕ) → (begun : Option Beginning) → (output : Side) → (status : ℕ) → Type 0
+IsPut text begun output status =
     ((status ≡ 0) × Appends output.told output.told_now text)
     ⊎ ((status ≡ 2) × AppendsFront output.told output.told_now text × Rose output.faults output.faults_now)
-HasSummary OutOfMemory output status = (status ≡ 8) × IsUntouched output
-HasSummary ListenFault output status = (status ≡ 10) × IsUntouched output
+    ⊎ ((status ≡ 8) × AppendsFront output.told output.told_now text × IsSome begun × (output.faults_now ≡ output.faults))
+
+-- what is exported of the history, and the summary; at another end nothing
+abbrev pub HasSummary : Option Beginning → BookEnd → (output : Side) → (status : ℕ) → Type 0
+HasSummary begun (Ended text trail) output status = IsPut (exported begun trail.entries ++ text) begun output status
+HasSummary begun OutOfMemory output status = (status ≡ 8) × IsUntouched output
+HasSummary begun ListenFault output status = (status ≡ 10) × IsUntouched output
 
 -- ## The book
 
@@ -41,15 +69,16 @@ pub record IsProgramOpening (groups : List (List ℕ)) (configs : List Config) (
   pub first : o.first ≡ program_opening groups configs opened
 
 -- One history from a moment of the clock on, over what stood under the path: the connections of both listeners stand in it, its kept
--- changes stand in the journal after what stood, and it is what is summed up.
-pub record HasHistory (tells : ℕ → Type 0) (path : Bool) (groups : List (List ℕ)) (keeper : Side) (a a' u u' : Told)
-    (end : BookEnd) : Type 0 where
+-- changes stand in the journal after what stood, and it is what is exported and summed up.
+pub record HasHistory (tells : ℕ → Type 0) (path : Bool) (groups : List (List ℕ)) (export : Bool) (keeper : Side) (a a' u u' : Told)
+    (begun : Option Beginning) (end : BookEnd) : Type 0 where
   pub replay : Replay
   pub stood : IsOpenable path keeper.told replay
   pub opened : ℕ
   pub opened_at : tells opened
   pub opening : Opening
   pub opens : IsProgramOpening groups replay.configs opened opening
+  pub begins : begun ≡ beginning_if export groups replay.configs opened
   pub history : List Entry
   pub legal : Legal program_limits (program_opening groups replay.configs opened) history
   pub kept : KeepsJournal replay (kept_changes program_limits (program_opening groups replay.configs opened) history)
@@ -67,19 +96,21 @@ pub record HasNoBook (path : Bool) (keeper : Side) (a a' u u' : Told) (end : Boo
   pub user : u' ≡ u
   pub kept : KeepsJournal replay [] 0 keeper
 
-abbrev pub HasServedOver : (tells : ℕ → Type 0) → (path : Bool) → (groups : List (List ℕ)) → (keeper : Side) → (a a' u u' : Told) → BookEnd
-    → Type 0
-HasServedOver tells path groups keeper a a' u u' end = HasHistory tells path groups keeper a a' u u' end
+abbrev pub HasServedOver : (tells : ℕ → Type 0) → (path : Bool) → (groups : List (List ℕ)) → (export : Bool) → (keeper : Side)
+    → (a a' u u' : Told) → Option Beginning → BookEnd → Type 0
+HasServedOver tells path groups export keeper a a' u u' begun end = HasHistory tells path groups export keeper a a' u u' begun end
     ⊎ HasNoBook path keeper a a' u u' end
 
 -- ## The program
 
 -- both listened, each once and where it was to, and were served
-pub record HasListened (tells : ℕ → Type 0) (path : Bool) (groups : List (List ℕ)) (admin user : Listening) (s : Sides) (p : Ports)
-    (status : ℕ) : Type 0 where
+pub record HasListened (tells : ℕ → Type 0) (path : Bool) (groups : List (List ℕ)) (export : Bool) (admin user : Listening) (s : Sides)
+    (p : Ports) (status : ℕ) : Type 0 where
+  pub begun : Option Beginning
   pub end : BookEnd
-  pub served : HasServedOver tells path groups s.keeper (listening_at p.admin admin) p.admin_now (listening_at p.user user) p.user_now end
-  pub written : HasSummary end s.output status
+  pub served : HasServedOver tells path groups export s.keeper (listening_at p.admin admin) p.admin_now (listening_at p.user user)
+      p.user_now begun end
+  pub written : HasSummary begun end s.output status
 
 -- one failed to listen: nothing was handed out, no change is kept, and nothing is written
 pub record HasNotListened (path : Bool) (s : Sides) (p : Ports) (status : ℕ) : Type 0 where
@@ -92,10 +123,10 @@ pub record HasNotListened (path : Bool) (s : Sides) (p : Ports) (status : ℕ) :
   pub kept : KeepsJournal replay [] 0 s.keeper
   pub output : IsUntouched s.output
 
-abbrev pub HasServed : (tells : ℕ → Type 0) → (path : Bool) → (groups : List (List ℕ)) → (admin user : Listening) → Sides → Ports
-    → (status : ℕ) → Type 0
-HasServed tells path groups admin user s p status =
-    HasListened tells path groups admin user s p status
+abbrev pub HasServed : (tells : ℕ → Type 0) → (path : Bool) → (groups : List (List ℕ)) → (export : Bool) → (admin user : Listening)
+    → Sides → Ports → (status : ℕ) → Type 0
+HasServed tells path groups export admin user s p status =
+    HasListened tells path groups export admin user s p status
     ⊎ HasNotListened path s p status
     ⊎ (HasNotOpened path s status × (p.admin_now ≡ p.admin) × (p.user_now ≡ p.user))
 

@@ -1,4 +1,4 @@
--- The options of a job, in any order, each at most once: `--name value` or `--name=value`.
+-- The options of a job, in any order, each at most once: `--name value` or `--name=value`, and `--export`, which has no value.
 use Rattle.std.specs.Prelude.{ℕ, ◌&&◌, ◌==◌, Bool, false, true, not, nat_eq, nat_le, nat_lt, codes, List, [], ◌∷◌, length, Option, None}
 use Rattle.std.specs.Prelude.{Some, option_and_then, option_map, if◌then◌else◌}
 use Rattle.std.specs.Cmp.Lexicographic.{pointwise}
@@ -85,12 +85,23 @@ no_options = record {
   file = false;
   store = false;
   groups = false;
+  export = false;
   waits = None;
 }
 
--- a name, with its value or before it
+-- the option without a value, where it wasn't given before
+abbrev pub with_export : Settings → Option Settings
+with_export s = if s.export then None else Some (record s { export = true })
+
+-- a name that stands alone in its word: of an option whose value is the next word, or that has none
+abbrev pub with_alone : Settings → (word : List ℕ) → Option Settings
+with_alone s word =
+    if is_word word (codes "--export") then with_export s
+    else option_map (λ (name : Setting). record s { waits = Some name }) (setting_named word)
+
+-- a name, with its value or alone
 abbrev pub with_name : Settings → (word : List ℕ) → Option (List ℕ × List ℕ) → Option Settings
-with_name s word None = option_map (λ (name : Setting). record s { waits = Some name }) (setting_named word)
+with_name s word None = with_alone s word
 with_name s word (Some pair) = setting_named pair.0 >>= λ name. with_option s name pair.1
 
 -- one word further

@@ -5,7 +5,7 @@ use Rattle.scm_model.specs.declared.flat.Principal.{Principal}
 use Rattle.scm_model.specs.declared.flat.Principal.TheVariants.{Admin}
 use Rattle.scmd_top.specs.declared.words.Job.{Job}
 use Rattle.scm_lines.specs.Words.{decimal_at}
-use Rattle.scmd_top.specs.declared.words.Job.TheVariants.{Pipe, Replay, Generate, Serve}
+use Rattle.scmd_top.specs.declared.words.Job.TheVariants.{Audit, Pipe, Replay, Generate, Serve}
 use Rattle.scmd_top.specs.Settings.{is_word, no_options, options_from, value_from}
 use Rattle.scmd_top.specs.declared.settings.Setting.{Setting}
 use Rattle.scmd_top.specs.declared.settings.Settings.{Settings}
@@ -20,9 +20,9 @@ pipe_with None None None None None false None = Some (Pipe Admin)
 pipe_with None None None None None false (Some principal) = Some (Pipe principal)
 pipe_with waits admin user take_admin take_user groups principal = None
 
--- a pipe's connection is an administrator's, unless it is said
+-- a pipe's connection is an administrator's, unless it is said; no history of it is exported
 abbrev pub pipe_of : Settings → Option Job
-pipe_of s = pipe_with s.waits s.admin s.user s.take_admin s.take_user s.groups s.principal
+pipe_of s = if s.export then None else pipe_with s.waits s.admin s.user s.take_admin s.take_user s.groups s.principal
 
 -- no option is given but a file or a store
 abbrev pub is_bare : Settings → Bool
@@ -32,15 +32,16 @@ is_bare s = is_some (pipe_of s) && not (is_some s.principal)
 abbrev pub replay_job : Settings → Option Job
 replay_job s = if is_bare s && not s.store then Some Replay else None
 
--- where two ports are listened at, and how many connections each takes
-abbrev pub serve_job : Option Setting → Option Principal → (admin user : Option ℕ) → (take_admin take_user : Option ℕ) → Option Job
-serve_job None None (Some admin) (Some user) take_admin take_user =
-    Some (Serve (record { port = admin; take = take_admin }) (record { port = user; take = take_user }))
-serve_job waits principal admin user take_admin take_user = None
+-- where two ports are listened at, how many connections each takes, and whether the history is exported
+abbrev pub serve_job : Option Setting → Option Principal → (admin user : Option ℕ) → (take_admin take_user : Option ℕ) → (export : Bool)
+    → Option Job
+serve_job None None (Some admin) (Some user) take_admin take_user export =
+    Some (Serve (record { port = admin; take = take_admin }) (record { port = user; take = take_user }) export)
+serve_job waits principal admin user take_admin take_user export = None
 
 -- both ports have to be given, and each value that was begun
 abbrev pub serving_of : Settings → Option Job
-serving_of s = serve_job s.waits s.principal s.admin s.user s.take_admin s.take_user
+serving_of s = serve_job s.waits s.principal s.admin s.user s.take_admin s.take_user s.export
 
 -- what is said by options
 abbrev pub with_options : {A : Type 0} → (Settings → Option A) → List (List ℕ) → Option A
@@ -57,7 +58,8 @@ abbrev pub IsFew : Job → Type 0
 IsFew (Pipe principal) = Unit {0}
 IsFew Replay = Unit {0}
 IsFew (Generate services) = services ≤ 512
-IsFew (Serve admin user) = Unit {0}
+IsFew Audit = Unit {0}
+IsFew (Serve admin user export) = Unit {0}
 
 -- for how many services steps are generated
 abbrev pub generate_with : List (List ℕ) → Option Job
@@ -65,12 +67,18 @@ generate_with [] = None
 generate_with (number ∷ []) = option_map Generate (option_and_then within (decimal_at number))
 generate_with (number ∷ other ∷ words) = None
 
+-- an audit has no arguments
+abbrev pub audit_with : List (List ℕ) → Option Job
+audit_with [] = Some Audit
+audit_with (word ∷ words) = None
+
 -- the job that a word asks for, with these options
 abbrev pub job_named : List ℕ → List (List ℕ) → Option Job
 job_named word words =
     if is_word word (codes "pipe") then with_options pipe_of words
     else if is_word word (codes "replay") then with_options replay_job words
     else if is_word word (codes "generate") then generate_with words
+    else if is_word word (codes "audit") then audit_with words
     else if is_word word (codes "serve") then with_options serving_of words
     else None
 

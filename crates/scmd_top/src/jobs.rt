@@ -1,50 +1,38 @@
 //! The jobs of the program, and `scmd serve`.
 ghost use Rattle.std.specs.Prelude.{◌≡◌, ◌≤◌, is_some};
+ghost use Rattle.record_journal.specs.Bearing.{Bears, stood_in};
+ghost use Rattle.scm_core.specs.Managed.{AreSmall};
+ghost use Rattle.scm_rules.specs.Opening.{IsOpening};
+ghost use Rattle.scm_serving.specs.Listening.{told_by};
+ghost use Rattle.scm_serving.specs.Serving.{ServesBook};
 ghost use Rattle.scmd_top.specs.Groups.{groups_in};
 ghost use Rattle.scmd_top.specs.Jobs.{HasAllDone, HasRun, LeavesKeeper, LeavesOthers};
 ghost use Rattle.scmd_top.specs.Jobs.{SettlesKeeper};
 ghost use Rattle.scmd_top.specs.Opening.{LeavesSettled};
 ghost use Rattle.scmd_top.specs.Parts.{lent};
-ghost use Rattle.scmd_top.specs.Serving.{HasServed, HasSummary, IsServingComplete};
+ghost use Rattle.scmd_top.specs.Serving.{HasServed, IsServingComplete};
 ghost use Rattle.scmd_top.specs.Sides.{ports_of, side, sides_of};
 ghost use Rattle.scmd_top.specs.Words.{IsFew};
 
+use crate::auditing::audit_main;
+use crate::histories::put_end;
 use crate::lines::replay_main;
-use crate::opening::{open_at, status_of_fault};
+use crate::opening::{Begun, begin_at, status_of_fault};
 use crate::pipe::pipe_main;
 use crate::summary::generate_main;
 use crate::words::Job;
 use crate::world::JobWorld;
 use child_link::{Feed, Link};
-use outside::{Clock, Failed, Sink, Source, write_all};
+use outside::{Clock, Sink, Source};
 use process_runner::Spawner;
-use record_journal::Keeper;
+use record_journal::{Journal, Keeper};
+use scm_core::Manager;
 use scm_listener::{Listener, Listening};
-use scm_restored::Opened;
 use scm_serving::{BookEnd, listen_both, serve_book};
 use std::alloc::Global;
 use std::sync::Wait;
 use std::thread::Threads;
 use std::time;
-
-/// Writes the summary of a server that ended, and answers the status of the program.
-fn written<O: Sink>(end: BookEnd, output: &mut O) -> u8
-    ensures written { HasSummary end (side O.held O.faults output.old output.new) result }
-    ensures output { O.faults output.old ≤ O.faults output.new }
-{
-    match end {
-        BookEnd::Ended(text) => {
-            let how = write_all(output, text.as_slice());
-            drop(text);
-            match how {
-                Ok(()) => 0,
-                Err(Failed) => 2,
-            }
-        }
-        BookEnd::OutOfMemory => 8,
-        BookEnd::ListenFault => 10,
-    }
-}
 
 impl<I, O, K, N, NI, NO, A, P, L, F, C> JobWorld<I, O, K, N, P, C>
 where
@@ -60,15 +48,68 @@ where
     P: Spawner<Link = L, Feed = F> + Send + Drop,
     C: Clock + Sync,
 {
+    /// Serves listeners that listen over a book of its own, which opens with this manager and this
+    /// journal.
+    fn serve_over<R: Threads + Wait + time::Clock + Sync>(
+        self,
+        rt: &R,
+        alloc: Global,
+        manager: Manager,
+        journal: Journal,
+    ) -> (BookEnd, JobWorld<I, O, K, N, P, C>)
+        requires begins { IsOpening manager.limits manager.flat }
+        requires small { AreSmall manager.limits }
+        requires steps { manager.steps ≡ 0 }
+        requires text { manager.text ≡ 0 }
+        requires journal { Bears (stood_in journal.form (K.held self.keeper)) journal
+            (K.held self.keeper) }
+        requires settled { K.settled self.keeper }
+        ensures input { result.1.input ≡ self.input }
+        ensures output { result.1.output ≡ self.output }
+        ensures clock { result.1.clock ≡ self.clock }
+        ensures serves { ServesBook K.held K.faults K.settled (C.tells self.clock)
+            manager.limits manager.flat journal
+            (told_by N.left N.accepted N.noted N.listened N.faults self.admin)
+            (told_by N.left N.accepted N.noted N.listened N.faults result.1.admin)
+            (told_by N.left N.accepted N.noted N.listened N.faults self.user)
+            (told_by N.left N.accepted N.noted N.listened N.faults result.1.user)
+            self.keeper result.1.keeper result.0 }
+    {
+        let JobWorld {
+            input,
+            output,
+            keeper,
+            admin,
+            user,
+            spawner,
+            clock,
+        } = self;
+        let served = serve_book(
+            rt, alloc, manager, journal, keeper, admin, user, spawner, &clock,
+        );
+        let world = JobWorld {
+            input,
+            output,
+            keeper: served.keeper,
+            admin: served.admin,
+            user: served.user,
+            spawner: served.spawner,
+            clock,
+        };
+        (served.end, world)
+    }
+
     /// Serves the connections of two ports, writes the summary of their history once both listeners
-    /// are closed, and gives the status of the program. What starts by itself does so in the order
-    /// of the groups of a list. Without a path the journal begins empty, and is kept in memory.
+    /// are closed, and before it the history if it is to be exported, and gives the status of the
+    /// program. What starts by itself does so in the order of the groups of a list. Without a path
+    /// the journal begins empty, and is kept in memory.
     fn serve<R: Threads + Wait + time::Clock + Sync>(
         self,
         rt: &R,
         alloc: Global,
         admin_at: Listening,
         user_at: Listening,
+        export: bool,
         path: Option<&str>,
         names: Option<&str>,
     ) -> (u8, JobWorld<I, O, K, N, P, C>)
@@ -77,7 +118,7 @@ where
         ensures output { O.faults self.output ≤ O.faults result.1.output }
         // Which history the connections and the keeper are of, what was written, and why it ended.
         ensures run { HasServed (C.tells self.clock)
-            (is_some path.entry) (groups_in (lent names.entry)) admin_at user_at
+            (is_some path.entry) (groups_in (lent names.entry)) export admin_at user_at
             (sides_of I.left I.faults O.held O.faults K.held K.faults self result.1)
             (ports_of N.left N.accepted N.noted N.listened N.faults self result.1) result.0 }
         // A crash after it leaves what was kept, unless the keeper failed.
@@ -90,35 +131,22 @@ where
     {
         let mut world = self;
         let moment = world.clock.now();
-        match open_at(alloc, &mut world.keeper, path, names, moment) {
-            Ok(Opened { manager, journal }) => {
+        match begin_at(alloc, &mut world.keeper, path, names, moment, export) {
+            Ok(
+                Begun {
+                    manager,
+                    journal,
+                    opening,
+                },
+            ) => {
                 let Ok(()) = listen_both(&mut world.admin, admin_at, &mut world.user, user_at)
                 else {
+                    drop(opening);
                     manager.close();
                     return (10, world);
                 };
-                let JobWorld {
-                    input,
-                    mut output,
-                    keeper,
-                    admin,
-                    user,
-                    spawner,
-                    clock,
-                } = world;
-                let served = serve_book(
-                    rt, alloc, manager, journal, keeper, admin, user, spawner, &clock,
-                );
-                let status = written(served.end, &mut output);
-                let world = JobWorld {
-                    input,
-                    output,
-                    keeper: served.keeper,
-                    admin: served.admin,
-                    user: served.user,
-                    spawner: served.spawner,
-                    clock,
-                };
+                let (end, mut world) = world.serve_over(rt, alloc, manager, journal);
+                let status = put_end(alloc, opening, end, &mut world.output);
                 (status, world)
             }
             Err(fault) => (status_of_fault(fault), world),
@@ -155,7 +183,12 @@ where
             Job::Pipe { principal } => pipe_main(rt, alloc, principal, path, self),
             Job::Replay => replay_main(alloc, path, self),
             Job::Generate { services } => generate_main(alloc, services, self),
-            Job::Serve { admin, user } => self.serve(rt, alloc, admin, user, path, names),
+            Job::Audit => audit_main(alloc, self),
+            Job::Serve {
+                admin,
+                user,
+                export,
+            } => self.serve(rt, alloc, admin, user, export, path, names),
         }
     }
 }

@@ -1,7 +1,9 @@
 //! The service control manager as a program: what it does by its words, with what it meets outside.
 #![tactic(auto)]
 
+mod auditing;
 mod groups;
+mod histories;
 mod jobs;
 mod limits;
 mod lines;

@@ -73,13 +73,15 @@ fn answer_over<I: Source, O: Sink, K: Keeper>(
       keeper = side K.held K.faults keeper.old keeper.new;
     }) result }
 {
-    match open_stored(alloc, keeper, path, None, 0) {
+    match open_stored(alloc, keeper, path, None, 0, false) {
         Ok(
             Opened {
                 mut manager,
                 journal: _,
+                configs,
             },
         ) => {
+            drop(configs);
             let how = replay(alloc, &mut manager, input, output);
             manager.close();
             status_of_replay(how)

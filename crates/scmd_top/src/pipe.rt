@@ -57,8 +57,15 @@ pub fn pipe_main<R: Wait, I: Source, O: Sink, K: Keeper, N: Listener, P: Spawner
 {
     let mut world = world;
     let moment = world.clock.now();
-    match open_at(alloc, &mut world.keeper, path, None, moment) {
-        Ok(Opened { manager, journal }) => {
+    match open_at(alloc, &mut world.keeper, path, None, moment, false) {
+        Ok(
+            Opened {
+                manager,
+                journal,
+                configs,
+            },
+        ) => {
+            drop(configs);
             let keeper = world.keeper;
             let Piped { how, keeper } = serve_alone(
                 rt,

@@ -3,7 +3,8 @@ ghost use Rattle.std.specs.Prelude.{◌≡◌, codes, false, option_and_then};
 ghost use Rattle.decimal_words.specs.Numbers.{decimal_number};
 ghost use Rattle.scmd_top.specs.Parts.{IsParts, IsText};
 ghost use Rattle.scmd_top.specs.Settings.{count_in, no_options, once, port_of, setting_named};
-ghost use Rattle.scmd_top.specs.Settings.{options_from, with_name, with_option, with_word};
+ghost use Rattle.scmd_top.specs.Settings.{options_from, with_alone, with_export, with_name};
+ghost use Rattle.scmd_top.specs.Settings.{with_option, with_word};
 ghost use Rattle.scmd_top.specs.Settings.{is_plain, named_value, principal_named};
 ghost use Rattle.scmd_top.specs.Settings.{value_from, value_in};
 
@@ -43,6 +44,8 @@ pub struct Settings {
     pub store: bool,
     /// Whether groups are listed.
     pub groups: bool,
+    /// Whether the history is to be exported.
+    pub export: bool,
     /// The option whose value is the next word.
     pub waits: Option<Setting>,
 }
@@ -143,6 +146,7 @@ impl Settings {
         file: false,
         store: false,
         groups: false,
+        export: false,
         waits: None,
     };
 
@@ -190,16 +194,41 @@ impl Settings {
         }
     }
 
-    /// A name, with its value or before it.
+    /// The option without a value, where it wasn't given before.
+    fn with_export(self) -> Option<Settings>
+        ensures { result ≡ with_export self }
+    {
+        if self.export {
+            None
+        } else {
+            Some(Settings {
+                export: true,
+                ..self
+            })
+        }
+    }
+
+    /// A name that stands alone in its word.
+    fn with_alone(self, word: &str) -> Option<Settings>
+        ensures { result ≡ with_alone self word.now }
+    {
+        if word == "--export" {
+            self.with_export()
+        } else {
+            Some(Settings {
+                waits: Some(setting_named(word)?),
+                ..self
+            })
+        }
+    }
+
+    /// A name, with its value or alone.
     fn with_name(self, word: &str) -> Option<Settings>
         ensures { result ≡ with_name self word.now (named_value word.now) }
     {
         match parts_of(word) {
             Some((name, value)) => self.with_value(setting_named(name)?, value),
-            None => Some(Settings {
-                waits: Some(setting_named(word)?),
-                ..self
-            }),
+            None => self.with_alone(word),
         }
     }
 

@@ -25,7 +25,7 @@ use std::time;
 /// are no mode, 6 an input that ends within a PDU, a request or a line, 7 a bad PDU or a request
 /// that is too long, 8 out of memory, 9 no room for a request by the limits, 10 a listener failed,
 /// 11 a bad line, 12 as many bytes of input as are read at most, 2^40, 13 the store that a journal
-/// is to be moved to has bytes already.
+/// is to be moved to has bytes already, 14 a wrong line of a history.
 pub fn scmd_main<R, I, O, K, Q, N, NI, NO, A, P, L, F, C>(
     rt: &R,
     alloc: Global,

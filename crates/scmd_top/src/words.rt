@@ -1,8 +1,9 @@
 ghost use Rattle.std.specs.Prelude.{◌≡◌, ◌≤◌, IfSome, option_and_then, option_map};
 ghost use Rattle.scm_lines.specs.Words.{decimal_at};
 ghost use Rattle.scmd_top.specs.Parts.{IsText};
-ghost use Rattle.scmd_top.specs.Words.{HasFew, IsFew, bare_task, generate_with, is_bare};
-ghost use Rattle.scmd_top.specs.Words.{job_named, listed_groups, path_of, pipe_of, replay_job};
+ghost use Rattle.scmd_top.specs.Words.{HasFew, IsFew, audit_with, bare_task, generate_with};
+ghost use Rattle.scmd_top.specs.Words.{is_bare, job_named, listed_groups, path_of, pipe_of};
+ghost use Rattle.scmd_top.specs.Words.{replay_job};
 ghost use Rattle.scmd_top.specs.Words.{serving_of, store_of, task_named, task_of, with_options};
 ghost use Rattle.scmd_top.specs.Words.{within};
 ghost use Rattle.scmd_top.specs.declared.words.Task.TheVariants as tasks;
@@ -25,13 +26,24 @@ pub enum NoWords {
 #[derive(Clone, Copy)]
 pub enum Job {
     /// Serves one connection from the input to the output.
-    Pipe { principal: Principal },
+    Pipe {
+        principal: Principal,
+    },
     /// Makes the steps of the input's lines, and answers them.
     Replay,
     /// Makes the stated list of steps for so many services, and prints its summary.
-    Generate { services: u32 },
-    /// Serves the connections of two ports over one book, and prints the summary of its history.
-    Serve { admin: Listening, user: Listening },
+    Generate {
+        services: u32,
+    },
+    /// Reads a history as text, and says whether it is legal.
+    Audit,
+    /// Serves the connections of two ports over one book, and prints the summary of its history,
+    /// and before it the history if it is to be exported.
+    Serve {
+        admin: Listening,
+        user: Listening,
+        export: bool,
+    },
 }
 
 /// What the program is to do, wherever it keeps its journal.
@@ -71,11 +83,25 @@ fn generate_with(words: &[Text]) -> Option<Job>
     }
 }
 
-/// A pipe's connection is an administrator's, unless the options say it.
+/// An audit has no arguments.
+fn audit_with(words: &[Text]) -> Option<Job>
+    ensures job { result ≡ audit_with words.now }
+    ensures few { IfSome result IsFew }
+{
+    match words {
+        [] => Some(Job::Audit),
+        _ => None,
+    }
+}
+
+/// A pipe's connection is an administrator's, unless the options say it. No history is exported.
 fn pipe_of(said: Settings) -> Option<Job>
     ensures job { result ≡ pipe_of said }
     ensures few { IfSome result IsFew }
 {
+    if said.export {
+        return None;
+    }
     match (
         said.waits,
         said.admin,
@@ -123,6 +149,7 @@ fn serving_of(said: Settings) -> Option<Job>
                 port: user,
                 take: said.take_user,
             },
+            export: said.export,
         }),
         _ => None,
     }
@@ -159,6 +186,7 @@ fn job_named(word: &str, options: &[Text]) -> Option<Job>
         "pipe" => with_pipe(options),
         "replay" => with_replay(options),
         "generate" => generate_with(options),
+        "audit" => audit_with(options),
         "serve" => with_serve(options),
         _ => None,
     }

@@ -215,9 +215,14 @@ impl Sheet {
         Some(())
     }
 
-    /// Puts a side of a row, as PDUs where the run is a pipe, and else as lines. `16 times` stands
-    /// before a line that is asked, and told, so often. A request has the number of its row as its
-    /// call id.
+    /// Puts the lines of a history, which have their moments and their answers already.
+    fn put_history(&mut self, words: &str) -> Option<()> {
+        self.put_text(Side::Tells, words, 1)
+    }
+
+    /// Puts a side of a row, as PDUs where the run is a pipe, and else as lines, which stand as they
+    /// are where it is an audit. `16 times` stands before a line that is asked, and told, so often.
+    /// A request has the number of its row as its call id.
     fn put_row(&mut self, words: &str, line: &str, side: Side) -> Option<()> {
         self.rows = self.rows.saturating_add(1);
         let (asked, told) = columns_of(line);
@@ -228,6 +233,8 @@ impl Sheet {
         };
         if words.starts_with("pipe") {
             self.put_column(side, column)
+        } else if words.starts_with("audit") {
+            self.put_history(column.trim())
         } else {
             self.put_text(side, column.trim(), count.trim().parse().ok()?)
         }

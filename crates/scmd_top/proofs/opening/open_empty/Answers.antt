@@ -7,5 +7,5 @@ use Rattle.scmd_top.proofs.opening.open_empty.Goals as goal
 pub returns-in-Ok-new_manager-clause-opens : goal.returns-in-Ok-new_manager-clause-opens
 returns-in-Ok-new_manager-clause-opens g c =
     opens_empty_at (side g.K.Keeper.held g.K.Keeper.faults c.args.keeper.now c.open_at.new.self)
-    (groups_in (lent c.args.names)) c.args.moment c.in-Ok-new_manager.manager c.empty.result
-    c.empty.ensures.value c.in-Ok.ensures.bytes c.in-Ok.ensures.cause.kept c.in-Ok-new_manager.ensures
+    (groups_in (lent c.args.names)) c.args.moment c.in-Ok-new_manager.manager c.empty.result c.no_configs.result
+    c.empty.ensures.value c.in-Ok.ensures.bytes c.in-Ok.ensures.cause.kept c.in-Ok-new_manager.ensures c.no_configs.ensures.none

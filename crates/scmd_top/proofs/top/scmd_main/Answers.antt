@@ -1,4 +1,3 @@
-use Rattle.std.specs.Prelude.{Bool, List, ℕ}
 use Rattle.journal_store.specs.Compacting.{IsOnly}
 use Rattle.scmd_top.specs.Modes.{HasAllDoneAs, HasRunAs, LeavesWorld, SettlesKeeperAs, SettlesStoreAs, keeper_world}
 use Rattle.scmd_top.specs.Sides.{ports_of, side, sides_of}
