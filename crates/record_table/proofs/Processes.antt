@@ -12,11 +12,10 @@ use Rattle.number_lists.specs.Rising.{with_number, without_number}
 use Rattle.number_pairs.specs.declared.pairs.Pair.{Pair}
 use Rattle.number_pairs.specs.Keyed.{has_pair, numbers_under, pair_cmp}
 use Rattle.scm_model.specs.Processes.{is_by}
-use Rattle.scm_model.specs.declared.flat.Config.{Config}
 use Rattle.scm_model.specs.declared.flat.Service.{Service}
-use Rattle.row_slab.specs.Rowed.{AreRisingBy, altered_at}
+use Rattle.row_slab.specs.Rowed.{AreRisingBy, altered_at, left_by}
 use Rattle.record_table.specs.Kept.{AreByProcess, ChangesOf, MovesUnder, idle, idle_at, is_under, moved_under}
-use Rattle.record_table.specs.Recorded.{has_number, number_of, process_in, with_config}
+use Rattle.record_table.specs.Recorded.{has_number, number_of, process_in}
 use Rattle.record_table.proofs.Finding.{none_changes}
 use Rattle.record_table.proofs.Groups as groups
 use Rattle.record_table.proofs.Groups.{numbers_if}
@@ -132,6 +131,24 @@ found_changed number change numbers (other ∷ rows) row found =
           sym (ap (λ b. cond b (Some other) (find (has_number number) rows)) apart) ∙ found in
           rw apart (rw apart (found_changed number change numbers rows row next))
     ]
+
+-- the process that an exchange leaves is that of the service that was found, before or after the change
+pub process_left : {A : Type 0} (told : A → ℕ) (left : Service → A) (found : Option Service) (parts : A) → told parts ≡ 0
+    → ((row : Service) → told (left row) ≡ row.process) → told (left_by left found parts) ≡ process_in found
+process_left told left None parts none is = none
+process_left told left (Some row) parts none is = is row
+
+pub process_changed : {A : Type 0} (told : A → ℕ) (left : Service → A) (rows : List Service) (number : ℕ)
+    (change : Service → Service) (parts : A) → ((row : Service) → (change row).number ≡ row.number) → told parts ≡ 0
+    → ((row : Service) → told (left row) ≡ (change row).process)
+    → told (left_by left (find (has_number number) rows) parts) ≡ process_in (find (has_number number)
+    (map (altered_at number_of number change) rows))
+process_changed told left rows number change parts numbers none is = by (find (has_number number) rows) refl
+  where
+    by : (found : Option Service) → find (has_number number) rows ≡ found → told (left_by left found parts) ≡ process_in
+        (find (has_number number) (map (altered_at number_of number change) rows))
+    by None lacks = none ∙ sym (ap process_in (ap (find (has_number number)) (none_changes number change rows lacks) ∙ lacks))
+    by (Some row) found = is row ∙ sym (ap process_in (found_changed number change numbers rows row found))
 
 -- where nothing is found nothing changes, and else the service that was found may have another process
 pub altered : (old new : List Pair) (rows : List Service) (number before after : ℕ) (change : Service → Service)

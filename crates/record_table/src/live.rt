@@ -33,6 +33,31 @@ impl Change<Service> for Live {
     }
 }
 
+/// A change of a service, and the process of its row before the change and after it.
+#[derive(Drop)]
+pub struct Changing<'a, C> {
+    pub change: &'a C,
+    pub before: u64,
+    pub after: u64,
+}
+
+impl<'a, C: Change<Service>> Exchange<Service> for Changing<'a, C> {
+    ghost exchanged = { λ parts. C.changed parts.change.now };
+
+    ghost left = { λ parts row. record parts {
+      before = row.process;
+      after = (C.changed parts.change.now row).process;
+    } };
+
+    ghost keeps = { λ parts row. C.keeps parts.change.now row };
+
+    fn exchange(&mut self, row: &mut Service) {
+        self.before = row.process;
+        self.change.change(row);
+        self.after = row.process;
+    }
+}
+
 /// A configuration that a service is given, and then the one that it had.
 #[derive(Drop)]
 pub struct Configured {

@@ -16,7 +16,7 @@ ghost use Rattle.record_table.specs.Recorded.{reserved, security_of_number, serv
 ghost use Rattle.record_table.specs.Recorded.{spare_of, unreserved, with_config, with_security};
 
 use super::iter::Services;
-use super::live::{Configured, Live, Secured};
+use super::live::{Changing, Configured, Live, Secured};
 use super::texts::{
     KeptTexts, Spare, enter_texts, exchange_room, forget_room, leave_texts, move_texts,
     reserve_texts,
@@ -90,13 +90,37 @@ fn exchange_security(
     }
 }
 
-/// The process of the service with a number, and 0 if no service has it.
-fn process_of(rows: &Rows<Service>, number: u64) -> u64
-    ensures { result ≡ process_in (find (has_number number) rows.now.items) }
+/// Whether a service was changed, and its process before and after; 0 is none.
+#[derive(Clone, Copy)]
+struct Changed {
+    is_found: bool,
+    before: u64,
+    after: u64,
+}
+
+/// Changes the service with a number, which is looked for once.
+fn change_row<C: Change<Service>>(rows: &mut Rows<Service>, number: u64, change: &C) -> Changed
+    ensures found { result.is_found ≡ is_some (find (has_number number) rows.old.items) }
+    ensures items { rows.new.items ≡ change_at number (C.changed change.now) rows.old.items }
+    ensures room { rows.new.room ≡ rows.old.room }
+    ensures before { result.before ≡ process_in (find (has_number number) rows.old.items) }
+    ensures after { result.after ≡ process_in (find (has_number number) rows.new.items) }
 {
-    match rows.get(number) {
-        Some(row) => row.process,
-        None => 0,
+    let mut parts = Changing {
+        change,
+        before: 0,
+        after: 0,
+    };
+    let is_found = rows.exchange(number, &mut parts);
+    let Changing {
+        change: _,
+        before,
+        after,
+    } = parts;
+    Changed {
+        is_found,
+        before,
+        after,
     }
 }
 
@@ -243,11 +267,9 @@ impl RecordTable {
         ensures found { result ≡ is_some (find (has_number number) self.old.services) }
         ensures table { self.new ≡ altered self.old number (C.changed change.now) }
     {
-        let before = process_of(&self.rows, number);
-        let is_found = self.rows.alter(number, change);
-        let after = process_of(&self.rows, number);
-        move_under(&mut self.processes, before, after, number);
-        is_found
+        let changed = change_row(&mut self.rows, number, change);
+        move_under(&mut self.processes, changed.before, changed.after, number);
+        changed.is_found
     }
 
     /// Sets what changes of a service while it lives. False where no service has the number.
