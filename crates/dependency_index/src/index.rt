@@ -202,9 +202,9 @@ impl DependencyIndex {
         let Some(spare) = self.spare.take() else {
             return;
         };
-        leave_lists(&mut self.lists, &self.rows, service);
+        let row = leave_lists(&mut self.lists, &self.rows, service);
         enter_lists(&mut self.lists, &spare, service);
-        forget_texts(&mut self.lists, &self.rows, service);
+        forget_texts(&mut self.lists, row);
         forget_room(&mut self.lists, self.next.take(), &None);
         put(&mut self.rows, spare, service);
     }
@@ -215,8 +215,8 @@ impl DependencyIndex {
     {
         forget_room(&mut self.lists, self.spare.take(), &None);
         forget_room(&mut self.lists, self.next.take(), &None);
-        leave_lists(&mut self.lists, &self.rows, service);
-        forget_texts(&mut self.lists, &self.rows, service);
+        let row = leave_lists(&mut self.lists, &self.rows, service);
+        forget_texts(&mut self.lists, row);
         take_out(&mut self.rows, service);
     }
 

@@ -11,7 +11,7 @@ invariant_of-self c =
       once = c.take_out.ensures.once;
       rising = rw c.take_out.ensures.rows (rising_filter (λ (row : NeedRow). not (is_row c.args.service row)) rows
           c.self.invariant.rising);
-      lists = rw c.take_out.ensures.rows (still_of _ _ _ c.forget_texts.ensures c.leave_lists.ensures.lists);
+      lists = rw c.take_out.ensures.rows (still_of _ _ _ c.forget_texts.ensures c.leave_lists-row.ensures.lists);
       room = rw c.take.ensures.after tt;
       next = rw c.take-2.ensures.after tt;
     }

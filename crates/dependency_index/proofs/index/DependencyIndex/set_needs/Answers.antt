@@ -12,7 +12,8 @@ invariant_of-self-2 c =
       once = c.put.ensures.once;
       rising = rw c.put.ensures.rows (rising_put rows new c.self.invariant.rising next);
       lists = rw c.put.ensures.rows (still_of _ _ _ c.forget_room.ensures.numbers
-          (still_of _ _ _ c.forget_texts.ensures (c.enter_lists.ensures rows c.self.invariant.rising next c.leave_lists.ensures.lists)));
+          (still_of _ _ _ c.forget_texts.ensures (c.enter_lists.ensures rows c.self.invariant.rising next
+          c.leave_lists-row.ensures.lists)));
       room = rw c.in-Some.ensures.after tt;
       next = rw c.take-2.ensures.after tt;
     }
