@@ -21,6 +21,17 @@ pub record AreCodes (count : ℕ) (bytes : List ℕ) : Type 0 where
   pub counted : length (entries_in count bytes) ≡ count
   pub fit : All IsEntry (entries_in count bytes)
 
+abbrev pub IsByte : ℕ → Type 0
+IsByte byte = byte < 2 ^ 8
+
+abbrev pub AreBytes : List ℕ → Type 0
+AreBytes bytes = All IsByte bytes
+
+-- the entry has a code, and this is bytes
+pub record IsCoded (entry : Entry) : Type 0 where
+  pub fits : IsEntry entry
+  pub bytes : AreBytes (code_of entry)
+
 -- the entries whose codes lie in a segment, and for how many bytes more it has room
 pub record Segmented : Type 0 where
   pub entries : List Entry

@@ -1,13 +1,13 @@
 // The trail, and the segments that its bytes lie in.
-ghost use Rattle.std.specs.Prelude.{◌≡◌, ◌+◌, ◌<◌, ◌≤◌, ◌^◌, ◌++◌, ◌∷◌, [], IfOk};
+ghost use Rattle.std.specs.Prelude.{◌≡◌, ◌+◌, ◌<◌, ◌≤◌, ◌^◌, ◌++◌, ◌∷◌, [], All, IfOk};
 ghost use Rattle.std.specs.Prelude.{IsOk, OnErr, OnOk, Some, drop, get_or, length, option_map};
 ghost use Rattle.std.specs.Prelude.{slice_get};
 ghost use Rattle.std.specs.List.{flat_map};
 ghost use Rattle.scm_model.specs.Entries.{text_in};
 ghost use Rattle.scm_model.specs.Texts.{text_of};
 ghost use Rattle.step_code.specs.Codes.{code_of};
-ghost use Rattle.scm_trail.specs.Segments.{AddsSegments, all_entries, bytes_for, last_room};
-ghost use Rattle.scm_trail.specs.Segments.{no_segment};
+ghost use Rattle.scm_trail.specs.Segments.{AddsSegments, AreBytes, IsCoded, all_entries};
+ghost use Rattle.scm_trail.specs.Segments.{bytes_for, last_room, no_segment};
 ghost use Rattle.scm_trail.specs.Trailed.{no_entries};
 
 use crate::entries::Entries;
@@ -132,6 +132,21 @@ fn place_with_room(segments: &[Segment], from: usize, bytes: usize) -> usize
     place
 }
 
+/// The type of a slice of bytes says that each of its numbers is one.
+fn are_bytes(bytes: &[u8])
+    ensures { AreBytes bytes.now }
+{}
+
+/// The loop changes nothing: it shows of each segment that the codes of its entries are bytes,
+/// since they lie in a slice of these.
+fn are_coded(segments: &[Segment])
+    ensures { All IsCoded (all_entries segments.now) }
+{
+    for segment in segments {
+        are_bytes(segment.bytes());
+    }
+}
+
 impl Trail {
     /// A trail of no entries and no room, which takes no memory.
     pub fn new(alloc: Global) -> Trail
@@ -227,7 +242,9 @@ impl Trail {
     pub fn entries(&self) -> Entries<'_>
         ensures entries { result ≡ self.now.entries }
         ensures small { length self.now.entries < 2 ^ 64 }
+        ensures coded { All IsCoded self.now.entries }
     {
+        are_coded(&self.segments);
         Entries::of(*self.segments.allocator(), &self.segments)
     }
 
