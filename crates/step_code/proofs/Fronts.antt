@@ -24,7 +24,7 @@ use Rattle.step_code.proofs.Entries.{entry_again}
 use Rattle.step_code.proofs.TakenRequests.{choose, nothing_is}
 
 -- one of two tests holds
-either : (a b : Bool) {Q : Type 0} → (a ≡ true → Q) → (b ≡ true → Q) → (a || b) ≡ true → Q
+pub either : (a b : Bool) {Q : Type 0} → (a ≡ true → Q) → (b ≡ true → Q) → (a || b) ≡ true → Q
 either true b here there e = here refl
 either false b here there e = there e
 
@@ -80,7 +80,7 @@ numbers_fields op bytes by long =
     )
 
 -- of an opnum that is known
-of_key : (op key : ℕ) (bytes rest : List ℕ) → HasFields key bytes rest → (op == key) ≡ true → HasFields op bytes rest
+pub of_key : (op key : ℕ) (bytes rest : List ℕ) → HasFields key bytes rest → (op == key) ≡ true → HasFields op bytes rest
 of_key op key bytes rest has b = subst (λ (k : ℕ). HasFields k bytes rest) (sym (eqb-true op key b)) has
 
 handle_has : (op : ℕ) (bytes : List ℕ) → 8 ≤ length bytes → has_handle op ≡ true → HasFields op bytes (drop 8 bytes)
@@ -140,7 +140,7 @@ plain_has op size bytes e long =
 -- ## Calls
 
 -- the bytes of a call, part by part
-pub record IsPlain (bytes : List ℕ) (caller : ℕ) (rest : List ℕ) : Type 0 where
+pub record IsCall (bytes : List ℕ) (caller : ℕ) (rest : List ℕ) : Type 0 where
   pub moment : ℕ
   pub step : List ℕ
   pub call : List ℕ
@@ -156,10 +156,10 @@ pub record IsPlain (bytes : List ℕ) (caller : ℕ) (rest : List ℕ) : Type 0 
   pub has : HasFields op fields after
   pub is_kept : kept_at after ≡ Some (append, rest)
 
-pub plain_call : (bytes : List ℕ) (caller : ℕ) (rest : List ℕ) → IsPlain bytes caller rest
+pub call_has_front : (bytes : List ℕ) (caller : ℕ) (rest : List ℕ) → IsCall bytes caller rest
     → front_at bytes ≡ Some (fronts.Called caller, rest)
 unfolding entry_at step_at call_at request_at
-plain_call bytes caller rest p = rw p.is_moment (rw p.is_step (rw p.is_caller (rw p.is_request (rw p.has.1 (rw p.is_kept refl)))))
+call_has_front bytes caller rest p = rw p.is_moment (rw p.is_step (rw p.is_caller (rw p.is_request (rw p.has.1 (rw p.is_kept refl)))))
 
 -- what has a code has its front
 pub front_again : (entry : Entry) (rest : List ℕ) → IsEntry entry → front_at (code_of entry ++ rest) ≡ Some (front_of entry.1, rest)

@@ -9,3 +9,4 @@ pub mod Taken
 pub mod TakenRequests
 pub mod TakenEntries
 pub mod Fronts
+pub mod Passed

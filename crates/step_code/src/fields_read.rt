@@ -266,7 +266,7 @@ pub(crate) fn some_words_of(
 }
 
 #[tactic(auto, unfolding(crate::specs::Reading::action_at))]
-fn action_of(bytes: &[u8]) -> Result<(Action, &[u8]), Stop>
+pub(crate) fn action_of(bytes: &[u8]) -> Result<(Action, &[u8]), Stop>
     ensures { Yields (λ x. (x.0, x.1.now)) result (action_at bytes.now) }
 {
     let (what, rest) = n4_of(bytes)?;
@@ -312,7 +312,7 @@ pub(crate) fn some_actions_of(
 }
 
 #[tactic(auto, unfolding(crate::specs::Reading::trigger_at))]
-fn trigger_of(bytes: &[u8]) -> Result<(TriggerIn, &[u8]), Stop>
+pub(crate) fn trigger_of(bytes: &[u8]) -> Result<(TriggerIn, &[u8]), Stop>
     ensures { Yields (λ x. (x.0, x.1.now)) result (trigger_at bytes.now) }
 {
     let (kind, rest) = n4_of(bytes)?;

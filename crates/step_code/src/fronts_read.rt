@@ -8,13 +8,21 @@ ghost use Rattle.step_code.specs.declared.fronts_read.Front.{Front};
 
 use crate::entries_read::{DecodedEntry, kept_at, read_entry};
 use crate::fields_read::{byte_of, n2_of, n8_of};
+use crate::requests_passed::{
+    after_change, after_change2, after_create, after_enum_services, after_named,
+    after_open_manager, after_set_security, after_set_status, after_start,
+};
 use scm_model::Step;
 use scm_model::codes::{
-    R_CLOSE_NOTIFY_HANDLE, R_CLOSE_SERVICE_HANDLE, R_CONTROL_SERVICE, R_DELETE_SERVICE,
-    R_ENUM_DEPENDENT_SERVICES_W, R_GET_NOTIFY_RESULTS, R_LOCK_SERVICE_DATABASE,
-    R_NOTIFY_SERVICE_STATUS_CHANGE, R_QUERY_SERVICE_CONFIG_W, R_QUERY_SERVICE_CONFIG2_W,
-    R_QUERY_SERVICE_LOCK_STATUS_W, R_QUERY_SERVICE_OBJECT_SECURITY, R_QUERY_SERVICE_STATUS,
-    R_QUERY_SERVICE_STATUS_EX, R_UNLOCK_SERVICE_DATABASE,
+    R_CHANGE_SERVICE_CONFIG_W, R_CHANGE_SERVICE_CONFIG2_W, R_CLOSE_NOTIFY_HANDLE,
+    R_CLOSE_SERVICE_HANDLE, R_CONTROL_SERVICE, R_CREATE_SERVICE_W, R_DELETE_SERVICE,
+    R_ENUM_DEPENDENT_SERVICES_W, R_ENUM_SERVICES_STATUS_W, R_GET_NOTIFY_RESULTS,
+    R_GET_SERVICE_DISPLAY_NAME_W, R_GET_SERVICE_KEY_NAME_W, R_LOCK_SERVICE_DATABASE,
+    R_NOTIFY_SERVICE_STATUS_CHANGE, R_OPEN_SC_MANAGER_W, R_OPEN_SERVICE_W,
+    R_QUERY_SERVICE_CONFIG_W, R_QUERY_SERVICE_CONFIG2_W, R_QUERY_SERVICE_LOCK_STATUS_W,
+    R_QUERY_SERVICE_OBJECT_SECURITY, R_QUERY_SERVICE_STATUS, R_QUERY_SERVICE_STATUS_EX,
+    R_SET_SERVICE_OBJECT_SECURITY, R_SET_SERVICE_STATUS, R_START_SERVICE_W,
+    R_UNLOCK_SERVICE_DATABASE,
 };
 use scm_text::OutOfMemory;
 use std::alloc::Global;
@@ -75,7 +83,7 @@ fn plain_size(opnum: u16) -> Option<usize>
 }
 
 /// The bytes after the fields of an opnum's request, if it is of a handle and at most two numbers.
-fn after_fields(opnum: u16, bytes: &[u8]) -> Option<&[u8]>
+fn after_numbers(opnum: u16, bytes: &[u8]) -> Option<&[u8]>
     ensures { IfSome result (λ rest. HasFields opnum bytes.now rest.now) }
 {
     let size = plain_size(opnum)?;
@@ -86,8 +94,28 @@ fn after_fields(opnum: u16, bytes: &[u8]) -> Option<&[u8]>
     Some(rest)
 }
 
-/// The front of a call whose request is of a handle and at most two numbers.
-fn plain_front(bytes: &[u8]) -> Option<DecodedFront<'_>>
+/// The bytes after the fields of an opnum's request, which are passed over without memory.
+fn after_fields(opnum: u16, bytes: &[u8]) -> Option<&[u8]>
+    ensures { IfSome result (λ rest. HasFields opnum bytes.now rest.now) }
+{
+    match opnum {
+        R_SET_SERVICE_OBJECT_SECURITY => after_set_security(bytes),
+        R_SET_SERVICE_STATUS => after_set_status(bytes),
+        R_CHANGE_SERVICE_CONFIG_W => after_change(bytes),
+        R_CREATE_SERVICE_W => after_create(bytes),
+        R_ENUM_SERVICES_STATUS_W => after_enum_services(bytes),
+        R_OPEN_SC_MANAGER_W => after_open_manager(bytes),
+        R_START_SERVICE_W => after_start(bytes),
+        R_CHANGE_SERVICE_CONFIG2_W => after_change2(bytes),
+        R_OPEN_SERVICE_W | R_GET_SERVICE_DISPLAY_NAME_W | R_GET_SERVICE_KEY_NAME_W => {
+            after_named(opnum, bytes)
+        }
+        _ => after_numbers(opnum, bytes),
+    }
+}
+
+/// The front of a call, whose fields are passed over without memory.
+fn call_front(bytes: &[u8]) -> Option<DecodedFront<'_>>
     ensures { IfSome result (λ read. front_at bytes.now ≡ Some (read.front, read.rest.now)) }
 {
     let Ok((_, rest)) = n8_of(bytes) else {
@@ -134,7 +162,7 @@ fn decoded_front<'a>(
     ensures { IfOk result (λ read. option_map {U = Front × List ℕ}
         (λ f. (f.front, f.rest.now)) read ≡ front_at bytes.now) }
 {
-    match plain_front(bytes) {
+    match call_front(bytes) {
         Some(front) => Ok(Some(front)),
         None => front_by_step(alloc, bytes),
     }
@@ -142,7 +170,7 @@ fn decoded_front<'a>(
 
 /// Reads of the entry whose code begins the bytes what its step says of callers alone, without
 /// making the step. `None` comes exactly if they begin with the code of no entry. It takes no
-/// memory for a call whose request is of a handle and at most two numbers.
+/// memory for the code of a call.
 pub fn read_front<'a>(
     alloc: Global,
     bytes: &'a [u8],

@@ -3,11 +3,13 @@
 
 mod entries_read;
 mod entries_written;
+mod fields_passed;
 mod fields_read;
 mod fields_written;
 mod fronts_read;
 mod law;
 mod length;
+mod requests_passed;
 mod requests_read;
 mod requests_written;
 

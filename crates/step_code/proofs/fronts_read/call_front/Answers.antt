@@ -1,9 +1,9 @@
-use Rattle.step_code.proofs.Fronts.{plain_call}
-use Rattle.step_code.proofs.fronts_read.plain_front.Goals as goal
+use Rattle.step_code.proofs.Fronts.{call_has_front}
+use Rattle.step_code.proofs.fronts_read.call_front.Goals as goal
 
 pub returns : goal.returns
 returns c =
-    plain_call c.args.bytes.now c.in-Ok-n8_of.caller c.in-Ok-kept_at.rest.now (record {
+    call_has_front c.args.bytes.now c.in-Ok-n8_of.caller c.in-Ok-kept_at.rest.now (record {
       moment = c.in-Ok.field-0-0;
       step = c.in-Ok.rest.now;
       call = c.in-Ok-eq1-default.rest.now;

@@ -1,7 +1,7 @@
 use Rattle.std.proofs.Common.{List, arith, subst, sym, ℕ, ◌∙◌}
 use Rattle.step_code.specs.Fronts.{HasFields}
 use Rattle.step_code.proofs.Fronts.{plain_has}
-use Rattle.step_code.proofs.fronts_read.after_fields.Goals as goal
+use Rattle.step_code.proofs.fronts_read.after_numbers.Goals as goal
 
 pub returns : goal.returns
 returns c =

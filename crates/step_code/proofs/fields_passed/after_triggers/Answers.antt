@@ -1,0 +1,11 @@
+use Rattle.step_code.specs.Reading.{trigger_at}
+use Rattle.step_code.proofs.Passed.{items_end, items_on}
+use Rattle.step_code.proofs.fields_passed.after_triggers.Goals as goal
+
+pub loop-preserved : goal.loop-preserved
+loop-preserved c =
+    items_on trigger_at c.args.count c.loop.counter c.loop.rest.now c.in_ok-rest.rest.now c.args.bytes.now c.loop-test.true
+    c.in_ok-rest.ensures c.loop.invariant
+
+pub returns : goal.returns
+returns c = items_end trigger_at c.args.count c.loop.counter c.loop.rest.now c.args.bytes.now c.loop-test.false c.loop.invariant
