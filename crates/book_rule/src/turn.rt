@@ -23,11 +23,17 @@ struct Patience {
     pauses: u32,
 }
 
-/// A thread that comes looks rarely, so one that makes many turns in a row isn't slowed, and keeps
-/// its memory near its processor. It looks about as long as a sleep and a wake take.
+/// A thread that comes looks twice soon, since a turn is short.
 const COMING: Patience = Patience {
-    looks: 40,
+    looks: 2,
     pauses: 32,
+};
+
+/// After that it looks rarely, for about as long as a sleep and a wake take. So one that makes many
+/// turns in a row isn't slowed, and keeps its memory near its processor.
+const STAYING: Patience = Patience {
+    looks: 5,
+    pauses: 256,
 };
 
 /// Who was woken is to have the turn as soon as it is free.
@@ -120,6 +126,9 @@ impl<H: Guarded> Turn<H> {
         }
         if !self.gate.is_shut() {
             if let Some(content) = self.spin(seat, COMING) {
+                return content;
+            }
+            if let Some(content) = self.spin(seat, STAYING) {
                 return content;
             }
         }
