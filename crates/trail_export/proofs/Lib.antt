@@ -1,2 +1,7 @@
+mod Bodies
+mod Values
+mod Carried
+mod Said
 mod Sinking
 mod Parts
+mod Legal

@@ -12,6 +12,12 @@ use Rattle.opening_lines.specs.declared.opening.Opening.{Opening}
 abbrev pub HasRecord : Config → Type 0
 HasRecord config = IsConfig config × IsBytes (encoding config)
 
+-- a moment, texts and configurations that lines can say
+pub record IsFitting (o : Opening) : Type 0 where
+  pub moment : o.moment < 2 ^ 64
+  pub groups : All (All IsUnit) o.groups
+  pub configs : All HasRecord o.configs
+
 -- numbers of the bits that they are written with, and texts, records and bodies that can be read
 pub record IsReadable (o : Opening) (h : List Entry) : Type 0 where
   pub moment : o.moment < 2 ^ 64

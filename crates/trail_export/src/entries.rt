@@ -1,8 +1,9 @@
 // The entries, each with the line that tells its answer.
-ghost use Rattle.std.specs.Prelude.{◌≡◌, ◌+◌, ◌<◌, ◌≤◌, ◌^◌, IsTrue, OnOk, length};
+ghost use Rattle.std.specs.Prelude.{◌≡◌, ◌+◌, ◌<◌, ◌≤◌, ◌^◌, All, IsTrue, OnOk, length};
 ghost use Rattle.outside.specs.Written.{Writes};
 ghost use Rattle.scm_rules.specs.Runs.{IsLegal};
 ghost use Rattle.scm_rules.specs.Steps.{may};
+ghost use Rattle.scm_trail.specs.Segments.{IsCoded};
 ghost use Rattle.trail_text.specs.Histories.{answer_line, ended, entry_lines};
 ghost use Rattle.trail_export.specs.Exports.{HasExportCause, HasStepped, entry_text};
 
@@ -75,6 +76,7 @@ pub fn write_entries<T: Sink>(
     ensures written { Writes (T.held sink.old) (T.held sink.new) result
         (ended (entry_lines manager.old.limits manager.old.flat trail.now.entries)) }
     ensures cause { HasExportCause (T.faults sink.old) (T.faults sink.new) result }
+    ensures coded { All IsCoded trail.now.entries }
 {
     let mut entries = trail.entries();
     while let Some((moment, mut step)) = entries.next()? {

@@ -1,21 +1,38 @@
-ghost use Rattle.std.specs.Prelude.{IfErr, OnOk, ◌+◌, ◌≡◌, ◌≤◌, ◌^◌, length};
+ghost use Rattle.std.specs.Prelude.{All, OnOk, ◌+◌, ◌<◌, ◌≡◌, ◌≤◌, ◌^◌, length};
 ghost use Rattle.outside.specs.Written.{Writes};
 ghost use Rattle.scm_core.specs.Managed.{AreSmall};
+ghost use Rattle.scm_model.specs.Entries.{text_in};
 ghost use Rattle.scm_rules.specs.Histories.{Legal};
 ghost use Rattle.scm_rules.specs.Opening.{CanOpen};
 ghost use Rattle.scm_rules.specs.Runs.{IsLegal};
+ghost use Rattle.scm_trail.specs.Segments.{IsCoded};
 ghost use Rattle.trail_export.specs.Exports.{HasExportCause, IsExportCaused};
-ghost use Rattle.trail_text.specs.Histories.{first_of, told};
+ghost use Rattle.trail_export.specs.Readable.{IsFitting};
+ghost use Rattle.trail_text.specs.Histories.{TellsLegal, first_of, told};
 
 use super::beginning::manager_from;
 use super::entries::write_entries;
 use super::fault::ExportFault;
+use super::fitting::opening_fits;
 use super::head::write_head;
 use opening_lines::Opening;
 use outside::Sink;
 use scm_core::Manager;
+use scm_text::OutOfMemory;
 use scm_trail::Trail;
 use std::alloc::Global;
+
+/// Lines can say what a manager began with and what its history holds: they count in 32 bits. No
+/// limits allow a history as much text as that.
+fn fits_lines(alloc: Global, trail: &Trail, opening: &Opening) -> Result<(), OutOfMemory>
+    ensures opening { OnOk result (IsFitting opening.now) }
+    ensures text { OnOk result (text_in trail.now.entries < 2 ^ 32) }
+{
+    if trail.text() > u64::from(u32::MAX) {
+        return Err(OutOfMemory);
+    }
+    opening_fits(alloc, opening)
+}
 
 /// Writes a history with a manager that stands where it begins, in the line's room.
 fn write_told<T: Sink>(
@@ -33,13 +50,15 @@ fn write_told<T: Sink>(
     ensures written { Writes (T.held sink.old) (T.held sink.new) result
         (told opening.now trail.now.entries) }
     ensures cause { HasExportCause (T.faults sink.old) (T.faults sink.new) result }
+    ensures coded { OnOk result (All IsCoded trail.now.entries) }
 {
     write_head(alloc, opening, line, sink)?;
     write_entries(alloc, manager, trail, line, sink)
 }
 
 /// Writes a legal history as text: the opening, then for each entry its line and that of its
-/// answer. Beside a manager that makes the steps anew this holds one line and one entry.
+/// answer. Beside a manager that makes the steps anew this holds one line and one entry. A history
+/// with 4 GB of text or more finds no memory.
 pub fn export<T: Sink>(
     alloc: Global,
     trail: &Trail,
@@ -51,9 +70,13 @@ pub fn export<T: Sink>(
     requires legal { Legal opening.now.limits (first_of opening.now) trail.now.entries }
     ensures written { Writes (T.held sink.old) (T.held sink.new) result
         (told opening.now trail.now.entries) }
+    // What is written tells that the history is legal, from its opening on.
+    ensures legal { OnOk result (TellsLegal opening.now trail.now.entries
+        (told opening.now trail.now.entries)) }
     ensures grows { T.faults sink.old ≤ T.faults sink.new }
     ensures cause { IsExportCaused result (T.faults sink.old) (T.faults sink.new) }
 {
+    fits_lines(alloc, trail, opening)?;
     let mut manager = manager_from(alloc, opening)?;
     let mut line = Vec::new(alloc);
     let written = write_told(alloc, &mut manager, trail, opening, &mut line, sink);

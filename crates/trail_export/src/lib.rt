@@ -5,6 +5,7 @@ mod beginning;
 mod entries;
 mod exporting;
 mod fault;
+mod fitting;
 mod head;
 mod law;
 mod writing;

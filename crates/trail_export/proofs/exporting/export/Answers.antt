@@ -1,13 +1,19 @@
 use Rattle.std.proofs.Common.{arith}
-use Rattle.std.proofs.lemmas.Result.{err_from_is_err_and}
+use Rattle.std.proofs.lemmas.Result.{err_from_is_err_and, on_ok_weaker}
 use Rattle.trail_text.specs.Histories.{first_of, told}
 use Rattle.trail_export.proofs.Sinking.{nothing_of}
 use Rattle.trail_export.proofs.Parts.{legal_few, legal_made}
+use Rattle.trail_export.proofs.Legal.{tells_coded}
 use Rattle.trail_export.proofs.exporting.export.Goals as goal
+
+pub returns-in_err-fits_lines-clause-written : goal.returns-in_err-fits_lines-clause-written
+returns-in_err-fits_lines-clause-written g c =
+    rw (err_from_is_err_and c.from_residual.result c.from_residual.ensures.1).1
+    (nothing_of (g.T.Sink.held c.args.sink.now) (told c.args.opening.now c.args.trail.now.entries))
 
 pub returns-in_err-manager-clause-written : goal.returns-in_err-manager-clause-written
 returns-in_err-manager-clause-written g c =
-    rw (err_from_is_err_and c.from_residual.result c.from_residual.ensures.1).1
+    rw (err_from_is_err_and c.from_residual-in_err-manager.result c.from_residual-in_err-manager.ensures.1).1
     (nothing_of (g.T.Sink.held c.args.sink.now) (told c.args.opening.now c.args.trail.now.entries))
 
 pub write_told-written-requires-clause-steps : goal.write_told-written-requires-clause-steps
@@ -22,3 +28,9 @@ write_told-written-requires-clause-steps g c =
 pub write_told-written-requires-clause-legal : goal.write_told-written-requires-clause-legal
 write_told-written-requires-clause-legal g c =
     let o = c.args.opening.now in legal_made o.limits (first_of o) c.args.trail.now.entries c.requires.legal
+
+pub returns-clause-legal : goal.returns-clause-legal
+returns-clause-legal g c =
+    on_ok_weaker c.write_told-written.result
+    (tells_coded c.args.opening.now c.args.trail.now.entries c.requires.small c.requires.can c.requires.legal
+    c.in_ok-fits_lines.ensures.opening c.in_ok-fits_lines.ensures.text) c.write_told-written.ensures.coded

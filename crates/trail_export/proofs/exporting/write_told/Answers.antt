@@ -6,7 +6,7 @@ use Rattle.scm_model.specs.declared.flat.Limits.{Limits}
 use Rattle.scm_rules.specs.Runs.{IsLegal}
 use Rattle.opening_lines.specs.Heads.{head_lines}
 use Rattle.trail_text.specs.Histories.{ended, entry_lines, first_of}
-use Rattle.trail_export.proofs.Sinking.{front_of, written_then}
+use Rattle.trail_export.proofs.Sinking.{front_of, on_ok, written_then}
 use Rattle.trail_export.proofs.Parts.{told_is}
 use Rattle.trail_export.proofs.exporting.write_told.Goals as goal
 
@@ -39,3 +39,6 @@ returns-clause-written g c =
     subst (Writes old new c.write_entries.result) (sym (told_is o h))
     (written_then old mid new c.write_entries.result (ended (head_lines o)) (ended (entry_lines o.limits (first_of o) h))
     c.in_ok-write_head.ensures.written rest)
+
+pub returns-clause-coded : goal.returns-clause-coded
+returns-clause-coded g c = on_ok c.write_entries.result c.write_entries.ensures.coded
