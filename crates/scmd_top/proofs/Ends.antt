@@ -1,5 +1,5 @@
 -- No job has the status of words that are none.
-use Rattle.std.proofs.Common.{Bool, true, false, ℕ, ◌≡◌, ◌≢◌, ◌∙◌, List, Option, inl, inr, sym, Ok, Err}
+use Rattle.std.proofs.Common.{Bool, true, false, ℕ, ◌≡◌, ◌≢◌, ◌∙◌, ◌++◌, List, Option, inl, inr, sym, Ok, Err}
 use Rattle.std.specs.Prelude.{Result, codes}
 use Rattle.record_journal.specs.declared.keeper.KeepFault.TheVariants as keeps
 use Rattle.record_journal.specs.declared.opening.JournalFault.{JournalFault}
@@ -24,7 +24,7 @@ use Rattle.scmd_top.proofs.Openings.{not_of_fault}
 use Rattle.opening_lines.specs.declared.opening.Opening.{Opening as Beginning}
 use Rattle.scm_serving.specs.declared.serving.BookEnd.{BookEnd}
 use Rattle.scm_serving.specs.declared.serving.BookEnd.TheVariants.{Ended, ListenFault, OutOfMemory}
-use Rattle.scmd_top.specs.Serving.{HasSummary}
+use Rattle.scmd_top.specs.Serving.{HasSummary, IsPut, exported}
 use Rattle.scmd_top.specs.Sides.{Ports, Side, Sides}
 use Rattle.scmd_top.specs.Stores.{status_of_compact, status_of_move}
 
@@ -69,10 +69,14 @@ not_of_audit audited.Worn output status v = λ e. absurd (cc (v.0, e))
 not_10 : (status : ℕ) → status ≡ 10 → status ≢ 5
 not_10 status is = λ e. cc
 
+not_of_put : (text : List ℕ) (begun : Option Beginning) (output : Side) (status : ℕ) → IsPut text begun output status → status ≢ 5
+not_of_put text begun output status (inl h) = λ e. absurd (cc (h.0, e))
+not_of_put text begun output status (inr (inl h)) = λ e. absurd (cc (h.0, e))
+not_of_put text begun output status (inr (inr h)) = λ e. absurd (cc (h.0, e))
+
 not_of_serve : (begun : Option Beginning) (end : BookEnd) (output : Side) (status : ℕ) → HasSummary begun end output status → status ≢ 5
-not_of_serve begun (Ended text trail) output status (inl h) = λ e. absurd (cc (h.0, e))
-not_of_serve begun (Ended text trail) output status (inr (inl h)) = λ e. absurd (cc (h.0, e))
-not_of_serve begun (Ended text trail) output status (inr (inr h)) = λ e. absurd (cc (h.0, e))
+not_of_serve begun (Ended text trail) output status h =
+    not_of_put (exported begun trail.entries ++ text) begun output status h.0
 not_of_serve begun OutOfMemory output status h = λ e. absurd (cc (h.0, e))
 not_of_serve begun ListenFault output status h = not_10 status h.0
 

@@ -1,5 +1,5 @@
 -- A server over a book of its own, behind the opening of its journal.
-use Rattle.std.proofs.Common.{ℕ, ◌≡◌, Bool, true, false, List, Option, refl, sym, subst, inl, inr, ◌⊎◌, ⊎_elim}
+use Rattle.std.proofs.Common.{ℕ, ◌≡◌, ◌++◌, Bool, true, false, List, Option, refl, sym, subst, inl, inr, ◌⊎◌, ⊎_elim}
 use Rattle.outside.specs.Causes.{Rose}
 use Rattle.scm_model.specs.Entries.{Entry}
 use Rattle.scm_model.specs.declared.flat.Config.{Config}
@@ -21,7 +21,7 @@ use Rattle.scm_serving.specs.Serving.{ServesBook}
 use Rattle.scm_serving.specs.declared.serving.BookEnd.{BookEnd}
 use Rattle.scm_serving.specs.declared.serving.BookEnd.TheVariants.{Ended, ListenFault, OutOfMemory}
 use Rattle.scmd_top.specs.Opening.{FailsToOpen, HasNotOpened, HasOpened, IsUnopened, beginning_if, program_opening, status_of_fault}
-use Rattle.scmd_top.specs.Serving.{CanEnd, HasServed, HasServedOver, HasSummary, IsServingComplete}
+use Rattle.scmd_top.specs.Serving.{CanEnd, HasServed, HasServedOver, HasSummary, IsPut, IsServingComplete, exported}
 use Rattle.scmd_top.specs.Sides.{IsUntouched, Ports, Side, Sides, side}
 use Rattle.scmd_top.specs.Statuses.{program_limits}
 use Rattle.scmd_top.proofs.Again.{opens_again}
@@ -173,16 +173,19 @@ not_opened tells path groups export admin user s p fault h input output a u =
 
 -- ## Completeness
 
+put_complete : (path : Bool) (s : Sides) (p : Ports) (status : ℕ) (text : List ℕ) (begun : Option Beginning)
+    → IsPut text begun s.output status → IsServingComplete path s p status
+put_complete path s p status text begun (inl w) = λ output a u. inl (inl w.0)
+put_complete path s p status text begun (inr (inl w)) = λ output a u. absurd (output w.2)
+put_complete path s p status text begun (inr (inr w)) = λ output a u. inl (inr w.0)
+
 written_complete : (tells : ℕ → Type 0) (path : Bool) (groups : List (List ℕ)) (export : Bool) (admin user : Listening) (s : Sides)
     (p : Ports) (status : ℕ) (begun : Option Beginning) (end : BookEnd)
     → HasServedOver tells path groups export s.keeper (listening_at p.admin admin) p.admin_now (listening_at p.user user) p.user_now
     begun end
     → HasSummary begun end s.output status → IsServingComplete path s p status
-written_complete tells path groups export admin user s p status begun (Ended text trail) over (inl w) = λ output a u. inl (inl w.0)
-written_complete tells path groups export admin user s p status begun (Ended text trail) over (inr (inl w)) =
-    λ output a u. absurd (output w.2)
-written_complete tells path groups export admin user s p status begun (Ended text trail) over (inr (inr w)) =
-    λ output a u. inl (inr w.0)
+written_complete tells path groups export admin user s p status begun (Ended text trail) over w =
+    put_complete path s p status (exported begun trail.entries ++ text) begun w.0
 written_complete tells path groups export admin user s p status begun OutOfMemory over w = λ output a u. inl (inr w.0)
 written_complete tells path groups export admin user s p status begun ListenFault (inl h) w =
     λ output a u. ⊎_elim (λ r. absurd (a r)) (λ r. absurd (u r)) h.ends.1

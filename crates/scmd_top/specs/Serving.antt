@@ -12,7 +12,7 @@ use Rattle.record_journal.specs.declared.replaying.Replay.{Replay}
 use Rattle.scm_model.specs.declared.flat.Config.{Config}
 use Rattle.book_rule.specs.declared.view.Opening.{Opening}
 use Rattle.opening_lines.specs.declared.opening.Opening.{Opening as Beginning}
-use Rattle.trail_text.specs.Histories.{first_of, told}
+use Rattle.trail_text.specs.Histories.{TellsLegal, first_of, told}
 use Rattle.scm_book.specs.Holds.{failures_in}
 use Rattle.scm_kept.specs.Fitting.{AllFit}
 use Rattle.scm_listener.specs.declared.listener.Listening.{Listening}
@@ -44,6 +44,11 @@ abbrev pub CanExport : Option Beginning → List Entry → Type 0
 CanExport None history = Unit {0}
 CanExport (Some begun) history = CanTell begun history
 
+-- what is written of it tells that it is legal
+abbrev pub TellsExport : Option Beginning → List Entry → Type 0
+TellsExport None history = Unit {0}
+TellsExport (Some begun) history = TellsLegal begun history (told begun history)
+
 abbrev pub CanEnd : Option Beginning → BookEnd → Type 0
 CanEnd begun (Ended text trail) = CanExport begun trail.entries
 CanEnd begun end = Unit {0}
@@ -55,9 +60,10 @@ IsPut text begun output status =
     ⊎ ((status ≡ 2) × AppendsFront output.told output.told_now text × Rose output.faults output.faults_now)
     ⊎ ((status ≡ 8) × AppendsFront output.told output.told_now text × IsSome begun × (output.faults_now ≡ output.faults))
 
--- what is exported of the history, and the summary; at another end nothing
+-- what is exported of the history, which tells that it is legal where all of it was written, and the summary; at another end nothing
 abbrev pub HasSummary : Option Beginning → BookEnd → (output : Side) → (status : ℕ) → Type 0
-HasSummary begun (Ended text trail) output status = IsPut (exported begun trail.entries ++ text) begun output status
+HasSummary begun (Ended text trail) output status =
+    IsPut (exported begun trail.entries ++ text) begun output status × (status ≡ 0 → TellsExport begun trail.entries)
 HasSummary begun OutOfMemory output status = (status ≡ 8) × IsUntouched output
 HasSummary begun ListenFault output status = (status ≡ 10) × IsUntouched output
 

@@ -1,8 +1,9 @@
 //! What a server writes at its end: its history, if it is to be exported, and its summary.
-ghost use Rattle.std.specs.Prelude.{◌≡◌, ◌≤◌, ◌++◌, IsErrOf, IsSome};
+ghost use Rattle.std.specs.Prelude.{◌≡◌, ◌≤◌, ◌++◌, IsErrOf, IsSome, OnOk};
 ghost use Rattle.outside.specs.Written.{Writes};
 ghost use Rattle.trail_export.specs.Exports.{IsExportCaused};
-ghost use Rattle.scmd_top.specs.Serving.{CanEnd, CanExport, HasSummary, IsPut, exported};
+ghost use Rattle.scmd_top.specs.Serving.{CanEnd, CanExport, HasSummary, IsPut, TellsExport};
+ghost use Rattle.scmd_top.specs.Serving.{exported};
 ghost use Rattle.scmd_top.specs.Sides.{side};
 
 use opening_lines::Opening;
@@ -22,6 +23,7 @@ fn export_from<O: Sink>(
     requires legal { CanExport opening.now history.now.entries }
     ensures written { Writes (O.held output.old) (O.held output.new) result
         (exported opening.now history.now.entries) }
+    ensures tells { OnOk result (TellsExport opening.now history.now.entries) }
     ensures grows { O.faults output.old ≤ O.faults output.new }
     ensures cause { IsExportCaused result (O.faults output.old) (O.faults output.new) }
     ensures lacks { IsErrOf result ExportFault.OutOfMemory → IsSome opening.now }
@@ -44,6 +46,7 @@ fn put_history<O: Sink>(
     requires legal { CanExport opening.now history.now.entries }
     ensures put { IsPut (exported opening.now history.now.entries ++ summary.now) opening.now
         (side O.held O.faults output.old output.new) result }
+    ensures tells { result ≡ 0 → TellsExport opening.now history.now.entries }
     ensures output { O.faults output.old ≤ O.faults output.new }
 {
     match export_from(alloc, opening, history, output) {

@@ -36,3 +36,15 @@ returns-in-Err-OutOfMemory-clause-put g c = inr (inr (
   c.in-Err-OutOfMemory.ensures.lacks (ap Err c.in-Err-OutOfMemory.field-0-is),
   rw c.in-Err-OutOfMemory.field-0-is at c.in-Err-OutOfMemory.ensures.cause,
 ))
+
+pub returns-in-Ok-write_all-clause-tells : goal.returns-in-Ok-write_all-clause-tells
+returns-in-Ok-write_all-clause-tells g c = λ is. c.in-Ok.ensures.tells
+
+pub returns-in-Err-clause-tells : goal.returns-in-Err-clause-tells
+returns-in-Err-clause-tells g c = λ is. absurd cc
+
+pub returns-in-Err-WriteFault-clause-tells : goal.returns-in-Err-WriteFault-clause-tells
+returns-in-Err-WriteFault-clause-tells g c = λ is. absurd cc
+
+pub returns-in-Err-OutOfMemory-clause-tells : goal.returns-in-Err-OutOfMemory-clause-tells
+returns-in-Err-OutOfMemory-clause-tells g c = λ is. absurd cc
