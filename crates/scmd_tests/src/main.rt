@@ -43,3 +43,10 @@ mod sc_session;
 mod serving;
 #[cfg(test)]
 mod talks;
+
+use std::io;
+
+/// The program does nothing: the crate is there for its tests.
+fn main(_rt: HostRuntime) -> io::Result<()> {
+    Ok(())
+}
