@@ -5,12 +5,12 @@ use Rattle.std.specs.Int.{w16, to_le_bytes}
 use Rattle.std.specs.List.{flat_map, list_any}
 use Rattle.std.specs.Result.{result_ok}
 use Rattle.decimal_words.specs.Numbers.{number_below}
-use Rattle.hex.specs.Hex.{encode_lower}
+use Rattle.hex.specs.Hex.{IsBytes, encode_lower}
 use Rattle.ndr_body.specs.Units.{le_units}
 use Rattle.scm_model.specs.declared.flat.Config.{Config}
 use Rattle.scm_model.specs.declared.flat.Limits.{Limits}
 use Rattle.service_record.specs.Reading.{record_of}
-use Rattle.service_record.specs.Spelling.{encoding}
+use Rattle.service_record.specs.Spelling.{IsConfig, encoding}
 use Rattle.scm_lines.specs.Entries.{spaced}
 use Rattle.scm_lines.specs.Words.{◌>>=◌, decimal_at, hex_at, line_words}
 use Rattle.opening_lines.specs.declared.opening.Opening.{Opening}
@@ -110,3 +110,7 @@ pub record AreInRange (l : Limits) : Type 0 where
   pub controls : l.controls < 2 ^ 32
   pub steps : l.steps < 2 ^ 64
   pub text : l.text < 2 ^ 64
+
+-- a configuration that a record encodes
+abbrev pub HasRecord : Config → Type 0
+HasRecord config = IsConfig config × IsBytes (encoding config)

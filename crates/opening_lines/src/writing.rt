@@ -1,9 +1,12 @@
-ghost use Rattle.std.specs.Prelude.{◌≡◌, ◌++◌, ◌∷◌, [], OnOk, decimal, map};
+ghost use Rattle.std.specs.Prelude.{◌≡◌, ◌++◌, ◌∷◌, [], All, OnOk, decimal, map};
 ghost use Rattle.std.specs.Int.{w16, to_le_bytes};
 ghost use Rattle.std.specs.List.{flat_map};
-ghost use Rattle.hex.specs.Hex.{encode_lower};
+ghost use Rattle.hex.specs.Hex.{IsBytes, encode_lower};
 ghost use Rattle.scm_lines.specs.Entries.{spaced};
-ghost use Rattle.opening_lines.specs.Heads.{config_line, group_line, limits_line, moment_line};
+ghost use Rattle.scm_text.specs.Fold.{HasNoZero};
+ghost use Rattle.service_record.specs.Spelling.{IsUnit};
+ghost use Rattle.opening_lines.specs.Heads.{HasRecord, config_line, group_line, limits_line};
+ghost use Rattle.opening_lines.specs.Heads.{moment_line};
 
 use scm_lines::{add_hex, add_numbers};
 use scm_model::{Config, Limits};
@@ -75,19 +78,33 @@ fn append_units(bytes: &mut Items<u8>, units: &[u16]) -> Result<(), OutOfMemory>
     Ok(())
 }
 
+fn units_fit(units: &[u16])
+    requires { HasNoZero units.now }
+    ensures { All IsUnit units.now }
+{}
+
 /// The same of a listed group.
 pub fn put_group(alloc: Global, line: &mut Vec<u8>, group: &WText) -> Result<(), OutOfMemory>
-    ensures { OnOk result (line.new.items ≡ group_line group.now) }
+    ensures line { OnOk result (line.new.items ≡ group_line group.now) }
+    ensures units { All IsUnit group.now }
 {
+    let units = group.units();
+    units_fit(units);
     let mut bytes = Items::new(alloc);
-    append_units(&mut bytes, group.units())?;
+    append_units(&mut bytes, units)?;
     put_bytes(alloc, line, "group", bytes.as_slice())
 }
 
-/// The same of a configuration.
+fn bytes_fit(bytes: &[u8])
+    ensures { IsBytes bytes.now }
+{}
+
+/// The same of a configuration. One with a list of 2^32 items has no record, and finds no memory.
 pub fn put_config(alloc: Global, line: &mut Vec<u8>, config: &Config) -> Result<(), OutOfMemory>
-    ensures { OnOk result (line.new.items ≡ config_line config.now) }
+    ensures line { OnOk result (line.new.items ≡ config_line config.now) }
+    ensures has_record { OnOk result (HasRecord config.now) }
 {
     let bytes = record_bytes(alloc, config)?;
+    bytes_fit(bytes.as_slice());
     put_bytes(alloc, line, "config", bytes.as_slice())
 }

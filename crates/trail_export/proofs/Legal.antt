@@ -20,11 +20,11 @@ use Rattle.service_record.specs.Spelling.{IsUnit}
 use Rattle.scm_core.specs.Managed.{AreSmall}
 use Rattle.scm_lines.specs.Entries.{HasLine}
 use Rattle.opening_lines.specs.declared.opening.Opening.{Opening}
-use Rattle.opening_lines.specs.Heads.{AreInRange, config_at, config_line, group_at, group_line}
+use Rattle.opening_lines.specs.Heads.{AreInRange, HasRecord, config_at, config_line, group_at, group_line}
 use Rattle.opening_lines.proofs.Again.{config_again, group_again, limits_again, moment_again}
 use Rattle.trail_text.specs.Histories.{TellsLegal, first_of, told}
 use Rattle.trail_text.proofs.Right.{exported}
-use Rattle.trail_export.specs.Readable.{HasRecord, IsFitting, IsReadable}
+use Rattle.trail_export.specs.Readable.{IsFitting, IsReadable}
 use Rattle.trail_export.proofs.Parts.{legal_made}
 use Rattle.trail_export.proofs.Said.{IsRanged, line_of_code}
 

@@ -13,6 +13,10 @@ pub on_ok : {T E P : Type 0} (r : Result T E) → P → OnOk r P
 on_ok (Ok x) p = p
 on_ok (Err y) p = tt
 
+pub on_ok_both : {T E P Q R : Type 0} (r : Result T E) → (P → Q → R) → OnOk r P → OnOk r Q → OnOk r R
+on_ok_both (Ok x) both p q = both p q
+on_ok_both (Err y) both p q = tt
+
 -- nothing of a text was written
 pub nothing_of : (held : Option (List ℕ)) (text : List ℕ) → AppendsFront held held text
 nothing_of held text = record { front = []; begins = (text, refl); held = Appends-nil held }

@@ -1,16 +1,11 @@
 -- Histories whose lines can be read.
 use Rattle.std.specs.Prelude.{◌<◌, ◌^◌, All, List}
 use Rattle.std.specs.List.{AllByRecursion}
-use Rattle.hex.specs.Hex.{IsBytes}
-use Rattle.scm_model.specs.declared.flat.Config.{Config}
 use Rattle.scm_model.specs.Entries.{Entry}
-use Rattle.service_record.specs.Spelling.{IsConfig, IsUnit, encoding}
+use Rattle.service_record.specs.Spelling.{IsUnit}
 use Rattle.scm_lines.specs.Entries.{HasLine}
 use Rattle.opening_lines.specs.declared.opening.Opening.{Opening}
-
--- a configuration that a record encodes
-abbrev pub HasRecord : Config → Type 0
-HasRecord config = IsConfig config × IsBytes (encoding config)
+use Rattle.opening_lines.specs.Heads.{HasRecord}
 
 -- a moment, texts and configurations that lines can say
 pub record IsFitting (o : Opening) : Type 0 where

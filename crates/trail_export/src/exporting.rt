@@ -13,7 +13,6 @@ ghost use Rattle.trail_text.specs.Histories.{TellsLegal, first_of, told};
 use super::beginning::manager_from;
 use super::entries::write_entries;
 use super::fault::ExportFault;
-use super::fitting::opening_fits;
 use super::head::write_head;
 use opening_lines::Opening;
 use outside::Sink;
@@ -22,16 +21,15 @@ use scm_text::OutOfMemory;
 use scm_trail::Trail;
 use std::alloc::Global;
 
-/// Lines can say what a manager began with and what its history holds: they count in 32 bits. No
-/// limits allow a history as much text as that.
-fn fits_lines(alloc: Global, trail: &Trail, opening: &Opening) -> Result<(), OutOfMemory>
-    ensures opening { OnOk result (IsFitting opening.now) }
-    ensures text { OnOk result (text_in trail.now.entries < 2 ^ 32) }
+/// Lines can say what a history holds: they count in 32 bits. No limits allow a history as much
+/// text as that.
+fn fits_lines(trail: &Trail) -> Result<(), OutOfMemory>
+    ensures { OnOk result (text_in trail.now.entries < 2 ^ 32) }
 {
     if trail.text() > u64::from(u32::MAX) {
         return Err(OutOfMemory);
     }
-    opening_fits(alloc, opening)
+    Ok(())
 }
 
 /// Writes a history with a manager that stands where it begins, in the line's room.
@@ -50,6 +48,7 @@ fn write_told<T: Sink>(
     ensures written { Writes (T.held sink.old) (T.held sink.new) result
         (told opening.now trail.now.entries) }
     ensures cause { HasExportCause (T.faults sink.old) (T.faults sink.new) result }
+    ensures fitting { OnOk result (IsFitting opening.now) }
     ensures coded { OnOk result (All IsCoded trail.now.entries) }
 {
     write_head(alloc, opening, line, sink)?;
@@ -76,7 +75,7 @@ pub fn export<T: Sink>(
     ensures grows { T.faults sink.old ≤ T.faults sink.new }
     ensures cause { IsExportCaused result (T.faults sink.old) (T.faults sink.new) }
 {
-    fits_lines(alloc, trail, opening)?;
+    fits_lines(trail)?;
     let mut manager = manager_from(alloc, opening)?;
     let mut line = Vec::new(alloc);
     let written = write_told(alloc, &mut manager, trail, opening, &mut line, sink);

@@ -1,10 +1,12 @@
 // The lines before the entries.
-ghost use Rattle.std.specs.Prelude.{◌++◌, ◌∷◌, [], map};
+ghost use Rattle.std.specs.Prelude.{◌<◌, ◌^◌, ◌++◌, ◌∷◌, [], All, OnOk, map};
 ghost use Rattle.outside.specs.Written.{Writes};
-ghost use Rattle.opening_lines.specs.Heads.{config_line, group_line, head_lines, limits_line};
-ghost use Rattle.opening_lines.specs.Heads.{moment_line};
+ghost use Rattle.opening_lines.specs.Heads.{HasRecord, config_line, group_line, head_lines};
+ghost use Rattle.opening_lines.specs.Heads.{limits_line, moment_line};
+ghost use Rattle.service_record.specs.Spelling.{IsUnit};
 ghost use Rattle.trail_text.specs.Histories.{ended};
 ghost use Rattle.trail_export.specs.Exports.{HasExportCause};
+ghost use Rattle.trail_export.specs.Readable.{IsFitting};
 
 use super::fault::ExportFault;
 use super::writing::write_line;
@@ -31,6 +33,7 @@ fn write_moment<T: Sink>(moment: u64, line: &mut Vec<u8>, sink: &mut T) -> Resul
     ensures written { Writes (T.held sink.old) (T.held sink.new) result
         (moment_line moment ++ 10 ∷ []) }
     ensures cause { HasExportCause (T.faults sink.old) (T.faults sink.new) result }
+    ensures fits { moment < 2 ^ 64 }
 {
     put_moment(line, moment)?;
     write_line(line, sink)
@@ -45,6 +48,7 @@ fn write_group<T: Sink>(
     ensures written { Writes (T.held sink.old) (T.held sink.new) result
         (group_line group.now ++ 10 ∷ []) }
     ensures cause { HasExportCause (T.faults sink.old) (T.faults sink.new) result }
+    ensures fits { All IsUnit group.now }
 {
     put_group(alloc, line, group)?;
     write_line(line, sink)
@@ -59,6 +63,7 @@ fn write_groups<T: Sink>(
     ensures written { Writes (T.held sink.old) (T.held sink.new) result
         (ended (map group_line groups.now)) }
     ensures cause { HasExportCause (T.faults sink.old) (T.faults sink.new) result }
+    ensures fit { OnOk result (All (All IsUnit) groups.now) }
 {
     for group in groups {
         write_group(alloc, group, line, sink)?;
@@ -75,6 +80,7 @@ fn write_config<T: Sink>(
     ensures written { Writes (T.held sink.old) (T.held sink.new) result
         (config_line config.now ++ 10 ∷ []) }
     ensures cause { HasExportCause (T.faults sink.old) (T.faults sink.new) result }
+    ensures fits { OnOk result (HasRecord config.now) }
 {
     put_config(alloc, line, config)?;
     write_line(line, sink)
@@ -89,6 +95,7 @@ fn write_configs<T: Sink>(
     ensures written { Writes (T.held sink.old) (T.held sink.new) result
         (ended (map config_line configs.now)) }
     ensures cause { HasExportCause (T.faults sink.old) (T.faults sink.new) result }
+    ensures fit { OnOk result (All HasRecord configs.now) }
 {
     for config in configs {
         write_config(alloc, config, line, sink)?;
@@ -106,6 +113,8 @@ pub fn write_head<T: Sink>(
     ensures written { Writes (T.held sink.old) (T.held sink.new) result
         (ended (head_lines opening.now)) }
     ensures cause { HasExportCause (T.faults sink.old) (T.faults sink.new) result }
+    // Lines can say its numbers, groups and configurations.
+    ensures fitting { OnOk result (IsFitting opening.now) }
 {
     write_limits(&opening.limits, line, sink)?;
     write_moment(opening.moment, line, sink)?;

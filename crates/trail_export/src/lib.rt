@@ -5,7 +5,6 @@ mod beginning;
 mod entries;
 mod exporting;
 mod fault;
-mod fitting;
 mod head;
 mod law;
 mod writing;

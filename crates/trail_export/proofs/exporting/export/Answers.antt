@@ -1,7 +1,7 @@
 use Rattle.std.proofs.Common.{arith}
-use Rattle.std.proofs.lemmas.Result.{err_from_is_err_and, on_ok_weaker}
+use Rattle.std.proofs.lemmas.Result.{err_from_is_err_and}
 use Rattle.trail_text.specs.Histories.{first_of, told}
-use Rattle.trail_export.proofs.Sinking.{nothing_of}
+use Rattle.trail_export.proofs.Sinking.{nothing_of, on_ok_both}
 use Rattle.trail_export.proofs.Parts.{legal_few, legal_made}
 use Rattle.trail_export.proofs.Legal.{tells_coded}
 use Rattle.trail_export.proofs.exporting.export.Goals as goal
@@ -31,6 +31,6 @@ write_told-written-requires-clause-legal g c =
 
 pub returns-clause-legal : goal.returns-clause-legal
 returns-clause-legal g c =
-    on_ok_weaker c.write_told-written.result
-    (tells_coded c.args.opening.now c.args.trail.now.entries c.requires.small c.requires.can c.requires.legal
-    c.in_ok-fits_lines.ensures.opening c.in_ok-fits_lines.ensures.text) c.write_told-written.ensures.coded
+    on_ok_both c.write_told-written.result
+    (λ fits. tells_coded c.args.opening.now c.args.trail.now.entries c.requires.small c.requires.can c.requires.legal fits
+    c.in_ok-fits_lines.ensures) c.write_told-written.ensures.fitting c.write_told-written.ensures.coded

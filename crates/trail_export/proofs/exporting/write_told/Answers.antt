@@ -42,3 +42,6 @@ returns-clause-written g c =
 
 pub returns-clause-coded : goal.returns-clause-coded
 returns-clause-coded g c = on_ok c.write_entries.result c.write_entries.ensures.coded
+
+pub returns-clause-fitting : goal.returns-clause-fitting
+returns-clause-fitting g c = on_ok c.write_entries.result c.in_ok-write_head.ensures.fitting

@@ -2,7 +2,7 @@ use Rattle.std.proofs.Common.{◌++◌, ◌∷◌, [], subst}
 use Rattle.std.proofs.lemmas.Result.{err_from_is_err_and}
 use Rattle.outside.specs.Written.{Writes}
 use Rattle.opening_lines.specs.Heads.{config_line}
-use Rattle.trail_export.proofs.Sinking.{nothing_of}
+use Rattle.trail_export.proofs.Sinking.{nothing_of, on_ok}
 use Rattle.trail_export.proofs.head.write_config.Goals as goal
 
 pub returns-in_err-put_config-clause-written : goal.returns-in_err-put_config-clause-written
@@ -13,4 +13,7 @@ returns-in_err-put_config-clause-written g c =
 pub returns-clause-written : goal.returns-clause-written
 returns-clause-written g c =
     subst (λ text. Writes (g.T.Sink.held c.args.sink.now) (g.T.Sink.held c.write_line.new.sink) c.write_line.result (text ++ 10 ∷ []))
-    c.in_ok-put_config.ensures c.write_line.ensures.written
+    c.in_ok-put_config.ensures.line c.write_line.ensures.written
+
+pub returns-clause-fits : goal.returns-clause-fits
+returns-clause-fits g c = on_ok c.write_line.result c.in_ok-put_config.ensures.has_record

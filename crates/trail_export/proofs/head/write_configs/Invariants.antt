@@ -1,6 +1,6 @@
-use Rattle.std.proofs.Common.{◌≡◌, drop, map}
+use Rattle.std.proofs.Common.{All, ◌≡◌, drop, map, take}
 use Rattle.outside.proofs.Sending.{Sent}
-use Rattle.opening_lines.specs.Heads.{config_line}
+use Rattle.opening_lines.specs.Heads.{HasRecord, config_line}
 use Rattle.trail_text.specs.Histories.{ended}
 use Rattle.trail_export.proofs.head.write_configs.Given as goal
 
@@ -9,4 +9,5 @@ abbrev pub invariant-loop-config : goal.invariant-loop-config
 invariant-loop-config g l = record {
   sent : Sent (g.T.Sink.held l.fn.sink) (g.T.Sink.held l.sink) (ended (map config_line l.configs)) (ended (map config_line (drop l.config-index l.configs)));
   faults : g.T.Sink.faults l.sink ≡ g.T.Sink.faults l.fn.sink;
+  fit : All HasRecord (take l.config-index l.configs);
 }

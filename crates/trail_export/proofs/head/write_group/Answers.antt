@@ -13,4 +13,4 @@ returns-in_err-put_group-clause-written g c =
 pub returns-clause-written : goal.returns-clause-written
 returns-clause-written g c =
     subst (λ text. Writes (g.T.Sink.held c.args.sink.now) (g.T.Sink.held c.write_line.new.sink) c.write_line.result (text ++ 10 ∷ []))
-    c.in_ok-put_group.ensures c.write_line.ensures.written
+    c.in_ok-put_group.ensures.line c.write_line.ensures.written

@@ -1,6 +1,9 @@
-use Rattle.std.proofs.Common.{◌++◌, ◌∷◌, ◌∙◌, [], subst, refl}
+use Rattle.std.proofs.Common.{All, ◌++◌, ◌∷◌, ◌∙◌, [], subst, refl}
+use Rattle.std.proofs.lemmas.List.{take_all}
+use Rattle.std.proofs.lemmas.List.Elements.{All-more}
 use Rattle.std.proofs.lemmas.Result.{err_from_is_err_and}
 use Rattle.outside.proofs.Sending.{sent_none}
+use Rattle.service_record.specs.Spelling.{IsUnit}
 use Rattle.opening_lines.specs.Heads.{group_line}
 use Rattle.trail_export.proofs.Sinking.{line_failed, line_sent, lines_sent}
 use Rattle.trail_export.proofs.head.write_groups.Goals as goal
@@ -11,6 +14,8 @@ loop-group-preserved g c = record {
       (g.T.Sink.held c.loop-group.sink) (g.T.Sink.held c.write_group.new.sink) c.group-item.result c.group-item.is
       c.loop-group-test.true c.loop-group.invariant.sent c.in_ok-write_group.ensures.written;
   faults = c.in_ok-write_group.ensures.cause.caused ∙ c.loop-group.invariant.faults;
+  fit = All-more (All IsUnit) c.args.groups.now c.loop-group.group-index c.group-item.result c.loop-group-test.true c.loop-group.invariant.fit
+      (subst (All IsUnit) c.group-item.is c.write_group.ensures.fits);
 }
 
 pub returns-in_err-write_group-clause-written : goal.returns-in_err-write_group-clause-written
@@ -23,3 +28,7 @@ returns-in_err-write_group-clause-written g c =
 pub returns-clause-written : goal.returns-clause-written
 returns-clause-written g c = lines_sent group_line c.args.groups.now c.loop-group.group-index (g.T.Sink.held c.args.sink.now)
     (g.T.Sink.held c.loop-group.sink) c.loop-group-test.false c.loop-group.invariant.sent
+
+pub returns-clause-fit : goal.returns-clause-fit
+returns-clause-fit g c =
+    subst (All (All IsUnit)) (take_all c.loop-group.group-index c.args.groups.now c.loop-group-test.false) c.loop-group.invariant.fit

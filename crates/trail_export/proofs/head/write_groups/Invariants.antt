@@ -1,5 +1,6 @@
-use Rattle.std.proofs.Common.{◌≡◌, drop, map}
+use Rattle.std.proofs.Common.{All, ◌≡◌, drop, map, take}
 use Rattle.outside.proofs.Sending.{Sent}
+use Rattle.service_record.specs.Spelling.{IsUnit}
 use Rattle.opening_lines.specs.Heads.{group_line}
 use Rattle.trail_text.specs.Histories.{ended}
 use Rattle.trail_export.proofs.head.write_groups.Given as goal
@@ -9,4 +10,5 @@ abbrev pub invariant-loop-group : goal.invariant-loop-group
 invariant-loop-group g l = record {
   sent : Sent (g.T.Sink.held l.fn.sink) (g.T.Sink.held l.sink) (ended (map group_line l.groups)) (ended (map group_line (drop l.group-index l.groups)));
   faults : g.T.Sink.faults l.sink ≡ g.T.Sink.faults l.fn.sink;
+  fit : All (All IsUnit) (take l.group-index l.groups);
 }

@@ -1,8 +1,9 @@
-use Rattle.std.proofs.Common.{map, subst}
-use Rattle.std.proofs.lemmas.Result.{err_from_is_err_and}
+use Rattle.std.proofs.Common.{All, map, subst}
+use Rattle.std.proofs.lemmas.Result.{err_from_is_err_and, on_ok_weaker}
 use Rattle.outside.specs.Written.{AppendsFront, Writes}
 use Rattle.std.specs.Io.KnownBytes.{Appends}
-use Rattle.opening_lines.specs.Heads.{config_line, group_line}
+use Rattle.service_record.specs.Spelling.{IsUnit}
+use Rattle.opening_lines.specs.Heads.{HasRecord, config_line, group_line}
 use Rattle.trail_text.specs.Histories.{ended}
 use Rattle.trail_export.proofs.Sinking.{sent_last}
 use Rattle.trail_export.proofs.Parts.{configs_text, groups_failed, groups_sent, head_text, limits_failed, moment_failed}
@@ -41,3 +42,11 @@ returns-clause-written g c =
     c.in_ok-write_groups.ensures.written))
     (subst (λ configs. Writes three new c.write_configs.result (ended (map config_line configs))) c.as_slice-2.ensures
     c.write_configs.ensures.written)
+
+pub returns-clause-fitting : goal.returns-clause-fitting
+returns-clause-fitting g c =
+    on_ok_weaker c.write_configs.result (λ configs. record {
+      moment = c.write_moment.ensures.fits;
+      groups = subst (All (All IsUnit)) c.as_slice.ensures c.in_ok-write_groups.ensures.fit;
+      configs = subst (All HasRecord) c.as_slice-2.ensures configs;
+    }) c.write_configs.ensures.fit
