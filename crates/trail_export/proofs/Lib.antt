@@ -2,6 +2,7 @@ mod Bodies
 mod Values
 mod Carried
 mod Said
+mod Pieces
 mod Sinking
 mod Parts
 mod Legal

@@ -5,6 +5,7 @@ mod beginning;
 mod entries;
 mod exporting;
 mod fault;
+mod gathering;
 mod head;
 mod law;
 mod writing;

@@ -1,8 +1,8 @@
-use Rattle.std.proofs.Common.{◌≡◌, ◌∙◌, List, ℕ, subst, sym}
+use Rattle.std.proofs.Common.{◌≡◌, ◌∙◌, List, ℕ, subst}
 use Rattle.std.specs.Prelude.{IfOk}
 use Rattle.scm_model.specs.declared.flat.Config.{Config}
 use Rattle.scm_core.specs.Managed.{Managed}
-use Rattle.scm_rules.specs.Opening.{CanOpen, opening}
+use Rattle.scm_rules.specs.Opening.{opening}
 use Rattle.trail_export.proofs.beginning.manager_from.Goals as goal
 
 pub new-requires-clause-configs : goal.new-requires-clause-configs

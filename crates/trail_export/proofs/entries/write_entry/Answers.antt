@@ -1,6 +1,6 @@
 use Rattle.std.proofs.Common.{◌++◌, ◌∷◌, [], subst}
 use Rattle.std.proofs.lemmas.Result.{err_from_is_err_and}
-use Rattle.std.specs.Io.KnownBytes.{Appends}
+use Rattle.std.specs.Io.KnownBytes.{Appends, append_known}
 use Rattle.outside.specs.Written.{AppendsFront, Writes}
 use Rattle.scm_model.specs.Entries.{Entry}
 use Rattle.scm_lines.specs.Entries.{line_of}
@@ -11,15 +11,16 @@ use Rattle.trail_export.proofs.entries.write_entry.Goals as goal
 
 pub returns-in_err-put_entry-clause-written : goal.returns-in_err-put_entry-clause-written
 returns-in_err-put_entry-clause-written g c =
+    let old = append_known (g.T.Sink.held c.args.sink.now) c.args.buffer.now.items in
     rw (err_from_is_err_and c.from_residual.result c.from_residual.ensures.1).1
-    (nothing_of (g.T.Sink.held c.args.sink.now)
+    (nothing_of old
     (entry_text c.args.manager.now.limits c.args.manager.now.flat (c.args.moment, c.args.step.now)))
 
 pub returns-in_err-write_line-clause-written : goal.returns-in_err-write_line-clause-written
 returns-in_err-write_line-clause-written g c =
     let e : Entry = (c.args.moment, c.args.step.now) in
-    let old = g.T.Sink.held c.args.sink.now in
-    let mid = g.T.Sink.held c.write_line.new.sink in
+    let old = append_known (g.T.Sink.held c.args.sink.now) c.args.buffer.now.items in
+    let mid = append_known (g.T.Sink.held c.write_line.new.sink) c.write_line.new.buffer.items in
     rw (err_from_is_err_and c.from_residual-in_err-write_line.result c.from_residual-in_err-write_line.ensures.1).1
     (front_of old mid (line_of e ++ 10 ∷ []) (answer_line c.args.manager.now.limits c.args.manager.now.flat e ++ 10 ∷ [])
     (subst (λ text. AppendsFront old mid (text ++ 10 ∷ [])) c.in_ok-put_entry.ensures c.in_err-write_line.ensures.written))
@@ -27,8 +28,8 @@ returns-in_err-write_line-clause-written g c =
 pub returns-in_err-make_entry-clause-written : goal.returns-in_err-make_entry-clause-written
 returns-in_err-make_entry-clause-written g c =
     let e : Entry = (c.args.moment, c.args.step.now) in
-    let old = g.T.Sink.held c.args.sink.now in
-    let mid = g.T.Sink.held c.write_line.new.sink in
+    let old = append_known (g.T.Sink.held c.args.sink.now) c.args.buffer.now.items in
+    let mid = append_known (g.T.Sink.held c.write_line.new.sink) c.write_line.new.buffer.items in
     rw (err_from_is_err_and c.from_residual-in_err-make_entry.result c.from_residual-in_err-make_entry.ensures.1).1
     (whole_of old mid (line_of e ++ 10 ∷ []) (answer_line c.args.manager.now.limits c.args.manager.now.flat e ++ 10 ∷ [])
     (subst (λ text. Appends old mid (text ++ 10 ∷ [])) c.in_ok-put_entry.ensures c.in_ok-write_line.ensures.written))
@@ -36,9 +37,9 @@ returns-in_err-make_entry-clause-written g c =
 pub returns-clause-written : goal.returns-clause-written
 returns-clause-written g c =
     let e : Entry = (c.args.moment, c.args.step.now) in
-    let old = g.T.Sink.held c.args.sink.now in
-    let mid = g.T.Sink.held c.write_line.new.sink in
-    let new = g.T.Sink.held c.write_line-2.new.sink in
+    let old = append_known (g.T.Sink.held c.args.sink.now) c.args.buffer.now.items in
+    let mid = append_known (g.T.Sink.held c.write_line.new.sink) c.write_line.new.buffer.items in
+    let new = append_known (g.T.Sink.held c.write_line-2.new.sink) c.write_line-2.new.buffer.items in
     written_then old mid new c.write_line-2.result (line_of e ++ 10 ∷ [])
     (answer_line c.args.manager.now.limits c.args.manager.now.flat e ++ 10 ∷ [])
     (subst (λ text. Appends old mid (text ++ 10 ∷ [])) c.in_ok-put_entry.ensures c.in_ok-write_line.ensures.written)

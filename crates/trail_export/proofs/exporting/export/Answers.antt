@@ -16,8 +16,8 @@ returns-in_err-manager-clause-written g c =
     rw (err_from_is_err_and c.from_residual-in_err-manager.result c.from_residual-in_err-manager.ensures.1).1
     (nothing_of (g.T.Sink.held c.args.sink.now) (told c.args.opening.now c.args.trail.now.entries))
 
-pub write_told-written-requires-clause-steps : goal.write_told-written-requires-clause-steps
-write_told-written-requires-clause-steps g c =
+pub write_gathered-written-requires-clause-steps : goal.write_gathered-written-requires-clause-steps
+write_gathered-written-requires-clause-steps g c =
     let o = c.args.opening.now in
     omega (
       arith,
@@ -25,12 +25,12 @@ write_told-written-requires-clause-steps g c =
       legal_few o.limits (first_of o) c.args.trail.now.entries c.requires.small c.requires.legal,
     )
 
-pub write_told-written-requires-clause-legal : goal.write_told-written-requires-clause-legal
-write_told-written-requires-clause-legal g c =
+pub write_gathered-written-requires-clause-legal : goal.write_gathered-written-requires-clause-legal
+write_gathered-written-requires-clause-legal g c =
     let o = c.args.opening.now in legal_made o.limits (first_of o) c.args.trail.now.entries c.requires.legal
 
 pub returns-clause-legal : goal.returns-clause-legal
 returns-clause-legal g c =
-    on_ok_both c.write_told-written.result
+    on_ok_both c.write_gathered-written.result
     (λ fits. tells_coded c.args.opening.now c.args.trail.now.entries c.requires.small c.requires.can c.requires.legal fits
-    c.in_ok-fits_lines.ensures) c.write_told-written.ensures.fitting c.write_told-written.ensures.coded
+    c.in_ok-fits_lines.ensures) c.write_gathered-written.ensures.fitting c.write_gathered-written.ensures.coded

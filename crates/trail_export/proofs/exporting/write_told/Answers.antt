@@ -1,4 +1,5 @@
 use Rattle.std.proofs.Common.{subst, sym}
+use Rattle.std.specs.Io.KnownBytes.{append_known}
 use Rattle.std.proofs.lemmas.Result.{err_from_is_err_and}
 use Rattle.outside.specs.Written.{AppendsFront, Writes}
 use Rattle.scm_model.specs.declared.flat.Flat.{Flat}
@@ -14,8 +15,8 @@ pub returns-in_err-write_head-clause-written : goal.returns-in_err-write_head-cl
 returns-in_err-write_head-clause-written g c =
     let o = c.args.opening.now in
     let h = c.args.trail.now.entries in
-    let old = g.T.Sink.held c.args.sink.now in
-    let new = g.T.Sink.held c.write_head.new.sink in
+    let old = append_known (g.T.Sink.held c.args.sink.now) c.args.buffer.now.items in
+    let new = append_known (g.T.Sink.held c.write_head.new.sink) c.write_head.new.buffer.items in
     rw (err_from_is_err_and c.from_residual.result c.from_residual.ensures.1).1
     (subst (AppendsFront old new) (sym (told_is o h))
     (front_of old new (ended (head_lines o)) (ended (entry_lines o.limits (first_of o) h)) c.in_err-write_head.ensures.written))
@@ -30,9 +31,9 @@ pub returns-clause-written : goal.returns-clause-written
 returns-clause-written g c =
     let o = c.args.opening.now in
     let h = c.args.trail.now.entries in
-    let old = g.T.Sink.held c.args.sink.now in
-    let mid = g.T.Sink.held c.write_head.new.sink in
-    let new = g.T.Sink.held c.write_entries.new.sink in
+    let old = append_known (g.T.Sink.held c.args.sink.now) c.args.buffer.now.items in
+    let mid = append_known (g.T.Sink.held c.write_head.new.sink) c.write_head.new.buffer.items in
+    let new = append_known (g.T.Sink.held c.write_entries.new.sink) c.write_entries.new.buffer.items in
     let rest = subst (λ (l : Limits). Writes mid new c.write_entries.result (ended (entry_lines l (first_of o) h))) c.requires.limits
     (subst (λ (f : Flat). Writes mid new c.write_entries.result (ended (entry_lines c.args.manager.now.limits f h))) c.requires.flat
     c.write_entries.ensures.written) in

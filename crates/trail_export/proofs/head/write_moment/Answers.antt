@@ -1,4 +1,5 @@
 use Rattle.std.proofs.Common.{◌++◌, ◌∷◌, [], subst}
+use Rattle.std.specs.Io.KnownBytes.{append_known}
 use Rattle.std.proofs.lemmas.Result.{err_from_is_err_and}
 use Rattle.outside.specs.Written.{Writes}
 use Rattle.opening_lines.specs.Heads.{moment_line}
@@ -7,10 +8,13 @@ use Rattle.trail_export.proofs.head.write_moment.Goals as goal
 
 pub returns-in_err-put_moment-clause-written : goal.returns-in_err-put_moment-clause-written
 returns-in_err-put_moment-clause-written g c =
+    let old = append_known (g.T.Sink.held c.args.sink.now) c.args.buffer.now.items in
     rw (err_from_is_err_and c.from_residual.result c.from_residual.ensures.1).1
-    (nothing_of (g.T.Sink.held c.args.sink.now) (moment_line c.args.moment ++ 10 ∷ []))
+    (nothing_of old (moment_line c.args.moment ++ 10 ∷ []))
 
 pub returns-clause-written : goal.returns-clause-written
 returns-clause-written g c =
-    subst (λ text. Writes (g.T.Sink.held c.args.sink.now) (g.T.Sink.held c.write_line.new.sink) c.write_line.result (text ++ 10 ∷ []))
+    let old = append_known (g.T.Sink.held c.args.sink.now) c.args.buffer.now.items in
+    let new = append_known (g.T.Sink.held c.write_line.new.sink) c.write_line.new.buffer.items in
+    subst (λ text. Writes old new c.write_line.result (text ++ 10 ∷ []))
     c.in_ok-put_moment.ensures c.write_line.ensures.written
