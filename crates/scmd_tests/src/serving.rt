@@ -104,9 +104,14 @@ pub const SERVERS: &[Run] = &[
         told: EXPORTED,
         ..EXPORTER
     },
-    // A front is written.
+    // The history is written and the summary isn't, or neither is.
     Run {
         writes: &[true, false],
+        status: 2,
+        ..EXPORTER
+    },
+    Run {
+        writes: &[true],
         status: 2,
         ..EXPORTER
     },
