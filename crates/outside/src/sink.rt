@@ -165,7 +165,8 @@ impl Sink for MemorySink {
     }
 }
 
-/// Any writer, as a socket or the standard output. It tells no content.
+/// Any writer, as a socket or the standard output. It holds what its writer holds: a writer in
+/// memory tells its content, one of the system tells none.
 #[derive(Drop)]
 pub struct WriteSink<W: Write> {
     writer: W,
@@ -174,14 +175,22 @@ pub struct WriteSink<W: Write> {
 
 impl<W: Write> WriteSink<W> {
     pub fn new(writer: W) -> Self
-        ensures { ⟦<WriteSink<W> as Sink>⟧.faults result ≡ 0 }
+        ensures held { ⟦<WriteSink<W> as Sink>⟧.held result ≡ W.contents writer }
+        ensures faults { ⟦<WriteSink<W> as Sink>⟧.faults result ≡ 0 }
     {
         WriteSink { writer, faults: 0 }
+    }
+
+    /// How often it failed.
+    pub fn faults(&self) -> u64
+        ensures { result ≡ ⟦<WriteSink<W> as Sink>⟧.faults self.now }
+    {
+        self.faults
     }
 }
 
 impl<W: Write> Sink for WriteSink<W> {
-    ghost held = { λ _. None };
+    ghost held = { λ s. W.contents s.writer };
 
     ghost faults = { λ s. s.faults };
 

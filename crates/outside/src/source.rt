@@ -151,7 +151,8 @@ impl<'a> Source for SliceSource<'a> {
     }
 }
 
-/// Any reader, as a socket or the standard input. It tells no content.
+/// Any reader, as a socket or the standard input. It has left what its reader has left: a reader in
+/// memory tells that, one of the system tells nothing.
 #[derive(Drop)]
 pub struct ReadSource<R: Read> {
     reader: R,
@@ -160,14 +161,15 @@ pub struct ReadSource<R: Read> {
 
 impl<R: Read> ReadSource<R> {
     pub fn new(reader: R) -> Self
-        ensures { ⟦<ReadSource<R> as Source>⟧.faults result ≡ 0 }
+        ensures left { ⟦<ReadSource<R> as Source>⟧.left result ≡ R.remaining reader }
+        ensures faults { ⟦<ReadSource<R> as Source>⟧.faults result ≡ 0 }
     {
         ReadSource { reader, faults: 0 }
     }
 }
 
 impl<R: Read> Source for ReadSource<R> {
-    ghost left = { λ _. None };
+    ghost left = { λ s. R.remaining s.reader };
 
     ghost faults = { λ s. s.faults };
 
