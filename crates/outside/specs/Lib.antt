@@ -2,3 +2,4 @@ pub mod Causes
 pub mod Written
 pub mod Fates
 pub mod InMemory
+pub mod Asked
