@@ -18,5 +18,6 @@ pub mod Beginnings
 pub mod Shapes
 pub mod Owned
 pub mod Kept
+pub mod Outcomes
 pub mod Registrations
 pub mod Once

@@ -12,4 +12,5 @@ pub mod Begun
 pub mod Shapes
 pub mod Owned
 pub mod Kept
+pub mod Outcomes
 pub mod Once

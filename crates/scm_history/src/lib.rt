@@ -9,6 +9,7 @@ ghost use Rattle.scm_history.specs.Made.{EachStandsBehind};
 ghost use Rattle.scm_history.specs.Names.{NamesWhoIsThere};
 ghost use Rattle.scm_history.specs.Numbers.{AreMadeOnce};
 ghost use Rattle.scm_history.specs.Once.{AllAreGivenOnce, NoneIsGivenAgain};
+ghost use Rattle.scm_history.specs.Outcomes.{LawOfOutcomes};
 ghost use Rattle.scm_history.specs.Own.{EachBeginsWithJoined};
 ghost use Rattle.scm_history.specs.Owned.{LastsOnce, LawOfOwn};
 ghost use Rattle.scm_history.specs.Phases.{LawOfPhases};
@@ -156,4 +157,11 @@ pub fn own_entries_end(limits: &Limits, steps: &Items<(u64, Step)>, opening: &Fl
 /// tells that it was kept, and else none. From any state.
 pub fn law_of_kept_changes(limits: &Limits, first: &Flat)
     ensures { LawOfKept limits.now first.now }
+{}
+
+/// The law of outcomes: there is one outcome for each entry of a history, one entry more adds what it
+/// did with the change that it makes, and the changes that were kept are those of which an outcome
+/// says so. From any state.
+pub fn law_of_outcomes(limits: &Limits, first: &Flat)
+    ensures { LawOfOutcomes limits.now first.now }
 {}
