@@ -17,7 +17,8 @@ abbrev pub Writes : {T E : Type 0} → Option (List ℕ) → Option (List ℕ) �
 Writes old new (Ok done) bytes = Appends old new bytes
 Writes old new (Err fault) bytes = AppendsFront old new bytes
 
--- Nothing was written yet to a connection whose peer is told to send these bytes. Where it is told what a peer sends, it is told too what it is written.
+-- Nothing was written yet to a connection whose peer is told to send these bytes. Where it is told what a peer sends, it is told too what
+-- it is written.
 abbrev pub IsFresh : (given began : Option (List ℕ)) → Type 0
 IsFresh None began = IfSome began (λ bytes. bytes ≡ [])
 IsFresh (Some peer) began = began ≡ Some []
