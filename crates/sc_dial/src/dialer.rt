@@ -1,6 +1,7 @@
-ghost use Rattle.std.specs.Prelude.{◌≡◌, ◌≤◌, ◌<◌, ◌+◌, [], ℕ, List, Option, Some, IfOk, IfSome};
+ghost use Rattle.std.specs.Prelude.{◌≡◌, ◌≤◌, ◌<◌, ◌+◌, ℕ, List, Option, Some, IfOk, IfSome};
 ghost use Rattle.std.specs.Prelude.{IsSome};
 ghost use Rattle.outside.specs.Causes.{HasCause, Rose};
+ghost use Rattle.outside.specs.Written.{IsFresh};
 ghost use Rattle.sc_dial.specs.Connections.{PastConnection, with_past};
 
 use outside::{Failed, Sink, Source};
@@ -34,7 +35,7 @@ pub trait Dialer {
     /// yet.
     fn dial(&mut self, address: &str) -> Result<Connection<Self::In, Self::Out>, Failed>
         ensures left { IfOk result (λ c. Self.In.left c.input ≡ next self.old) }
-        ensures unwritten { IfOk result (λ c. IfSome (Self.Out.held c.output) (λ held. held ≡ [])) }
+        ensures unwritten { IfOk result (λ c. IsFresh (next self.old) (Self.Out.held c.output)) }
         ensures input { IfOk result (λ c. Self.In.faults c.input ≡ 0) }
         ensures output { IfOk result (λ c. Self.Out.faults c.output ≡ 0) }
         ensures dialled { IfOk result (λ _. IfSome (past self.old)
