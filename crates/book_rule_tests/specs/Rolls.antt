@@ -112,6 +112,8 @@ roll_opening = record {
   bytes = None;
   form = Second;
   faults = 0;
+  moment = 0;
+  asked = None;
 }
 
 abbrev pub way_of_rolls : Protocol (List Entry)
