@@ -21,7 +21,7 @@ use Rattle.scm_rules.specs.QueryConfig.{shown_by, shown_in, size_in}
 use Rattle.scm_rules.specs.QueryConfig2.{level_in}
 use Rattle.scm_runs.specs.Sizes.{IsToldWhole}
 use Rattle.scm_runs.proofs.Sizes.{all_short, told_whole}
-use Rattle.scm_replies.specs.Sizes.{AreSmall, HasUuids, config_size, greatest_size, services_left, name_units, needed_size}
+use Rattle.scm_replies.specs.Sizes.{HasUuids, config_size, greatest_size, services_left, name_units, needed_size}
 use Rattle.scm_replies.proofs.Counted.{IsFew}
 use Rattle.scm_replies.proofs.Levels.{HasShortLevels, level_fits, levels_short}
 use Rattle.scm_replies.proofs.Listings.{IsLow, IsShort, dependents_least, found_some, held_some}
@@ -38,12 +38,12 @@ pub record IsWithinLimits (f : Flat) : Type 0 where
   pub uuids : All HasUuids f.services
   pub secured : All IsSecured f.services
 
-pub within_limits : (l : Limits) → AreSmall l → (f : Flat) → IsFew l f → f.next.service ≤ 2 ^ 32 → All HasUuids f.services
+pub within_limits : (l : Limits) → l.services ≤ 1024 → (f : Flat) → IsFew l f → f.next.service ≤ 2 ^ 32 → All HasUuids f.services
     → IsWithinLimits f
-within_limits l small f is next uuids =
+within_limits l most f is next uuids =
     let services = is.sound.services in
     record {
-      few = (let few = is.few in let most = small.services in omega (arith, few, most));
+      few = (let few = is.few in omega (arith, few, most));
       short = all_short f is.sound;
       whole = told_whole f is.sound;
       levels = All-weaker (λ (row : Service). check_new row.config None ≡ 0) (λ (row : Service). HasShortLevels row.config)

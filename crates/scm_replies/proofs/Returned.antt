@@ -1,6 +1,6 @@
 -- Each reply to a call returns the sizes that are needed.
 use Rattle.std.proofs.Common.{ℕ, ◌≡◌, ◌≤◌, ◌^◌, ◌∙◌, ◌==◌, ◌||◌, ◌++◌, Bool, true, false, cond, List, [], Option, None, Some, length, refl}
-use Rattle.std.proofs.Common.{ap, sym, subst, arith}
+use Rattle.std.proofs.Common.{ap, sym, subst, arith, length-append}
 use Rattle.std.specs.Prelude.{All, option_and_then}
 use Rattle.std.proofs.lemmas.List.Elements.{All-filter}
 use Rattle.scm_model.specs.declared.flat.Flat.{Flat}
@@ -25,7 +25,7 @@ use Rattle.start_plan.specs.Decided.{code_of}
 use Rattle.start_plan.specs.Settle.{settled}
 use Rattle.scm_rules.specs.EnumDependents.{dependents_by}
 use Rattle.scm_rules.specs.EnumServices.{page_of, services_asked}
-use Rattle.scm_rules.specs.Histories.{Legal, state}
+use Rattle.scm_rules.specs.Histories.{state}
 use Rattle.scm_rules.specs.Locks.{lock_owner, lock_size}
 use Rattle.scm_rules.specs.Notify.{notice_in, notify_of}
 use Rattle.scm_rules.specs.Opening.{IsOpening}
@@ -216,20 +216,21 @@ of_step l f moment step within = tt
 abbrev pub ReturnsThere : Flat → Entry → Answer → Flat → Type 0
 ReturnsThere before e told after = before.next.service ≤ 2 ^ 32 → All HasUuids before.services → LawOfNeededSizes before e told after
 
-pub gives : (l : Limits) → AreSmall l → Gives (IsFew l) ReturnsThere l
-gives l small f e is ok next uuids = of_step l f e.0 e.1 (within_limits l small f is next uuids)
+pub gives : (l : Limits) → l.services ≤ 1024 → Gives (IsFew l) ReturnsThere l
+gives l most f e is ok next uuids = of_step l f e.0 e.1 (within_limits l most f is next uuids)
 
 -- ## Histories
 
-front_fits : (l : Limits) (f : Flat) (es front rest : List Entry) → Legal l f es → es ≡ front ++ rest → length front ≤ l.steps
-unfolding Legal
-front_fits l f es front rest legal split = (let fits = legal.fits front rest split in omega (arith, fits))
+front_fits : (es front rest : List Entry) → es ≡ front ++ rest → length front ≤ length es
+front_fits es front rest split =
+    let all = ap (λ (l : List Entry). length l) split in
+    omega (arith, all, length-append front rest)
 
--- after each front of a legal history 32 bits hold them
-pub low_front : (l : Limits) (f : Flat) (es front rest : List Entry) → AreSmall l → IsOpening l f → Legal l f es → es ≡ front ++ rest
+-- after each front of a short history 32 bits hold them
+pub low_front : (l : Limits) (f : Flat) (es front rest : List Entry) → AreSmall l es → IsOpening l f → es ≡ front ++ rest
     → (state l f front).next.service ≤ 2 ^ 32
-low_front l f es front rest small begins legal split =
+low_front l f es front rest small begins split =
     let services = small.services in
-    let steps = small.steps in
+    let short = small.short in
     subst (λ (g : Flat). g.next.service ≤ 2 ^ 32) (sym (state_is l f front))
-    (omega (arith, next_run l f front, next_begun l f begins, front_fits l f es front rest legal split, services, steps))
+    (omega (arith, next_run l f front, next_begun l f begins, front_fits es front rest split, services, short))

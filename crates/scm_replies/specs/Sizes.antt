@@ -117,10 +117,10 @@ resume_index f asked code = None
 
 -- ## The law
 
--- at most 1,024 services, and so few steps that 32 bits hold the number of each service
-pub record AreSmall (l : Limits) : Type 0 where
+-- at most 1,024 services, and a history so short that 32 bits hold the number of each service
+pub record AreSmall (l : Limits) (es : List Entry) : Type 0 where
   pub services : l.services ≤ 1024
-  pub steps : l.steps < 2 ^ 31
+  pub short : length es < 2 ^ 31
 
 -- the subtypes of triggers have the 16 bytes of a UUID: those of a service, and those that a request gives
 abbrev pub HasUuids : Service → Type 0
