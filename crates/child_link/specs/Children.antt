@@ -1,4 +1,4 @@
--- A child in memory, and the outcome of a wait for it.
+-- A child in memory, the outcome of a wait for it, and what is told of its input when that has ended.
 use Rattle.std.specs.Prelude.{ℕ, Bool, IsTrue, IfSome, List, Option}
 use Rattle.outside.specs.InMemory.{GivingMemory}
 
@@ -15,3 +15,13 @@ pub record ChildInMemory : Type 0 where
   pub waits : List Bool
   -- how many waits failed
   pub failed_waits : ℕ
+
+-- ## Its input
+
+-- what a feed held when it ended, where it tells that, and how often it had failed
+pub record FeedPast : Type 0 where
+  pub held : Option (List ℕ)
+  pub faults : ℕ
+
+abbrev pub feed_past : Option (List ℕ) → ℕ → FeedPast
+feed_past held faults = record { held = held; faults = faults }
