@@ -1,6 +1,7 @@
 -- The outcome of an accept.
-use Rattle.std.specs.Prelude.{ℕ, ◌≡◌, ◌≢◌, ◌≤◌, List, [], ◌∷◌, Option, None, Some, Bool, true, false, ⊤, IfSome}
+use Rattle.std.specs.Prelude.{ℕ, ◌≡◌, ◌≢◌, ◌≤◌, List, [], ◌∷◌, Option, None, Some, Bool, true, false, ⊤}
 use Rattle.outside.specs.Causes.{Rose}
+use Rattle.outside.specs.Written.{IsFresh}
 use Rattle.scm_listener.specs.declared.accepted.Accepted.{Accepted}
 use Rattle.scm_listener.specs.declared.accepted.Accepted.TheVariants as accept
 use Rattle.scm_listener.specs.declared.accepted.Numbered.{Numbered}
@@ -21,10 +22,10 @@ came (accept.Conn input output) = 1
 came accepted = 0
 
 -- the connection that came has the number that is next, and nothing of it was read, written or failed
-pub record IsNew (number at_input at_output : ℕ) (held : Option (List ℕ)) (read_faults write_faults : ℕ) : Type 0 where
+pub record IsNew (number at_input at_output : ℕ) (given held : Option (List ℕ)) (read_faults write_faults : ℕ) : Type 0 where
   pub input : at_input ≡ number
   pub output : at_output ≡ number
-  pub unwritten : IfSome held (λ bytes. bytes ≡ [])
+  pub unwritten : IsFresh given held
   pub unread : read_faults ≡ 0
   pub unfailed : write_faults ≡ 0
 

@@ -1,10 +1,10 @@
 // The connections of a port, as the system's accept gives them.
 ghost use Rattle.std.specs.IoError.{raw_os_error};
-ghost use Rattle.std.specs.Prelude.{◌≡◌, None};
+ghost use Rattle.std.specs.Prelude.{◌≡◌};
 ghost use Rattle.scm_listener.specs.Failures.{is_passing};
 
 use crate::spare::can_start;
-use outside::{Failed, ReadSource, Source};
+use outside::{Failed, Source};
 use sc_dial::CountedSource;
 use std::alloc::Global;
 use std::io::{self, ErrorKind};
@@ -47,35 +47,36 @@ const LOOKS: u32 = 5;
 /// Connections share it: there is one more of it than they are.
 pub type Seat = Arc<(), Global>;
 
-/// The end of a connection over TCP that is read. The connection has a seat until it is dropped.
+/// The end of a connection that is read. The connection has a seat until it is dropped.
 #[derive(Drop)]
-pub struct PortSource {
-    source: CountedSource<ReadSource<TcpStream>>,
+pub struct PortSource<S: Source> {
+    source: CountedSource<S>,
     seat: Seat,
 }
 
-impl PortSource {
-    pub fn new(stream: TcpStream, seat: Seat) -> Self
-        ensures { ⟦<PortSource as Source>⟧.faults result ≡ 0 }
+impl<S: Source> PortSource<S> {
+    pub fn new(source: S, seat: Seat) -> Self
+        ensures left { ⟦<PortSource<S> as Source>⟧.left result ≡ S.left source }
+        ensures faults { ⟦<PortSource<S> as Source>⟧.faults result ≡ 0 }
     {
         PortSource {
-            source: CountedSource::new(ReadSource::new(stream)),
+            source: CountedSource::new(source),
             seat,
         }
     }
 
     /// How often it failed.
     pub fn faults(&self) -> u64
-        ensures { result ≡ ⟦<PortSource as Source>⟧.faults self.now }
+        ensures { result ≡ ⟦<PortSource<S> as Source>⟧.faults self.now }
     {
         self.source.faults()
     }
 }
 
-impl Source for PortSource {
-    ghost left = { λ _. None };
+impl<S: Source> Source for PortSource<S> {
+    ghost left = { λ s. ⟦<CountedSource<S> as Source>⟧.left s.source };
 
-    ghost faults = { λ s. ⟦<CountedSource<ReadSource<TcpStream>> as Source>⟧.faults s.source };
+    ghost faults = { λ s. ⟦<CountedSource<S> as Source>⟧.faults s.source };
 
     fn read(&mut self, into: &mut [u8]) -> Result<usize, Failed> {
         self.source.read(into)

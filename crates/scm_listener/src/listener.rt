@@ -63,7 +63,7 @@ pub trait Listener {
     /// Hands out the next connection, once it comes, with the room for noting it.
     fn accept(&mut self) -> Accepted<Self::In, Self::Out>
         ensures new { IfConn result (λ input output. IsNew (accepted self.old)
-            input.number output.number (Self.Out.held output.end)
+            input.number output.number (Self.In.left input.end) (Self.Out.held output.end)
             (Self.In.faults input.end) (Self.Out.faults output.end)) }
         ensures takes { Takes Self.In.left result (left self.old) (left self.new) }
         ensures accepted { accepted self.new ≡ accepted self.old + came result }

@@ -201,7 +201,7 @@ impl Listener for MemoryListener {
 
     fn accept(&mut self) -> Accepted<MemoryIn, MemorySink>
         ensures new { IfConn result (λ input output. IsNew self.old.accepted
-            input.number output.number (Some output.end.held)
+            input.number output.number (Some input.end.source.left) (Some output.end.held)
             input.end.source.faults output.end.faults) }
         ensures takes { Takes (λ input. Some input.source.left) result
             (peers_of self.old.waiting) (peers_of self.new.waiting) }

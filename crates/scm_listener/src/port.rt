@@ -5,7 +5,7 @@ use crate::accepted::{Accepted, Numbered};
 use crate::accepting::{Ends, Open, PortSource, Tried};
 use crate::listener::Listener;
 use crate::memory::fail;
-use outside::{Failed, Sink, Source, WriteSink};
+use outside::{Failed, ReadSource, Sink, Source, WriteSink};
 use sc_dial::CountedSink;
 use std::alloc::Global;
 use std::mem::replace;
@@ -107,7 +107,7 @@ impl<R> Listener for PortListener<R>
 where
     R: Net<Listener = TcpListener, Stream = TcpStream> + Threads + Clock,
 {
-    type In = PortSource;
+    type In = PortSource<ReadSource<TcpStream>>;
 
     type Out = CountedSink<WriteSink<TcpStream>>;
 
@@ -163,7 +163,7 @@ where
                     let number = self.accepted;
                     self.room = room;
                     self.accepted = accepted;
-                    let input = PortSource::new(stream, seat);
+                    let input = PortSource::new(ReadSource::new(stream), seat);
                     let output = CountedSink::new(WriteSink::new(twin));
                     Accepted::Conn(
                         Numbered { number, end: input },
@@ -188,13 +188,13 @@ where
 
     /// The connection ends with its two handles.
     fn end(
-        input: Numbered<PortSource>,
+        input: Numbered<PortSource<ReadSource<TcpStream>>>,
         output: Numbered<CountedSink<WriteSink<TcpStream>>>,
     ) -> PortPast
         requires { input.number ≡ output.number }
         ensures { past_of result.number None None result.read_faults result.write_faults
             ≡ past_of input.number None None
-            (⟦<PortSource as Source>⟧.faults input.end)
+            (⟦<PortSource<ReadSource<TcpStream>> as Source>⟧.faults input.end)
             (⟦<CountedSink<WriteSink<TcpStream>> as Sink>⟧.faults output.end) }
     {
         PortPast {
