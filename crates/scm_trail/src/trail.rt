@@ -1,14 +1,14 @@
 // The trail, and the segments that its bytes lie in.
-ghost use Rattle.std.specs.Prelude.{◌≡◌, ◌+◌, ◌<◌, ◌≤◌, ◌^◌, ◌++◌, ◌∷◌, [], All, IfOk};
-ghost use Rattle.std.specs.Prelude.{IsOk, OnErr, OnOk, Some, drop, get_or, length, option_map};
+ghost use Rattle.std.specs.Prelude.{◌≡◌, ◌+◌, ◌-◌, ◌<◌, ◌≤◌, ◌^◌, ◌++◌, ◌∷◌, [], All, IfOk};
+ghost use Rattle.std.specs.Prelude.{IsOk, OnErr, OnOk, Some, drop, false, get_or, length, option_map};
 ghost use Rattle.std.specs.Prelude.{slice_get};
 ghost use Rattle.std.specs.List.{flat_map};
 ghost use Rattle.scm_model.specs.Entries.{text_in};
 ghost use Rattle.scm_model.specs.Texts.{text_of};
 ghost use Rattle.step_code.specs.Codes.{code_of};
 ghost use Rattle.scm_trail.specs.Segments.{AddsSegments, AreBytes, IsCoded, all_entries};
-ghost use Rattle.scm_trail.specs.Segments.{bytes_for, last_room, no_segment};
-ghost use Rattle.scm_trail.specs.Trailed.{no_entries};
+ghost use Rattle.scm_trail.specs.Segments.{bytes_for, first_codes, last_room, no_segment};
+ghost use Rattle.scm_trail.specs.Trailed.{LetsGoIf, no_entries};
 
 use crate::entries::Entries;
 use crate::note::Note;
@@ -24,8 +24,9 @@ const SEGMENT: u64 = 65_536;
 /// How many bytes the code of an entry has at most, without its text.
 const MOST: u64 = 128;
 
-/// The entries of a history: moments in milliseconds and steps, in order. Contracts see them, and
-/// how many entries and how much text more find room.
+/// The entries of a history: moments in milliseconds and steps, in order. The first of them may be
+/// let go, a segment at a time. Contracts see those that are held, how many were let go, and how
+/// many entries and how much text more find room.
 ///
 /// Each entry is kept as its code, which `write_code` of `step_code` describes. Its note has the
 /// code already, so `push` copies bytes alone. The codes lie in segments of 65,536 bytes and what
@@ -35,6 +36,9 @@ pub struct Trail {
     segments: Vec<Segment>,
     /// The place of the segment that the last entry lies in.
     current: usize,
+    /// How many entries were let go.
+    past: u64,
+    /// How many there were in all.
     len: u64,
     room: u64,
     text: u64,
@@ -47,6 +51,7 @@ impl Drop for Trail {
         let Trail {
             segments,
             current: _current,
+            past: _past,
             len: _len,
             room: _room,
             text: _text,
@@ -64,13 +69,16 @@ impl Model for Trail {
     ghost Value = { Trailed };
 
     ghost view = { λ t. record {
+      past = t.past;
       entries = all_entries t.segments.items;
+      text = t.text;
       room = t.room;
       text_room = t.text_room;
       parts = map (λ s. s.entries) t.segments.items;
     } };
 
-    ghost invariant = { λ t. IsKept t.segments.items t.current t.len t.room t.text t.text_room };
+    ghost invariant = { λ t. IsKept t.segments.items t.current t.past t.len t.room
+        t.text t.text_room };
 }
 
 /// How many bytes the codes of so many entries have at most, with so much text together, if these
@@ -155,6 +163,7 @@ impl Trail {
         Trail {
             segments: Vec::new(alloc),
             current: 0,
+            past: 0,
             len: 0,
             room: 0,
             text: 0,
@@ -169,6 +178,9 @@ impl Trail {
     /// entries in all, or as much text, there is none.
     pub fn reserve(&mut self, entries: u64, text: u64) -> Result<(), OutOfMemory>
         ensures entries { self.new.entries ≡ self.old.entries }
+        ensures past { self.new.past ≡ self.old.past }
+        ensures text { self.new.text ≡ self.old.text }
+        ensures first { length (first_codes self.old.parts) ≤ length (first_codes self.new.parts) }
         ensures room { self.old.room ≤ self.new.room }
         ensures text_room { self.old.text_room ≤ self.new.text_room }
         ensures ok { OnOk result ((entries ≤ self.new.room) × (text ≤ self.new.text_room)) }
@@ -195,6 +207,9 @@ impl Trail {
         requires room { 1 ≤ self.old.room }
         requires text_room { text_of step ≤ self.old.text_room }
         ensures entries { self.new.entries ≡ self.old.entries ++ (moment, step) ∷ [] }
+        ensures past { self.new.past ≡ self.old.past }
+        ensures text { self.new.text ≡ self.old.text + text_of step }
+        ensures first { length (first_codes self.old.parts) ≤ length (first_codes self.new.parts) }
         ensures room { self.old.room ≤ self.new.room + 1 }
         ensures text_room { self.old.text_room ≤ self.new.text_room + text_of step }
     {
@@ -211,34 +226,61 @@ impl Trail {
         self.text_room -= text;
     }
 
-    /// How many entries there are.
+    /// How many entries were let go.
+    pub fn past(&self) -> u64
+        ensures { result ≡ self.now.past }
+    {
+        self.past
+    }
+
+    /// How many entries there are, those that were let go among them.
     pub fn len(&self) -> u64
-        ensures { result ≡ length self.now.entries }
+        ensures { result ≡ self.now.past + length self.now.entries }
     {
         self.len
     }
 
-    /// How much text the entries have together, as `Step::text` counts it.
+    /// How much text the entries have together, as `Step::text` counts it, those that were let go
+    /// among them.
     pub fn text(&self) -> u64
-        ensures { result ≡ text_in self.now.entries }
+        ensures value { result ≡ self.now.text }
+        ensures held { text_in self.now.entries ≤ result }
     {
         self.text
     }
 
     /// A copy of the entry at a place.
     pub fn entry(&self, place: u64) -> Result<(u64, Step), OutOfMemory>
-        requires { place < length self.now.entries }
-        ensures { IfOk result (λ entry. slice_get self.now.entries place ≡ Some entry) }
+        requires held { self.now.past ≤ place }
+        requires within { place < self.now.past + length self.now.entries }
+        ensures { IfOk result (λ entry.
+            slice_get self.now.entries (place - self.now.past) ≡ Some entry) }
     {
         let mut entries = self.entries();
-        entries.skip(place)?;
+        entries.skip(place - self.past)?;
         let Some(entry) = entries.next()? else {
             unreachable!()
         };
         Ok(entry)
     }
 
-    /// The entries in order, which are read back one by one.
+    /// Lets the first segment go, if a later one has the last entry, and says whether it did. It
+    /// takes no memory.
+    pub fn let_go(&mut self) -> bool
+        ensures goes { LetsGoIf result self.old self.new }
+        ensures last { result ≡ false → flat_map (λ part. part) (drop 1 self.old.parts) ≡ [] }
+    {
+        if self.current == 0 {
+            return false;
+        }
+        let front = self.segments.remove(0);
+        self.past += front.count();
+        drop(front);
+        self.current -= 1;
+        true
+    }
+
+    /// The entries that are held, in order, which are read back one by one.
     pub fn entries(&self) -> Entries<'_>
         ensures entries { result ≡ self.now.entries }
         ensures small { length self.now.entries < 2 ^ 64 }
