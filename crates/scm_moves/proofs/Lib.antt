@@ -12,3 +12,4 @@ pub mod Controlled
 pub mod Whole
 pub mod ToldStale
 mod Ticked
+mod Deadlines

@@ -2,3 +2,4 @@ pub mod Moves
 pub mod Controls
 pub mod Stale
 pub mod Ticks
+pub mod Deadlines

@@ -2,6 +2,7 @@
 #![tactic(auto)]
 
 ghost use Rattle.scm_moves.specs.Controls.{LawOfControls};
+ghost use Rattle.scm_moves.specs.Deadlines.{LawOfDeadlines};
 ghost use Rattle.scm_moves.specs.Moves.{LawOfMoves};
 ghost use Rattle.scm_moves.specs.Stale.{LawOfStale};
 ghost use Rattle.scm_moves.specs.Ticks.{LawOfTicks};
@@ -44,4 +45,13 @@ pub fn law_of_controls(limits: &Limits, steps: &Items<(u64, Step)>, opening: &Fl
 /// state had reached before. It takes neither an opening nor a legal history.
 pub fn law_of_ticks(limits: &Limits, steps: &Items<(u64, Step)>, opening: &Flat)
     ensures { EachStep LawOfTicks limits.now opening.now steps.now }
+{}
+
+/// The law of deadlines: a start, which a call or the manager itself began, is decided by the first
+/// tick that comes 120 seconds later, at its deadline, or after that, and is never undecided again.
+/// The deadline of a start that begins in the last 120 seconds of moments is the last moment.
+pub fn law_of_deadlines(limits: &Limits, steps: &Items<(u64, Step)>, opening: &Flat)
+    requires begins { IsOpening limits.now opening.now }
+    requires legal { IsLegal limits.now opening.now steps.now }
+    ensures { LawOfDeadlines limits.now opening.now steps.now }
 {}
