@@ -72,6 +72,8 @@ law_of_outcomes l f = record {
   more = λ es e. outcomes_behind l f es (e ∷ [])
       ∙ ap (λ (outs : List Outcome). outcomes l f es ++ outs) (outcome_one l (run_state l f es) e
       ∙ ap (λ g. outcome_in l g e.1 ∷ []) (sym (state_is l f es)));
+  appended = λ front rest. outcomes_behind l f front rest
+      ∙ ap (λ g. outcomes l f front ++ outcomes l g rest) (sym (state_is l f front));
   long = outcomes_long l f;
   changes = changes_kept l f;
 }

@@ -47,7 +47,7 @@ kept_among [] = []
 kept_among (o ∷ rest) = one_or_none (if_kept o.kept o.change) ++ kept_among rest
 
 -- a step that makes a change tells what became of it, and one that wasn't asked has none; there is one outcome for each entry, one entry
--- more adds its own, and the changes that were kept are those of which an outcome says so
+-- more adds its own, further entries add theirs, and the changes that were kept are those of which an outcome says so
 pub record LawOfOutcomes (l : Limits) (f : Flat) : Type 0 where
   pub kept : (g : Flat) (step : Step) (change : Change) → change_of l g step ≡ Some change
       → outcome_in l g (with_kept step appended.Kept) ≡ outcome_of change true
@@ -56,5 +56,6 @@ pub record LawOfOutcomes (l : Limits) (f : Flat) : Type 0 where
   pub unasked : (g : Flat) (step : Step) → outcome_in l g (with_kept step appended.NotAsked) ≡ no_outcome
   pub none : outcomes l f [] ≡ []
   pub more : (es : List Entry) (e : Entry) → outcomes l f (es ++ e ∷ []) ≡ outcomes l f es ++ outcome_in l (state l f es) e.1 ∷ []
+  pub appended : (front rest : List Entry) → outcomes l f (front ++ rest) ≡ outcomes l f front ++ outcomes l (state l f front) rest
   pub long : (es : List Entry) → length (outcomes l f es) ≡ length es
   pub changes : (es : List Entry) → kept_changes l f es ≡ kept_among (outcomes l f es)
