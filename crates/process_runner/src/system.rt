@@ -1,4 +1,5 @@
-ghost use Rattle.std.specs.Prelude.{◌≡◌, None, ⊤};
+ghost use Rattle.std.specs.Prelude.{◌≡◌, [], ◌∷◌, ◌++◌, IfOk, None, OnOk, ⊤};
+ghost use Rattle.std.specs.Process.{command_args, command_program};
 ghost use Rattle.process_runner.specs.Spawning.{no_faults};
 
 use super::spawning::{SpawnFault, SpawnFaults, Spawned, Spawner};
@@ -29,13 +30,44 @@ fn fault_of(error: &io::Error) -> SpawnFault {
     }
 }
 
-/// Gives a command its arguments, and pipes for its standard input and output.
-fn set_up(command: &mut Command, arguments: &[Text]) -> io::Result<()> {
+/// Adds an argument.
+fn add_argument(command: &mut Command, argument: &str) -> io::Result<()>
+    ensures args { OnOk result
+        (command_args command.new ≡ command_args command.old ++ argument.now ∷ []) }
+    ensures program { OnOk result (command_program command.new ≡ command_program command.old) }
+{
+    command.arg(argument)?;
+    Ok(())
+}
+
+/// Adds arguments, and pipes for the standard input and output.
+fn set_up(command: &mut Command, arguments: &[Text]) -> io::Result<()>
+    ensures args { OnOk result
+        (command_args command.new ≡ command_args command.old ++ arguments.now) }
+    ensures program { OnOk result (command_program command.new ≡ command_program command.old) }
+{
     for argument in arguments {
-        command.arg(argument.as_str())?;
+        add_argument(command, argument.as_str())?;
     }
     command.stdin(Stdio::piped()).stdout(Stdio::piped());
     Ok(())
+}
+
+/// The command of some words: the first names the program, and the rest are its arguments.
+fn command_of(alloc: Global, words: &[Text]) -> io::Result<Command>
+    ensures { IfOk result (λ c. words.now ≡ command_program c ∷ command_args c) }
+{
+    let Some((program, arguments)) = words.split_first() else {
+        return Err(io::Error::from(io::ErrorKind::InvalidInput));
+    };
+    let mut command = Command::new(alloc, program.as_str())?;
+    match set_up(&mut command, arguments) {
+        Ok(()) => Ok(command),
+        Err(error) => {
+            drop(command);
+            Err(error)
+        }
+    }
 }
 
 /// Takes the ends of a child's pipes.
@@ -67,19 +99,10 @@ impl<R: Processes<Started = SystemProcess>> ProcessSpawner<R> {
         }
     }
 
-    /// Starts a command with these arguments.
-    fn spawn(&self, command: &mut Command, arguments: &[Text]) -> io::Result<Child> {
-        set_up(command, arguments)?;
-        command.spawn(&self.processes)
-    }
-
     /// Starts a program, and takes the ends of its pipes.
     fn run(&self, words: &[Text]) -> io::Result<Spawned<PipeLink, PipeFeed>> {
-        let Some((program, arguments)) = words.split_first() else {
-            return Err(io::Error::from(io::ErrorKind::InvalidInput));
-        };
-        let mut command = Command::new(self.alloc, program.as_str())?;
-        let child = self.spawn(&mut command, arguments);
+        let mut command = command_of(self.alloc, words)?;
+        let child = command.spawn(&self.processes);
         drop(command);
         spawned(child?)
     }
