@@ -1,3 +1,4 @@
+pub mod Moving
 pub mod Standing
 pub mod Fronts
 pub mod Growing

@@ -1,4 +1,5 @@
 pub mod Format
+pub mod Crashes
 pub mod Keepers
 pub mod InMemory
 pub mod Bearing

@@ -1,6 +1,7 @@
 -- What the opening of a journal answers and leaves.
 use Rattle.std.specs.Prelude.{ℕ, ◌≡◌, ◌≤◌, ◌⊎◌, Bool, true, false, List, [], take, Option, None, Some, Result, Ok, Err}
 use Rattle.std.specs.Io.KnownBytes.{Keeps}
+use Rattle.outside.specs.Asked.{IsAsked, Paths, with_path}
 use Rattle.scm_model.specs.declared.flat.Config.{Config}
 use Rattle.scm_model.specs.declared.flat.Limits.{Limits}
 use Rattle.scm_rules.specs.Opening.{CanOpen}
@@ -65,3 +66,12 @@ abbrev pub LeavesAt : Bool → Option (List ℕ) → Option (List ℕ) → Resul
 LeavesAt true old now result = LeavesAll old now result
 LeavesAt false old now (Ok opened) = IsEmptied old now
 LeavesAt false old now (Err fault) = Keeps old now ⊎ IsEmptied old now
+
+-- a crash leaves what stood, or what is kept of it
+abbrev pub IsOpened : List ℕ → List ℕ → Type 0
+IsOpened x y = (y ≡ x) ⊎ ((replay : Replay) × (read_journal x ≡ Ok replay) × (y ≡ take replay.kept x))
+
+-- the path was asked for, unless the keeper failed, perhaps at that
+abbrev pub AsksAt : {T : Type 0} → Option (List ℕ) → Paths → Paths → Result T JournalFault → Type 0
+AsksAt path old new (Err faults.Failed) = IsAsked path old new
+AsksAt path old new result = new ≡ with_path old path

@@ -1,5 +1,6 @@
 //! Bytes in a file.
-ghost use Rattle.std.specs.Prelude.{◌≡◌, ◌≤◌, None};
+ghost use Rattle.std.specs.Prelude.{◌≡◌, ◌≤◌, None, OnOk};
+ghost use Rattle.std.specs.Io.KnownBytes.{Appends, IsAtEnd};
 ghost use Rattle.outside.specs.Fates.{one_more};
 
 use super::keeper::{KeepFault, Keeper};
@@ -82,14 +83,21 @@ fn open_file<R: Files<File = File>>(files: &R, path: &str) -> io::Result<File> {
     Ok(file)
 }
 
-fn read_file<F: Read + Seek>(file: &mut F, alloc: Global) -> io::Result<Vec<u8>> {
+/// All that the file has.
+fn read_file<F: Read + Seek>(file: &mut F, alloc: Global) -> io::Result<Vec<u8>>
+    // It was read to its end.
+    ensures { OnOk result (IsAtEnd (F.remaining file.new)) }
+{
     file.rewind()?;
     let mut bytes = Vec::new(alloc);
     file.read_to_end(&mut bytes)?;
     Ok(bytes)
 }
 
-fn append_file<F: Write + OpenFile>(file: &mut F, bytes: &[u8]) -> io::Result<()> {
+/// Appends bytes, and sees to it that they reach the disk.
+fn append_file<F: Write + OpenFile>(file: &mut F, bytes: &[u8]) -> io::Result<()>
+    ensures { OnOk result (Appends (F.contents file.old) (F.contents file.new) bytes.now) }
+{
     file.write_all(bytes)?;
     file.sync_data()
 }
@@ -103,11 +111,19 @@ fn cut_file<F: OpenFile>(file: &F, length: u64) -> io::Result<()> {
 }
 
 impl<R: Files<File = File> + Drop> Keeper for FileKeeper<R> {
+    ghost use Rattle.record_journal.specs.Crashes.{nothing_left, nothing_is_left};
+
     ghost held = { λ _. None };
 
     ghost faults = { λ k. k.faults };
 
     ghost settled = { λ _. Unit {0} };
+
+    ghost crashes = { λ _. nothing_left };
+
+    ghost are_crashes = { λ _. nothing_is_left None (Unit {0}) };
+
+    ghost asked = { λ _. None };
 
     fn open_at(&mut self, path: Option<&str>) -> Result<(), Failed> {
         let place = match path {

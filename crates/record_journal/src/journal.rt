@@ -2,8 +2,9 @@ ghost use Rattle.std.specs.Prelude.{◌≡◌, ◌≤◌, ◌<◌, ◌+◌, ◌^
 ghost use Rattle.std.specs.Prelude.{OnErr, IsErrOf};
 ghost use Rattle.outside.specs.Causes.{HasCause, Rose};
 ghost use Rattle.outside.specs.Written.{Writes};
-ghost use Rattle.record_journal.specs.Bearing.{Bears, BearsMore, BearsSame, Mends, Puts, broken};
-ghost use Rattle.record_journal.specs.Bearing.{journal_grown};
+ghost use Rattle.record_journal.specs.Bearing.{Bears, BearsLost, BearsMore, Mends, MovesOn, Puts};
+ghost use Rattle.record_journal.specs.Bearing.{broken, journal_grown, kept_of, stood};
+ghost use Rattle.record_journal.specs.Crashes.{Crashing, HasAdded, Same};
 ghost use Rattle.record_journal.specs.Format.{HasEntry, piece};
 ghost use Rattle.scm_model.specs.declared.steps.Form.TheVariants.{Second};
 
@@ -28,7 +29,7 @@ impl Journal {
     /// The journal of a keeper that holds nothing.
     pub fn empty() -> Self
         ensures value { result ≡ record { good = 0; dirty = false; form = Second } }
-        ensures bears { Bears (Some (record { bytes = []; form = Second })) result (Some []) }
+        ensures bears { Bears (Some (stood Second [])) result (Some []) }
     {
         Journal {
             good: 0,
@@ -43,6 +44,9 @@ impl Journal {
         ensures err { OnErr result (self.new ≡ broken self.old) }
         ensures bytes { Mends self.old (K.held keeper.old) (K.held keeper.new) result }
         ensures cause { HasCause (K.faults keeper.old) (K.faults keeper.new) result }
+        ensures moments { Crashing (λ x. Same (kept_of self.old x))
+            (K.held keeper.old) (K.crashes keeper.old) (K.crashes keeper.new) }
+        ensures asked { K.asked keeper.new ≡ K.asked keeper.old }
     {
         if !self.dirty {
             return Ok(());
@@ -59,7 +63,10 @@ impl Journal {
         ensures err { OnErr result (self.new ≡ broken self.old) }
         ensures bytes { Writes (K.held keeper.old) (K.held keeper.new) result piece.now }
         ensures cause { HasCause (K.faults keeper.old) (K.faults keeper.new) result }
+        ensures moments { Crashing (HasAdded piece.now)
+            (K.held keeper.old) (K.crashes keeper.old) (K.crashes keeper.new) }
         ensures settled { OnOk result (K.settled keeper.new) }
+        ensures asked { K.asked keeper.new ≡ K.asked keeper.old }
     {
         self.dirty = true;
         keeper.append(piece)?;
@@ -76,7 +83,10 @@ impl Journal {
         ensures err { OnErr result (self.new ≡ broken self.old) }
         ensures bytes { Puts piece.now self.old (K.held keeper.old) (K.held keeper.new) result }
         ensures cause { HasCause (K.faults keeper.old) (K.faults keeper.new) result }
+        ensures moments { Crashing (λ x. HasAdded piece.now (kept_of self.old x))
+            (K.held keeper.old) (K.crashes keeper.old) (K.crashes keeper.new) }
         ensures settled { OnOk result (K.settled keeper.new) }
+        ensures asked { K.asked keeper.new ≡ K.asked keeper.old }
     {
         self.mend(keeper)?;
         self.add(keeper, piece)
@@ -93,8 +103,9 @@ impl Journal {
     ) -> Result<(), KeepFault>
         ensures ok { OnOk result
             (BearsMore change.now self.old (K.held keeper.old) self.new (K.held keeper.new)) }
-        ensures err { OnErr result
-            (BearsSame self.old (K.held keeper.old) self.new (K.held keeper.new)) }
+        // What was kept is kept, and a front of its piece may stand after it.
+        ensures lost { IsErrOf result KeepFault.Failed →
+            BearsLost change.now self.old (K.held keeper.old) self.new (K.held keeper.new) }
         ensures bytes { Puts (piece self.old.good self.old.form change.now) self.old
             (K.held keeper.old) (K.held keeper.new) result }
         ensures journal_grown { OnOk result (self.new ≡ journal_grown self.old
@@ -109,6 +120,10 @@ impl Journal {
         ensures kept { OnOk result (K.faults keeper.new ≡ K.faults keeper.old) }
         // A crash after it leaves the change, as it leaves those before.
         ensures settled { OnOk result (K.settled keeper.new) }
+        // A crash on the way leaves those before, and of this one a part, or all.
+        ensures moments { MovesOn change.now self.old (K.held keeper.old)
+            (K.crashes keeper.old) (K.crashes keeper.new) }
+        ensures asked { K.asked keeper.new ≡ K.asked keeper.old }
     {
         let Ok(piece) = piece(alloc, self.good, self.form, change) else {
             return Err(KeepFault::OutOfMemory);

@@ -1,7 +1,7 @@
 ghost use Rattle.std.specs.Prelude.{◌≡◌, ◌≤◌, ◌++◌, ◌∷◌, [], List, Some, length, map, ℕ};
 ghost use Rattle.std.specs.List.{flat_map};
 ghost use Rattle.scm_model.specs.declared.steps.Change.{Change};
-ghost use Rattle.record_journal.specs.Bearing.{and_changes};
+ghost use Rattle.record_journal.specs.Bearing.{and_changes, stood};
 ghost use Rattle.record_journal.specs.Format.{HasEntryIn, entry_bytes, entry_in, held_in};
 ghost use Rattle.record_journal.specs.Format.{journal_bytes, switch};
 ghost use Rattle.record_journal.specs.ReadBack.{AreReplayableIn, AreUpgraded, HasParts};
@@ -15,18 +15,15 @@ ghost use Rattle.scm_model.specs.declared.steps.Form.TheVariants.{First, Second}
 /// and its entries in order.
 pub fn appended_changes_are_a_journal()
     ensures { (old more : List Change) →
-        and_changes (Some (record { bytes = journal_bytes old; form = Second })) more
-        ≡ Some (record { bytes = journal_bytes (old ++ more); form = Second }) }
+        and_changes (Some (stood Second (journal_bytes old))) more
+        ≡ Some (stood Second (journal_bytes (old ++ more))) }
 {}
 
 /// Changes that are appended to a journal of form 1 stand after one entry that ends this form.
 pub fn appended_changes_end_form_1()
     ensures { (bytes : List ℕ) (change : Change) (more : List Change) → 1 ≤ length bytes →
-        and_changes (Some (record { bytes = bytes; form = First })) (change ∷ more)
-        ≡ Some (record {
-          bytes = bytes ++ switch ++ flat_map entry_bytes (change ∷ more);
-          form = Second;
-        }) }
+        and_changes (Some (stood First bytes)) (change ∷ more)
+        ≡ Some (stood Second (bytes ++ switch ++ flat_map entry_bytes (change ∷ more))) }
 {}
 
 /// The entries of changes that can be replayed one after the other are read as what these come to,

@@ -1,10 +1,12 @@
 //! The opening of a journal.
-ghost use Rattle.std.specs.Prelude.{◌≡◌, ◌≤◌, length, IfOk, IfSome, IsErrOf, OnOk, is_some};
+ghost use Rattle.std.specs.Prelude.{◌≡◌, ◌≤◌, length, IfOk, IfSome, IsErrOf, OnOk, is_some, take};
+ghost use Rattle.outside.specs.Asked.{text_of};
 ghost use Rattle.outside.specs.Causes.{HasCause, Rose};
-ghost use Rattle.record_journal.specs.Bearing.{Bears, stood_in};
-ghost use Rattle.record_journal.specs.Keepers.{Cuts, IsUntold, Settles};
+ghost use Rattle.record_journal.specs.Bearing.{Bears, StandsIn, stood_in};
+ghost use Rattle.record_journal.specs.Crashes.{Crashing, Same};
+ghost use Rattle.record_journal.specs.Keepers.{Cuts, IsUntold, Settles, opened_at};
 ghost use Rattle.record_journal.specs.Opening.{Restores, CanBegin, LeavesAt, LeavesAll};
-ghost use Rattle.record_journal.specs.Opening.{content_under};
+ghost use Rattle.record_journal.specs.Opening.{AsksAt, IsOpened, content_under};
 
 use crate::journal::Journal;
 use crate::keeper::{KeepFault, Keeper};
@@ -41,6 +43,9 @@ fn cut_behind<K: Keeper>(keeper: &mut K, size: usize, kept: u64) -> Result<(), F
     ensures untold { IsUntold (K.held keeper.old) (K.held keeper.new) }
     ensures cause { HasCause (K.faults keeper.old) (K.faults keeper.new) result }
     ensures settled { K.settled keeper.old → OnOk result (K.settled keeper.new) }
+    ensures moments { Crashing (λ x. Same (take kept x))
+        (K.held keeper.old) (K.crashes keeper.old) (K.crashes keeper.new) }
+    ensures asked { K.asked keeper.new ≡ K.asked keeper.old }
 {
     if size as u64 <= kept {
         return Ok(());
@@ -64,6 +69,9 @@ fn restore<K: Keeper>(alloc: Global, keeper: &mut K, bytes: &[u8]) -> Result<Res
     ensures kept { OnOk result (K.faults keeper.new ≡ K.faults keeper.old) }
     ensures settled { K.settled keeper.old →
         Settles (K.faults keeper.old) (K.faults keeper.new) result (K.settled keeper.new) }
+    ensures moments { Crashing IsOpened
+        (K.held keeper.old) (K.crashes keeper.old) (K.crashes keeper.new) }
+    ensures asked { K.asked keeper.new ≡ K.asked keeper.old }
 {
     let Replay {
         configs,
@@ -108,6 +116,14 @@ pub fn open_journal<K: Keeper>(
     // What was opened is settled, damaged or not.
     ensures settled { Settles (K.faults keeper.old) (K.faults keeper.new) result
         (K.settled keeper.new) }
+    // A crash on the way leaves what was there, or what is read as it.
+    ensures moments { Crashing (λ x. IsOpened (opened_at (is_some path.entry) x))
+        (K.held keeper.old) (K.crashes keeper.old) (K.crashes keeper.new) }
+    // A crash after it leaves what is held.
+    ensures stands { IfOk result (λ opened.
+        StandsIn (stood_in opened.journal.form (K.held keeper.new)) (K.crashes keeper.new)) }
+    ensures asked { AsksAt (text_of path.entry)
+        (K.asked keeper.old) (K.asked keeper.new) result }
 {
     let Ok(()) = keeper.open_at(path) else {
         return Err(JournalFault::Failed);
