@@ -1,2 +1,3 @@
 mod Writing
 mod Whole
+pub mod Sent

@@ -1,8 +1,8 @@
 -- What a run of the client results in: its status, its connection, what it printed and its diagnostic.
-use Rattle.std.specs.Prelude.{ℕ, ◌≡◌, Bool, List, [], Option, is_some, IfSome, Result, Ok, Err, if◌then◌else◌, ◌⊎◌}
+use Rattle.std.specs.Prelude.{ℕ, ◌≡◌, Bool, List, Option, is_some, IfSome, Result, Ok, Err, if◌then◌else◌, ◌⊎◌}
 use Rattle.std.specs.Io.KnownBytes.{Appends}
 use Rattle.outside.specs.Causes.{Rose}
-use Rattle.outside.specs.Written.{AppendsFront}
+use Rattle.outside.specs.Written.{AppendsFront, IsFresh}
 use Rattle.sc_client.specs.declared.fault.ClientFault.{ClientFault}
 use Rattle.sc_client.specs.declared.fault.ClientFault.TheVariants as client
 use Rattle.sc_client.specs.Runs.{IsRun}
@@ -67,13 +67,14 @@ outside_of next past past_now dialer dialer_now held held_now output output_now 
   output_now = output_now;
 }
 
--- one connection was made to the command's address, the command was run over it from its first byte on, and it was given back
+-- One connection was made to the command's address, the command was run over it from its first byte on, and it was given back. So where the
+-- dialer tells what the peer sends, the connection was written the command's bytes and no others.
 pub record IsCalled (c : Command) (next : Option (List ℕ)) (past past_now : Option (List PastConnection))
     (result : Result (List Heard) ClientFault) : Type 0 where
   pub left : Option (List ℕ)
   pub unwritten : Option (List ℕ)
   pub written : Option (List ℕ)
-  pub fresh : IfSome unwritten (λ held. held ≡ [])
+  pub fresh : IsFresh next unwritten
   pub run : IsRun c next left unwritten written result
   pub given : IsGivenBack past past_now c.address left written
 
