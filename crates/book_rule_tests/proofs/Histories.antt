@@ -1,7 +1,8 @@
 -- Histories of rolls, and what stands in a longer one.
 use Rattle.std.proofs.Common.{◌≡◌, ◌≢◌, ℕ, ◌+◌, ◌<◌, ◌≤◌, eqb, Bool, true, false, ◌||◌, cond, List, [], ◌∷◌, ◌++◌, length, ◌⊎◌, inl, inr}
 use Rattle.std.proofs.Common.{⊎_elim, refl, sym, ap, ◌∙◌, subst, arith, append_assoc, append-nil, length-append, map, ne_eqb, eqb-true}
-use Rattle.std.proofs.Common.{eq-eqb}
+use Rattle.std.proofs.Common.{eq-eqb, Option, None, Some, Result, Ok, Err, OnOk}
+use Rattle.std.specs.List.{last_or}
 use Rattle.std.proofs.lemmas.List.{map-append}
 use mathlib.Core.List.{IsPrefix}
 use Rattle.scm_model.specs.Entries.{Entry}
@@ -13,7 +14,7 @@ use Rattle.book_rule.specs.Ways.{Has}
 use Rattle.book_rule.proofs.Places.{snoc_cases}
 use Rattle.book_rule_tests.specs.declared.roll.Line.{Line}
 use Rattle.book_rule_tests.specs.Rolls.{step_of_what, entry_of, joins, callers_in, caller_told_of, entries_naming, is_going, has_gone, May}
-use Rattle.book_rule_tests.specs.Rolls.{IsLegal, names_in, made_by, MOST}
+use Rattle.book_rule_tests.specs.Rolls.{IsLegal, names_in, made_by, MOST, Rolled, EndsAt, Adds, Forgets}
 
 pub callers_append : (xs ys : List Entry) → callers_in (xs ++ ys) ≡ callers_in xs + callers_in ys
 callers_append [] ys = omega arith
@@ -168,12 +169,62 @@ joins_few : (step : Step) → joins step ≤ 1
 joins_few (Joined p) = omega arith
 joins_few step = omega arith
 
+-- ## Rolls that forget
+
+last_snoc : (o : Option Entry) (es : List Entry) (e : Entry) → last_or o (es ++ e ∷ []) ≡ Some e
+last_snoc o [] e = refl
+last_snoc o (x ∷ xs) e = last_snoc (Some x) xs e
+
+pub ends_more : (log : List Entry) (r r' : Rolled) (e : Entry) → EndsAt log r → Adds r e r' → EndsAt (log ++ e ∷ []) r'
+ends_more log r r' e ends adds = record {
+  front = ends.front ++ adds.front;
+  is = ap (λ l. l ++ e ∷ []) ends.is ∙ append_assoc ends.front r.held (e ∷ []) ∙ ap (λ l. ends.front ++ l) adds.is
+      ∙ sym (append_assoc ends.front adds.front r'.held);
+  past = let p = adds.past in let q = ends.past in omega (arith, p, q, length-append ends.front adds.front);
+  callers = let c = adds.callers in let d = ends.callers in let m = callers_append log (e ∷ []) in omega (arith, c, d, m);
+}
+
+pub ends_still : (log : List Entry) (r r' : Rolled) → EndsAt log r → Forgets r r' → EndsAt log r'
+ends_still log r r' ends forgets = record {
+  front = ends.front ++ forgets.front;
+  is = ends.is ∙ ap (λ l. ends.front ++ l) forgets.is ∙ sym (append_assoc ends.front forgets.front r'.held);
+  past = let p = forgets.past in let q = ends.past in omega (arith, p, q, length-append ends.front forgets.front);
+  callers = forgets.callers ∙ ends.callers;
+}
+
+pub ends_short : (log : List Entry) (r : Rolled) → EndsAt log r → r.past + length r.held < MOST → length log < MOST
+ends_short log r ends few =
+    let l = ap (λ (l : List Entry). length l) ends.is in
+    let p = ends.past in
+    omega (arith, l, p, few, length-append ends.front r.held)
+
+pub forgets_none : (old new : Rolled) → new ≡ old → Forgets old new
+forgets_none old new is = record {
+  front = [];
+  is = ap (λ (r : Rolled). r.held) (sym is);
+  past = let p = ap (λ (r : Rolled). r.past) is in omega (arith, p);
+  callers = ap (λ (r : Rolled). r.callers) is;
+}
+
+pub adds_after : (old mid new : Rolled) (e : Entry) → Forgets old mid → new.past ≡ mid.past → new.held ≡ mid.held ++ e ∷ []
+    → new.callers ≡ mid.callers + joins e.1 → Adds old e new
+adds_after old mid new e forgets past held callers = record {
+  front = forgets.front;
+  is = ap (λ l. l ++ e ∷ []) forgets.is ∙ append_assoc forgets.front mid.held (e ∷ []) ∙ ap (λ l. forgets.front ++ l) (sym held);
+  past = past ∙ forgets.past;
+  callers = let f = forgets.callers in omega (arith, callers, f);
+  last = ap (λ (es : List Entry). last_or None es) held ∙ last_snoc None mid.held e;
+}
+
+pub ok_adds : {T E : Type 0} (r : Result T E) (old mid new : Rolled) (e : Entry) → Forgets old mid → OnOk r (new.past ≡ mid.past)
+    → OnOk r (new.held ≡ mid.held ++ e ∷ []) → OnOk r (new.callers ≡ mid.callers + joins e.1) → OnOk r (Adds old e new)
+ok_adds (Ok x) old mid new e forgets past held callers = adds_after old mid new e forgets past held callers
+ok_adds (Err x) old mid new e forgets past held callers = tt
+
 -- what a roll keeps beside its lines
-pub line_kept : (lines lines' : List Line) (line : Line) (callers n : ℕ) → lines' ≡ lines ++ line ∷ []
-    → callers ≡ callers_in (map entry_of lines) → callers ≤ length lines → length lines < MOST → n ≡ joins (step_of_what line.what)
-    → (callers + n ≡ callers_in (map entry_of lines')) × (callers + n ≤ length lines') × (length lines' ≤ MOST)
-line_kept lines lines' line callers n is count few room made =
-    let more = callers_line lines line in
+pub line_kept : (lines lines' : List Line) (line : Line) (past callers n : ℕ) → lines' ≡ lines ++ line ∷ []
+    → callers ≤ past + length lines → past + length lines < MOST → n ≡ joins (step_of_what line.what)
+    → (callers + n ≤ past + length lines') × (past + length lines' ≤ MOST)
+line_kept lines lines' line past callers n is few room made =
     let longer = ap length is ∙ length-append lines (line ∷ []) in
-    let same = ap (λ (l : List Line). callers_in (map entry_of l)) is in
-    let one = joins_few (step_of_what line.what) in (omega arith, omega arith, omega arith)
+    let one = joins_few (step_of_what line.what) in (omega arith, omega arith)

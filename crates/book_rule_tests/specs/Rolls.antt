@@ -1,5 +1,6 @@
 -- Rolls as histories: what is legal, who lives, and whom entries name and make.
-use Rattle.std.specs.Prelude.{◌≡◌, ℕ, ◌+◌, ◌^◌, ◌<◌, ◌≤◌, ◌==◌, ◌||◌, Bool, false, cond, List, [], ◌∷◌, ◌++◌, length, map, None}
+use Rattle.std.specs.Prelude.{◌≡◌, ℕ, ◌+◌, ◌^◌, ◌<◌, ◌≤◌, ◌==◌, ◌||◌, Bool, false, cond, List, [], ◌∷◌, ◌++◌, length, Option, None, Some}
+use Rattle.std.specs.List.{last_or}
 use Rattle.scm_model.specs.Entries.{Entry}
 use Rattle.scm_model.specs.declared.flat.Principal.TheVariants.{Admin}
 use Rattle.scm_model.specs.declared.steps.Form.TheVariants.{Second}
@@ -35,9 +36,37 @@ abbrev pub callers_in : List Entry → ℕ
 callers_in [] = 0
 callers_in (e ∷ es) = joins e.1 + callers_in es
 
--- what a roll keeps beside its lines
-abbrev pub IsCounted : List Line → ℕ → Type 0
-IsCounted lines callers = (callers ≡ callers_in (map entry_of lines)) × (callers ≤ length lines) × (length lines ≤ MOST)
+-- what a roll keeps beside the lines that it holds
+abbrev pub IsCounted : (held past callers : ℕ) → Type 0
+IsCounted held past callers = (callers ≤ past + held) × (past + held ≤ MOST)
+
+-- a roll: how many lines it forgot, those that it holds, and how many callers joined in all
+pub record Rolled : Type 0 where
+  pub past : ℕ
+  pub held : List Entry
+  pub callers : ℕ
+
+-- it holds the end of a history
+pub record EndsAt (log : List Entry) (r : Rolled) : Type 0 where
+  pub front : List Entry
+  pub is : log ≡ front ++ r.held
+  pub past : r.past ≡ length front
+  pub callers : r.callers ≡ callers_in log
+
+-- it may have forgotten some lines
+pub record Forgets (old new : Rolled) : Type 0 where
+  pub front : List Entry
+  pub is : old.held ≡ front ++ new.held
+  pub past : new.past ≡ old.past + length front
+  pub callers : new.callers ≡ old.callers
+
+-- and has one more, which it holds
+pub record Adds (old : Rolled) (e : Entry) (new : Rolled) : Type 0 where
+  pub front : List Entry
+  pub is : old.held ++ e ∷ [] ≡ front ++ new.held
+  pub past : new.past ≡ old.past + length front
+  pub callers : new.callers ≡ old.callers + joins e.1
+  pub last : last_or None new.held ≡ Some e
 
 -- the caller that an entry names, or 0
 abbrev pub caller_told_of : Step → ℕ
@@ -116,11 +145,11 @@ roll_opening = record {
   asked = None;
 }
 
-abbrev pub way_of_rolls : Protocol (List Entry)
+abbrev pub way_of_rolls : Protocol Rolled
 way_of_rolls = record {
   opening = λ r. roll_opening;
-  trail = λ r. r;
-  fits = λ o log r. r ≡ log;
+  last = λ r. last_or None r.held;
+  fits = λ o log r. EndsAt log r;
   run = λ o log. IsLegal log;
   lives = λ o log c. Lives log c;
   names = λ e. names_in e.1;
