@@ -1,9 +1,6 @@
 -- What a crash leaves on the way of calls of a keeper.
-use Rattle.std.proofs.Common.{ℕ, ◌≡◌, ◌⊎◌, ⊎_elim, inl, inr, Bool, true, false, List, [], ◌++◌, take, Option, Some, None, refl, sym, ◌∙◌, subst, arith, ap}
-use Rattle.std.proofs.Common.{append-nil, Ok, Err}
-use Rattle.std.specs.Prelude.{Result}
-use Rattle.outside.specs.declared.Failed.{Failed}
-use Rattle.outside.specs.Written.{Begins}
+use Rattle.std.proofs.Common.{ℕ, ◌≡◌, ⊎_elim, inl, inr, List, [], Option, Some, None, refl, sym, ◌∙◌, subst, arith, ap}
+use Rattle.std.proofs.Common.{append-nil, Ok}
 use Rattle.record_journal.specs.Crashes.{Crashes, Crashing, EachLeaves, HasAdded, IsOldOr, Same}
 use Rattle.record_journal.specs.Bearing.{Mends, kept_of}
 use Rattle.record_journal.specs.declared.journal.Journal.{Journal}

@@ -83,7 +83,7 @@ opening_leaves path old opened now a b c d opens keeps first second third =
     let P : List ℕ → List ℕ → Type 0 = λ x. Same (opened_at path x) in
     let R : List ℕ → List ℕ → Type 0 = λ x. IsOpened (opened_at path x) in
     let read : Crashing P old a c = followed P Same P (opened_at path) old opened a b c first second
-        (λ x is. opened_to path old opened x opens is) (λ x y p. p) (λ x y q. q) in
+    (λ x is. opened_to path old opened x opens is) (λ x y p. p) (λ x y q. q) in
     followed P IsOpened R (opened_at path) old now a c d read third
     (λ x is. read_same opened now (opened_at path x) keeps (opened_to path old opened x opens is)) (λ x y p. inl p) (λ x y q. q)
 

@@ -1,5 +1,5 @@
 -- What a keeper holds of a journal, where it tells its bytes, and what a crash leaves of it.
-use Rattle.std.specs.Prelude.{ℕ, ◌≡◌, ◌⊎◌, ◌+◌, Bool, true, false, List, [], ◌∷◌, ◌++◌, fold, length, take, Option, None, Some, Result, Ok, Err}
+use Rattle.std.specs.Prelude.{ℕ, ◌≡◌, ◌⊎◌, ◌+◌, true, false, List, [], ◌∷◌, ◌++◌, fold, length, take, Option, None, Some, Result, Ok, Err}
 use Rattle.std.specs.Prelude.{if◌then◌else◌, option_map}
 use Rattle.outside.specs.Written.{Begins}
 use Rattle.scm_model.specs.declared.steps.Change.{Change}

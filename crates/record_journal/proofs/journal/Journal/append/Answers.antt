@@ -1,4 +1,3 @@
-use Rattle.std.proofs.Common.{refl}
 use Rattle.record_journal.proofs.Standing.{lost, more, moves, moves_none}
 use Rattle.record_journal.proofs.journal.Journal.append.Goals as goal
 
