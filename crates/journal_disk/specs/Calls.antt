@@ -1,5 +1,5 @@
 -- A disk in memory: its calls as they are kept, and what becomes of those to come.
-use Rattle.std.specs.Prelude.{ℕ, ◌≡◌, ◌⊎◌, ◌-◌, Bool, true, false, if◌then◌else◌, List, [], ◌∷◌, length, slice_index_or}
+use Rattle.std.specs.Prelude.{ℕ, ◌≡◌, ◌⊎◌, ◌-◌, Bool, true, false, if◌then◌else◌, List, [], ◌∷◌, length, Option, slice_index_or}
 use Rattle.outside.specs.Fates.{later, one_more}
 use Rattle.journal_disk.specs.Files.{Files}
 use Rattle.journal_disk.specs.Past.{Call, Opened, Sized, Read, Wrote, Synced}
@@ -17,6 +17,8 @@ pub record InMemory : Type 0 where
   -- what becomes of the calls to come, the next one last
   pub fates : List DiskFate
   pub faults : ℕ
+  -- the paths at which it was opened, in order
+  pub asked : List (Option (List ℕ))
 
 abbrev pub with_fate : DiskCall → DiskFate → Call
 with_fate (asked.Open has_path) fate = Opened has_path fate

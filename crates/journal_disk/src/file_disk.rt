@@ -1,5 +1,5 @@
 //! The three files on a real disk.
-ghost use Rattle.std.specs.Prelude.{◌≡◌, ◌≤◌, ◌+◌, ◌^◌, IfOk, OnOk, length};
+ghost use Rattle.std.specs.Prelude.{◌≡◌, ◌≤◌, ◌+◌, ◌^◌, IfOk, None, OnOk, length};
 ghost use Rattle.outside.specs.Fates.{one_more};
 
 use crate::disk::Disk;
@@ -175,6 +175,8 @@ impl<R: Files<File = File> + Drop> Disk for FileDisk<R> {
     ghost faults = { λ d. d.faults };
 
     ghost is_disk = { λ _. nothing_is_disk };
+
+    ghost asked = { λ _. None };
 
     fn open_at(&mut self, path: Option<&str>) -> Result<(), Failed> {
         let place = match path {

@@ -1,6 +1,7 @@
-ghost use Rattle.std.specs.Prelude.{◌≡◌, ◌≤◌, ◌+◌, ◌^◌, ◌∷◌, [], false, IfOk, IsTrue, OnErr, OnOk};
+ghost use Rattle.std.specs.Prelude.{◌≡◌, ◌≤◌, ◌+◌, ◌^◌, ◌∷◌, ◌++◌, [], false, IfOk, IsTrue, OnErr, OnOk};
 ghost use Rattle.std.specs.Prelude.{is_some};
 ghost use Rattle.std.specs.Prelude.{Some, is_err, length, take, drop};
+ghost use Rattle.outside.specs.Asked.{Asks, text_of};
 ghost use Rattle.outside.specs.Causes.{HasCause};
 ghost use Rattle.outside.specs.Fates.{later, one_more};
 ghost use Rattle.journal_disk.specs.Files.{Files, file, no_files};
@@ -17,6 +18,7 @@ use crate::disk::Disk;
 use crate::files::{DiskFiles, changed};
 use crate::images::{Tear, replay};
 use outside::Failed;
+use scm_text::{OutOfMemory, Text};
 use std::alloc::{AllocError, Global};
 use std::marker::Model;
 
@@ -33,6 +35,7 @@ pub struct MemoryDisk {
     calls: Vec<TakenCall>,
     fates: Vec<DiskFate>,
     faults: u64,
+    asked: Vec<Option<Text>>,
 }
 
 impl Model for MemoryDisk {
@@ -47,6 +50,7 @@ impl Model for MemoryDisk {
       past = history d.calls.items;
       fates = d.fates.items;
       faults = d.faults;
+      asked = d.asked.items;
     } };
 
     ghost invariant = { λ d. d.held ≡ now_of d.first (history d.calls.items) };
@@ -59,6 +63,7 @@ impl MemoryDisk {
         ensures past { result.past ≡ [] }
         ensures fates { result.fates ≡ fates.items }
         ensures faults { result.faults ≡ 0 }
+        ensures asked { result.asked ≡ [] }
     {
         MemoryDisk {
             first: DiskFiles::new(alloc),
@@ -66,6 +71,7 @@ impl MemoryDisk {
             calls: Vec::new(alloc),
             fates,
             faults: 0,
+            asked: Vec::new(alloc),
         }
     }
 
@@ -74,6 +80,14 @@ impl MemoryDisk {
         ensures { result.now ≡ file (now_of self.now.first self.now.past) which }
     {
         self.held.bytes(which)
+    }
+
+    /// The paths at which it was opened, in order. One at which an opening failed is among them,
+    /// unless there was no memory for it.
+    pub fn asked(&self) -> &[Option<Text>]
+        ensures { result.now ≡ self.now.asked }
+    {
+        &self.asked
     }
 
     /// The calls that it has taken, the oldest first.
@@ -101,6 +115,7 @@ impl MemoryDisk {
         ensures past { IfOk result (λ disk. disk.past ≡ []) }
         ensures fates { IfOk result (λ disk. disk.fates ≡ []) }
         ensures faults { IfOk result (λ disk. disk.faults ≡ 0) }
+        ensures asked { IfOk result (λ disk. disk.asked ≡ []) }
     {
         let mut image = DiskFiles::new(alloc);
         let mut held = DiskFiles::new(alloc);
@@ -118,6 +133,7 @@ impl MemoryDisk {
                 calls: Vec::new(alloc),
                 fates: Vec::new(alloc),
                 faults: 0,
+                asked: Vec::new(alloc),
             }),
             Err(fault) => {
                 drop(image);
@@ -151,6 +167,7 @@ impl MemoryDisk {
         requires { (fate : DiskFate) (now : Files) → now_after (with_fate call fate) now ≡ now }
         ensures taken { IsTaken (with_fate call) self.old self.new (is_err result) }
         ensures cause { HasCause self.old.faults self.new.faults result }
+        ensures asked { self.new.asked ≡ self.old.asked }
     {
         let fate = self.take_fate();
         let taken = TakenCall { call, fate };
@@ -203,10 +220,30 @@ impl MemoryDisk {
         Ok(())
     }
 
+    /// Records a path at which it is opened.
+    fn record_path(&mut self, path: Option<&str>) -> Result<(), OutOfMemory>
+        ensures ok { OnOk result (self.new
+            ≡ record self.old { asked = self.old.asked ++ text_of path.entry ∷ [] }) }
+        ensures err { OnErr result (self.new ≡ self.old) }
+    {
+        let text = match path {
+            Some(path) => Some(Text::from_str(*self.asked.allocator(), path)?),
+            None => None,
+        };
+        match self.asked.push(text) {
+            Ok(()) => Ok(()),
+            Err(full) => {
+                drop(full);
+                Err(OutOfMemory)
+            }
+        }
+    }
+
     /// Opens without a path: its files are empty from then on.
     fn empty(&mut self) -> Result<(), Failed>
         ensures taken { IsTaken (Opened false) self.old self.new (is_err result) }
         ensures cause { HasCause self.old.faults self.new.faults result }
+        ensures asked { self.new.asked ≡ self.old.asked }
     {
         let fate = self.take_fate();
         let taken = TakenCall {
@@ -233,13 +270,21 @@ impl Disk for MemoryDisk {
 
     ghost is_disk = { λ d. is_disk d.first d.past };
 
+    ghost asked = { λ d. Some d.asked };
+
     /// All paths are one: the files stand under each.
     fn open_at(&mut self, path: Option<&str>) -> Result<(), Failed>
         ensures opens { Opens (is_some path.entry) (disk_state self.old.first self.old.past)
             (disk_state self.new.first self.new.past) result }
         ensures cause { HasCause self.old.faults self.new.faults result }
         ensures taken { IsTaken (Opened (is_some path.entry)) self.old self.new (is_err result) }
+        ensures asked { Asks (text_of path.entry)
+            (Some self.old.asked) (Some self.new.asked) result }
     {
+        if self.record_path(path).is_err() {
+            let _fate = self.take_fate();
+            return Err(self.fail());
+        }
         match path {
             None => self.empty(),
             Some(_) => self.take(DiskCall::Open { has_path: true }),
@@ -255,6 +300,7 @@ impl Disk for MemoryDisk {
         ensures cause { HasCause self.old.faults self.new.faults result }
         ensures taken { length (file (now_of self.old.first self.old.past) which) ≤ 2 ^ 62 →
             IsTaken (Sized which) self.old self.new (is_err result) }
+        ensures asked { self.new.asked ≡ self.old.asked }
     {
         self.take(DiskCall::Size { file: which })?;
         let size = self.bytes(which).len() as u64;
@@ -274,6 +320,7 @@ impl Disk for MemoryDisk {
         ensures cause { HasCause self.old.faults self.new.faults result }
         ensures taken { IsTaken (Read which place (length into.old))
             self.old self.new (is_err result) }
+        ensures asked { self.new.asked ≡ self.old.asked }
     {
         self.take(DiskCall::Read {
             file: which,
@@ -293,6 +340,7 @@ impl Disk for MemoryDisk {
         ensures bound { OnOk result (place + length from.now ≤ 2 ^ 62) }
         ensures cause { HasCause self.old.faults self.new.faults result }
         ensures taken { IsTaken (Wrote which place from.now) self.old self.new (is_err result) }
+        ensures asked { self.new.asked ≡ self.old.asked }
     {
         let fate = self.take_fate();
         let size = from.len() as u64;
@@ -313,6 +361,7 @@ impl Disk for MemoryDisk {
             (disk_state self.new.first self.new.past) result }
         ensures cause { HasCause self.old.faults self.new.faults result }
         ensures taken { IsTaken Synced self.old self.new (is_err result) }
+        ensures asked { self.new.asked ≡ self.old.asked }
     {
         self.take(DiskCall::Sync)
     }
