@@ -1,16 +1,20 @@
-ghost use Rattle.std.specs.Prelude.{◌≡◌, ◌≢◌, ◌≤◌, option_copied};
+ghost use Rattle.std.specs.Prelude.{◌≡◌, ◌≢◌, ◌≤◌, option_and_then, option_copied};
 ghost use Rattle.scm_model.specs.Refused.{answered};
+ghost use Rattle.scm_model.specs.Rows.{service_of};
 ghost use Rattle.scm_model.specs.declared.steps.Answer.TheVariants as answer;
-ghost use Rattle.scm_rules.specs.Controls.{control_done, control_taken, control_told};
+ghost use Rattle.scm_rules.specs.Controls.{active_among, control_done, control_taken, control_told};
 ghost use Rattle.scm_rules.specs.Controls.{control_verdict, granted_in, status_told, tells_status};
 ghost use Rattle.scm_rules.specs.Controls.{waiting_for};
 
 use control_dispatch::judge;
+use dependency_index::Steps;
 use scm_model::codes::{
     ERROR_INVALID_SERVICE_CONTROL, ERROR_SERVICE_CANNOT_ACCEPT_CTRL, ERROR_SERVICE_NOT_ACTIVE,
 };
 use scm_model::{Answer, Opened, Order, Reply, Service, Status, zero_status};
 use scm_tables::{Tables, status_in};
+use std::marker::Brand;
+use std::sync::ledger::{Blank, Ledger};
 
 /// The rights of a handle, where it is one of a service.
 fn granted_in(handle: Option<Opened>) -> Option<u32>
@@ -32,6 +36,40 @@ pub fn waiting_for(tables: &Tables, service: Option<&Service>) -> u32
     }
 }
 
+/// How many services name a service as a need and aren't STOPPED, by a counter of its own.
+fn active_counted<L: Ledger>(tables: &Tables, service: u64, blank: Blank) -> u32
+    requires name { blank.name ≡ L.name }
+    requires parts { blank.parts ≡ L.parts }
+    requires one { blank.parts ≡ 1 }
+    ensures { result ≡ active_among tables.now.flat.services
+        (service_of tables.now.flat service) }
+{
+    let mut steps = Steps::<L>::open(blank);
+    let active = tables.active_needing(service, &mut steps);
+    drop(steps);
+    active
+}
+
+/// How many services name a service as a need and aren't STOPPED. The states of those services
+/// alone are looked at: the counter shows it, and takes no bytes.
+pub fn active_needing(tables: &Tables, service: u64) -> u32
+    ensures { result ≡ active_among tables.now.flat.services
+        (service_of tables.now.flat service) }
+{
+    active_counted::<Brand>(tables, service, Blank::new(1))
+}
+
+/// The same of the service that a handle is of, or 0 where it is of none.
+fn active_held(tables: &Tables, handle: Option<Opened>) -> u32
+    ensures { result ≡ active_among tables.now.flat.services
+        (option_and_then (λ of. service_of tables.now.flat of.service) handle) }
+{
+    match handle {
+        Some(opened) => active_needing(tables, opened.service),
+        None => 0,
+    }
+}
+
 /// What `RControlService` is refused with, or 0: `ERROR_INVALID_HANDLE` (6),
 /// `ERROR_INVALID_PARAMETER` (87), `ERROR_ACCESS_DENIED` (5),
 /// `ERROR_SERVICE_NOT_ACTIVE` (1062), `ERROR_SERVICE_CANNOT_ACCEPT_CTRL` (1061),
@@ -45,7 +83,7 @@ pub fn control_verdict(tables: &Tables, caller: u64, handle: u64, control: u32) 
         granted_in(tables.opened(caller, handle)),
         control,
         &status_in(service),
-        tables.active_needing(service),
+        active_held(tables, tables.opened(caller, handle)),
         waiting_for(tables, service),
         tables.limits().controls,
     )

@@ -3,13 +3,13 @@ ghost use Rattle.std.specs.Prelude.{option_copied, slice_get};
 ghost use Rattle.scm_model.specs.Found.{if_found};
 ghost use Rattle.scm_model.specs.declared.calls.Reply.TheVariants as reply;
 ghost use Rattle.scm_model.specs.declared.steps.Answer.TheVariants as answer;
-ghost use Rattle.scm_rules.specs.Raise.{all_triggered, gets_stop, raise_verdict, raised, with_stop};
+ghost use Rattle.scm_rules.specs.Raise.{all_triggered, raise_verdict, raised, with_stop};
 ghost use Rattle.scm_rules.specs.Room.{is_started_at};
 ghost use Rattle.scm_tables.specs.Firing.{HasPlanNumbers, HasStarts};
 ghost use Rattle.scm_arms_process.specs.Raised.{acted, action_in, raise_starts, started_among};
 ghost use Rattle.scm_arms_process.specs.Raised.{started_at, starts_by, stopped_by, triggered_if};
 
-use super::controlling::waiting_for;
+use super::controlling::{active_needing, waiting_for};
 use control_dispatch::judge;
 use scm_model::codes::{
     ERROR_ACCESS_DENIED, SERVICE_CONTROL_STOP, SERVICE_STOP, SERVICE_TRIGGER_ACTION_SERVICE_START,
@@ -59,20 +59,6 @@ pub fn raise_starts(tables: &Tables, caller: u64, subtype: &[u8; 16]) -> usize
     }
 }
 
-/// Whether a service gets a STOP from a sender that may stop it.
-fn gets_stop(tables: &Tables, row: &Service) -> bool
-    ensures { result ≡ gets_stop tables.now.limits tables.now.flat row.now }
-{
-    judge(
-        Some(SERVICE_STOP),
-        SERVICE_CONTROL_STOP,
-        &row.status,
-        tables.active_needing(Some(row)),
-        waiting_for(tables, Some(row)),
-        tables.limits().controls,
-    ) == 0
-}
-
 /// An order, and the process that is to get it.
 #[derive(Clone, Copy)]
 struct Addressed {
@@ -80,28 +66,31 @@ struct Addressed {
     order: Order,
 }
 
-/// The STOP of a service that is there and gets one.
-fn stopped_by(tables: &Tables, service: Option<&Service>) -> Option<Addressed>
+/// The STOP of the service at a place, if it gets one from a sender that may stop it.
+fn stopped_at(tables: &Tables, place: usize) -> Option<Addressed>
     ensures { result ≡ option_and_then (stopped_by tables.now.limits tables.now.flat)
-        (option_copied service.entry) }
+        (slice_get tables.now.flat.services place) }
 {
-    match service {
-        Some(row) => {
-            if gets_stop(tables, row) {
-                let order = Order {
-                    service: row.number,
-                    code: SERVICE_CONTROL_STOP,
-                };
-                Some(Addressed {
-                    process: row.process,
-                    order,
-                })
-            } else {
-                None
-            }
-        }
-        None => None,
+    let row = tables.row_at(place)?;
+    let code = judge(
+        Some(SERVICE_STOP),
+        SERVICE_CONTROL_STOP,
+        &row.status,
+        active_needing(tables, row.number),
+        waiting_for(tables, Some(row)),
+        tables.limits().controls,
+    );
+    if code != 0 {
+        return None;
     }
+    let order = Order {
+        service: row.number,
+        code: SERVICE_CONTROL_STOP,
+    };
+    Some(Addressed {
+        process: row.process,
+        order,
+    })
 }
 
 #[tactic(auto, using(crate::proofs::Triggers::stopped_as))]
@@ -113,7 +102,7 @@ fn stop_at(tables: &mut Tables, place: usize)
     ensures limits { tables.new.limits ≡ tables.old.limits }
     ensures spare { tables.new.spare ≡ tables.old.spare }
 {
-    match stopped_by(tables, tables.row_at(place)) {
+    match stopped_at(tables, place) {
         Some(stop) => tables.control(stop.process, stop.order),
         None => {}
     }

@@ -1,21 +1,23 @@
 -- The services whose numbers are kept.
-use Rattle.std.proofs.Common.{ℕ, ◌≡◌, ◌∙◌, ◌<◌, ◌==◌, ◌&&◌, suc, Bool, true, false, cond, List, [], ◌∷◌, Option, Some, filter, find, get_or}
-use Rattle.std.proofs.Common.{length, map, max, not, refl, ap, subst, eqb-true}
-use Rattle.std.specs.Prelude.{All, AllPairs, fold}
+use Rattle.std.proofs.Common.{ℕ, ◌≡◌, ◌∙◌, ◌<◌, ◌==◌, ◌&&◌, ◌-◌, ◌^◌, zero, suc, Bool, true, false, cond, List, [], ◌∷◌, Option, None, Some}
+use Rattle.std.proofs.Common.{filter, find, get_or, length, map, max, min, not, refl, sym, ap, subst, eqb-true}
+use Rattle.std.specs.Prelude.{All, AllPairs, IfSome, fold, option_map, slice_get}
 use Rattle.std.specs.List.{list_any}
 use Rattle.std.proofs.lemmas.List.Elements.{All-filter, All-head, All-tail}
 use Rattle.dependency_index.specs.Kept.{naming_of}
-use Rattle.dependency_index.specs.Naming.{names}
+use Rattle.dependency_index.proofs.Shelves.{counted}
+use Rattle.dependency_index.specs.Naming.{active_in, names, naming_in, row_of}
 use Rattle.scm_model.specs.declared.codes.TheConstants.{SERVICE_RUNNING, SERVICE_STOPPED}
 use Rattle.scm_model.specs.declared.flat.NeedRow.{NeedRow}
 use Rattle.scm_model.specs.declared.flat.Service.{Service}
 use Rattle.scm_model.specs.Needs.{numbers_of}
 use Rattle.scm_model.specs.Ready.{is_running, state_in}
-use Rattle.scm_rules.specs.Controls.{is_active_by}
+use Rattle.scm_rules.specs.Controls.{active_among, is_active_by}
 use Rattle.scm_rules.specs.Create.{greatest_tag}
 use Rattle.scm_rules.specs.Needs.{need_row, need_rows}
 use Rattle.record_table.specs.Recorded.{is_member, numbers_with}
 use Rattle.scm_tables.specs.Inside.{IsKept, tabled}
+use Rattle.scm_tables.specs.Needing.{naming_among}
 use Rattle.scm_tables.specs.Tabled.{Tabled}
 use Rattle.scm_tables.specs.Tags.{tag_in}
 use Rattle.scm_tables.specs.declared.tables.Tables.TheInside.{Inside}
@@ -81,6 +83,30 @@ greatest_of before all (row ∷ some) found =
     (All-head (IsFound all) row some found)
     ∙ greatest_of (max before row.config.tag) all some (All-tail (IsFound all) row some found)
 
+-- the service at a place is found by its number
+pub found_at : (all some : List Service) (place : ℕ) → All (IsFound all) some → IfSome (slice_get some place) (IsFound all)
+found_at all [] place found = tt
+found_at all (row ∷ some) zero found = All-head (IsFound all) row some found
+found_at all (row ∷ some) (suc place) found = found_at all some place (All-tail (IsFound all) row some found)
+
+-- the row of needs with a number is that of the service with it
+row_found : (n : ℕ) (rows : List Service) → row_of (need_rows rows) n ≡ option_map need_row (with_number rows n)
+row_found n [] = refl
+row_found n (row ∷ rows) =
+    elim (row.number == n) as (λ b. cond b (Some (need_row row)) (row_of (need_rows rows) n) ≡ option_map need_row
+    (cond b (Some row) (with_number rows n))) [ true ↦ refl | false ↦ row_found n rows ]
+
+naming_row : (rows : List Service) (found : Option Service) → naming_in (need_rows rows) (option_map need_row found) ≡ naming_among rows found
+naming_row rows None = refl
+naming_row rows (Some row) = refl
+
+-- as many name the service with a number
+pub naming_number : (graph : List NeedRow) (rows : List Service) (n : ℕ) → graph ≡ need_rows rows
+    → naming_in graph (row_of graph n) ≡ naming_among rows (with_number rows n)
+naming_number graph rows n is =
+    ap (λ (g : List NeedRow). naming_in g (row_of g n)) is ∙ ap (naming_in (need_rows rows)) (row_found n rows)
+    ∙ naming_row rows (with_number rows n)
+
 -- those that are active among those that name one
 pub active_rows : (p q : Service → Bool) (rows : List Service) → filter q (filter p rows) ≡ filter (λ (row : Service). p row && q row) rows
 active_rows p q [] = refl
@@ -121,6 +147,21 @@ module _ (rows : List Service) (rising : AllPairs (λ (a b : Service). a.number 
       ∙ ap (λ (ns : List ℕ). length (filter (λ n. active (with_number rows n)) ns)) (kept_numbers (names name) rows)
       ∙ count_of active rows (filter p rows) (passing_found p)
       ∙ ap (λ (rs : List Service). length rs) (active_rows p (λ (row : Service). active (Some row)) rows)
+
+  -- as many of those that name the service with a number aren't STOPPED
+  active_row : (found : Option Service) → active_in (need_rows rows) (λ n. state_in (with_number rows n)) (option_map need_row found)
+      ≡ active_among rows found
+  active_row None = refl
+  active_row (Some row) =
+      let name = row.config.name in
+      let runs : ℕ → Bool = λ n. not (state_in (with_number rows n) == SERVICE_STOPPED) in
+      ap (λ (n : ℕ). min n (2 ^ 32 - 1)) (sym (counted (names name) runs (need_rows rows)) ∙ naming_active (need_rows rows) refl name)
+
+  pub active_number : (graph : List NeedRow) (n : ℕ) → graph ≡ need_rows rows
+      → active_in graph (λ k. state_in (with_number rows k)) (row_of graph n) ≡ active_among rows (with_number rows n)
+  active_number graph n is =
+      ap (λ (g : List NeedRow). active_in g (λ k. state_in (with_number rows k)) (row_of g n)) is
+      ∙ ap (active_in (need_rows rows) (λ k. state_in (with_number rows k))) (row_found n rows) ∙ active_row (with_number rows n)
 
 -- ## What the lists keep of both
 

@@ -1,13 +1,13 @@
-ghost use Rattle.std.specs.Prelude.{◌≡◌, ◌==◌, not, filter, fold, length, max, option_copied};
+ghost use Rattle.std.specs.Prelude.{◌≡◌, ◌==◌, fold, max, option_copied};
 ghost use Rattle.std.specs.List.{list_any};
 ghost use Rattle.scm_model.specs.Ready.{state_of};
 ghost use Rattle.scm_model.specs.Rows.{service_of};
-ghost use Rattle.scm_model.specs.declared.codes.TheConstants.{SERVICE_RUNNING, SERVICE_STOPPED};
+ghost use Rattle.scm_model.specs.declared.codes.TheConstants.{SERVICE_RUNNING};
 ghost use Rattle.scm_tables.specs.Tags.{tag_in};
 
 use super::tables::Tables;
 use scm_model::Service;
-use scm_model::codes::{SERVICE_RUNNING, SERVICE_STOPPED};
+use scm_model::codes::SERVICE_RUNNING;
 
 /// The tag of a service, or 0 where there is none.
 fn tag_of(service: Option<&Service>) -> u32
@@ -28,17 +28,6 @@ impl Tables {
         numbers
             .iter()
             .any(|number| self.state_of(*number) == SERVICE_RUNNING)
-    }
-
-    /// How many of some services aren't STOPPED.
-    pub(crate) fn active_among(&self, numbers: &[u64]) -> usize
-        ensures { result ≡ length (filter (λ number. not
-            (state_of self.now.flat number == SERVICE_STOPPED)) numbers.now) }
-    {
-        numbers
-            .iter()
-            .filter(|number| self.state_of(**number) != SERVICE_STOPPED)
-            .count()
     }
 
     /// The greatest tag of some services, or 0.

@@ -1,14 +1,18 @@
-ghost use Rattle.std.specs.Prelude.{◌≡◌, ◌≤◌, find, length, option_copied, option_map, None};
+ghost use Rattle.std.specs.Prelude.{◌≡◌, ◌≤◌, ◌+◌, find, length, option_copied, option_map, None};
 ghost use Rattle.scm_model.specs.Processes.{is_by, is_shared};
+ghost use Rattle.scm_model.specs.Rows.{service_of};
 ghost use Rattle.scm_rules.specs.Controls.{active_among, next_order, waiting, with_control};
 ghost use Rattle.scm_rules.specs.Controls.{with_control_taken};
 ghost use Rattle.scm_rules.specs.Query.{status_in};
 ghost use Rattle.scm_rules.specs.Launches.{is_launched, process_of};
 ghost use Rattle.scm_rules.specs.Reports.{reporter, reporting};
+ghost use Rattle.scm_tables.specs.Needing.{naming_among};
 
 use super::service_rows::{count_asked_in, current_in, current_with, first_asked_in, unask_in};
 use super::tables::Tables;
+use dependency_index::Steps;
 use scm_model::{Order, Service, Status, zero_status};
+use std::sync::ledger::Ledger;
 
 /// The status of a service, or zeros where there is none.
 pub fn status_in(service: Option<&Service>) -> Status
@@ -54,17 +58,15 @@ impl Tables {
         current_with(&self.services, self.reporter(process, service), process)
     }
 
-    /// How many services name a service as a need and aren't STOPPED, in 32 bits.
-    pub fn active_needing(&self, service: Option<&Service>) -> u32
-        ensures { result ≡ active_among self.now.flat.services (option_copied service.entry) }
+    /// How many services name a service as a need and aren't STOPPED, in 32 bits. The states of
+    /// those services alone are looked at.
+    pub fn active_needing<L: Ledger>(&self, service: u64, steps: &mut Steps<L>) -> u32
+        ensures active { result ≡ active_among self.now.flat.services
+            (service_of self.now.flat service) }
+        ensures looks { steps.new ≡ steps.old + naming_among self.now.flat.services
+            (service_of self.now.flat service) }
     {
-        match service {
-            Some(row) => {
-                let active = self.active_among(self.index.named_by(&row.config.name));
-                active.min(u32::MAX as usize) as u32
-            }
-            None => 0,
-        }
+        self.index.active_dependents(service, self, steps)
     }
 
     /// Whether other services may live in a process too.

@@ -1,4 +1,4 @@
-ghost use Rattle.std.specs.Prelude.{ℕ, ◌≡◌, ◌&&◌, List, None, Some, false, find, is_none, is_some};
+ghost use Rattle.std.specs.Prelude.{ℕ, ◌≡◌, ◌+◌, ◌&&◌, List, None, Some, false, find, is_none, is_some};
 ghost use Rattle.std.specs.Prelude.{map, option_copied};
 ghost use Rattle.std.specs.List.{list_any};
 ghost use Rattle.scm_model.specs.Processes.{is_launched, process_of};
@@ -16,7 +16,7 @@ use super::lines::Line;
 use super::noticing::note_start;
 use super::service_rows::start_in;
 use super::tables::Tables;
-use dependency_index::StateOf;
+use dependency_index::{StateLook, StateOf, Steps};
 use scm_model::codes::{
     ERROR_SERVICE_DEPENDENCY_FAIL, ERROR_SERVICE_DISABLED, ERROR_SERVICE_MARKED_FOR_DELETE,
     ERROR_SERVICE_NO_THREAD, SERVICE_DISABLED, SERVICE_RUNNING, SERVICE_STOPPED,
@@ -25,6 +25,7 @@ use scm_model::{Need, Service};
 use scm_text::{Items, WText};
 use start_plan::{Entering, Field, Plans};
 use std::mem::replace;
+use std::sync::ledger::Ledger;
 
 /// Whether a service is there, unmarked and SERVICE_RUNNING.
 fn is_up(service: Option<&Service>) -> bool
@@ -172,6 +173,18 @@ impl StateOf for Tables {
     ghost state_of = { λ self service. state_of self.flat service };
 
     fn state_of(&self, service: u64) -> u32 {
+        match self.service(service) {
+            Some(row) => row.status.state,
+            None => 0,
+        }
+    }
+}
+
+impl StateLook for Tables {
+    ghost state_of = { λ self service. state_of self.flat service };
+
+    fn state_of<L: Ledger>(&self, service: u64, steps: &mut Steps<L>) -> u32 {
+        steps.tick();
         match self.service(service) {
             Some(row) => row.status.state,
             None => 0,

@@ -502,7 +502,9 @@ impl Tables {
 
     /// The service at a place.
     pub fn row_at(&self, place: usize) -> Option<&Service>
-        ensures { option_copied result ≡ slice_get self.now.flat.services place }
+        ensures row { option_copied result ≡ slice_get self.now.flat.services place }
+        ensures found { IfSome (option_copied result) (λ row. service_of self.now.flat row.number
+            ≡ Some row) }
     {
         self.services.at(place)
     }
