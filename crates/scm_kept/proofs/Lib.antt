@@ -15,3 +15,6 @@ pub mod Places
 pub mod Again
 pub mod ReadFits
 pub mod Reopened
+pub mod Lost
+pub mod Left
+pub mod Coded

@@ -1,5 +1,5 @@
 -- What an append that was cut off leaves is read.
-use Rattle.std.proofs.Common.{ℕ, zero, suc, ◌≡◌, ◌∙◌, ◌<◌, ◌≤◌, ◌-◌, ◌+◌, Bool, true, false, cond, List, [], ◌∷◌, ◌++◌, Ok, Err}
+use Rattle.std.proofs.Common.{ℕ, zero, suc, ◌≡◌, ◌∙◌, ◌<◌, ◌≤◌, ◌-◌, ◌+◌, true, cond, List, [], ◌∷◌, ◌++◌, Ok, Err}
 use Rattle.std.proofs.Common.{take, drop, length, length-append, append_assoc, refl, sym, ap, subst, arith, lt-ltb, eqb, ⊎_elim}
 use Rattle.std.proofs.Common.{inl, inr}
 use Rattle.std.specs.List.{starts_with}
@@ -12,15 +12,14 @@ use Rattle.scm_model.specs.declared.flat.Config.{Config}
 use Rattle.scm_model.specs.declared.steps.Change.{Change}
 use Rattle.scm_model.specs.declared.steps.Form.{Form}
 use Rattle.scm_model.specs.declared.steps.Form.TheVariants.{First, Second}
-use Rattle.record_journal.specs.Bearing.{Borne, Stood, Tail, piece_after}
-use Rattle.record_journal.specs.declared.journal.Journal.{Journal}
+use Rattle.record_journal.specs.Bearing.{Stood, piece_after}
 use Rattle.record_journal.specs.Entries.{IsPart, all_from, can_replay, entries_from, first_of, is_part_header, last_of, none_more}
 use Rattle.record_journal.specs.Entries.{read_journal, replay_of}
 use Rattle.record_journal.specs.Format.{HasEntry, entry_bytes, header, header_of, switch, turn_from}
 use Rattle.record_journal.specs.Replay.{after_change}
 use Rattle.record_journal.proofs.Back.{switch_back}
 use Rattle.record_journal.proofs.Parts.{has_parts, switch_parts}
-use Rattle.scm_kept.specs.Read.{IsJournalOf, IsLeftReadable, IsReadCut, Rests, Stays}
+use Rattle.scm_kept.specs.Read.{IsJournalOf, IsReadCut, Rests, Stays}
 use Rattle.scm_kept.proofs.ReadOn.{IsNew, IsStanding, header_stands, new_piece, one_more, standing_piece, standing_with, stands}
 
 -- ## Behind a journal that stands
@@ -186,29 +185,12 @@ read_cut s configs change size is entry can =
     let all = piece_after s change in
     cut_at s configs change (take size all) (drop size all) is entry can (sym (take-append-drop size all))
 
--- ## What a keeper holds
+-- ## What was kept
 
-rests_all : (s : Stood) (configs : List Config) → IsJournalOf s configs → Rests s.bytes configs s.bytes
+pub rests_all : (s : Stood) (configs : List Config) → IsJournalOf s configs → Rests s.bytes configs s.bytes
 rests_all s configs is = record {
   replay = record { configs = configs; kept = length s.bytes; form = s.form };
   read = is;
   kept = omega arith;
   same = refl;
 }
-
-tail_left : (s : Stood) (configs : List Config) (change : Change) (tail more : List ℕ) → IsJournalOf s configs → HasEntry change
-    → piece_after s change ≡ tail ++ more → IsLeftReadable s configs (s.bytes ++ tail)
-tail_left s configs change tail [] is entry parts =
-    inr (record { change = change; entry = entry; whole = ap (λ (xs : List ℕ). s.bytes ++ xs) (sym (parts ∙ append-nil tail)) })
-tail_left s configs change tail (x ∷ more) is entry parts = inl (cut_within s configs change tail (x ∷ more) is entry parts (omega arith))
-
-any_left : (s : Stood) (configs : List Config) (dirty : Bool) (tail : List ℕ) → IsJournalOf s configs → Tail s dirty tail
-    → IsLeftReadable s configs (s.bytes ++ tail)
-any_left s configs false tail is none =
-    inl (subst (Rests s.bytes configs) (sym (ap (λ (xs : List ℕ). s.bytes ++ xs) none ∙ append-nil s.bytes)) (rests_all s configs is))
-any_left s configs true tail is part = tail_left s configs part.0 tail part.2.0 is part.1 part.2.1
-
-pub borne_left : (s : Stood) (configs : List Config) (j : Journal) (now : List ℕ) → IsJournalOf s configs → Borne s j now
-    → IsLeftReadable s configs now
-borne_left s configs j now is borne = subst (IsLeftReadable s configs) (sym borne.holds)
-    (any_left s configs j.dirty borne.tail is borne.part)

@@ -11,24 +11,22 @@ use Rattle.scm_model.specs.declared.steps.Change.{Change}
 use Rattle.scm_model.specs.declared.steps.Step.{Step}
 use Rattle.scm_model.specs.Entries.{Entry}
 use Rattle.service_record.proofs.Fields.{IsBytes}
-use Rattle.record_journal.specs.Bearing.{Bears, Stood, and_changes, piece_after}
-use Rattle.record_journal.specs.declared.journal.Journal.{Journal}
-use Rattle.scm_rules.specs.Histories.{Legal, state}
+use Rattle.record_journal.specs.Bearing.{Stood, and_changes, piece_after}
+use Rattle.scm_rules.specs.Histories.{state}
 use Rattle.scm_rules.specs.Opening.{IsOpening}
-use Rattle.scm_rules.specs.Runs.{run_state}
+use Rattle.scm_rules.specs.Runs.{IsLegal, run_state}
 use Rattle.scm_rules.specs.Steps.{may}
 use Rattle.scm_rules.specs.Verdicts.{change_of}
 use Rattle.scm_history.specs.Kept.{kept_changes}
-use Rattle.scm_runs.proofs.Histories.{legal_made}
 use Rattle.scm_runs.proofs.Sound.{begun}
-use Rattle.scm_kept.specs.Read.{IsJournalOf, IsLeftReadable, Stays}
-use Rattle.scm_kept.specs.Reopened.{IsLeftSo, IsReopened, IsReopenedCut, KeepsReplayable, kept_configs}
+use Rattle.scm_kept.specs.Read.{IsJournalOf, Stays}
+use Rattle.scm_kept.specs.Reopened.{IsReopened, IsReopenedCut, KeepsReplayable, kept_configs}
 use Rattle.scm_kept.specs.Replayed.{unmarked}
 use Rattle.scm_kept.specs.Fitting.{AreBytes, AllFit, FitsStep}
 use Rattle.scm_kept.proofs.Accepted.{units_of}
 use Rattle.scm_kept.proofs.Again.{IsReplayable, if_weaker, next_can, run_can, run_ends}
 use Rattle.scm_kept.proofs.Given.{HasUnits}
-use Rattle.scm_kept.proofs.ReadCut.{borne_left, read_cut}
+use Rattle.scm_kept.proofs.ReadCut.{read_cut}
 use Rattle.scm_kept.proofs.ReadFits.{AreConfigs, journal_fits}
 use Rattle.scm_kept.proofs.ReadOn.{read_on}
 use Rattle.scm_kept.proofs.Runs.{unmarked_kept}
@@ -50,30 +48,22 @@ pub record IsMadeOf (s : Stood) (f : Flat) : Type 0 where
   pub bytes : AreBytes s.bytes
   pub read : IsJournalOf s (unmarked f.services)
 
-made_units : (s : Stood) (f : Flat) → IsMadeOf s f → HaveUnits f.services
+pub made_units : (s : Stood) (f : Flat) → IsMadeOf s f → HaveUnits f.services
 made_units s f made = all_units (unmarked f.services)
     (journal_fits s.bytes (record { configs = unmarked f.services; kept = length s.bytes; form = s.form })
     (are_bytes s.bytes made.bytes) made.read)
 
-pub kept_replayable : (l : Limits) (f : Flat) (es : List Entry) → l.services ≤ 1024 → IsOpening l f → Legal l f es → AllFit es
+pub kept_replayable : (l : Limits) (f : Flat) (es : List Entry) → l.services ≤ 1024 → IsOpening l f → IsLegal l f es → AllFit es
     → (s : Stood) → IsMadeOf s f → KeepsReplayable l f es
 kept_replayable l f es few begins legal fits s made =
-    run_can l f es few (begun l f begins) (legal_made l f es legal) fits (made_units s f made)
+    run_can l f es few (begun l f begins) legal fits (made_units s f made)
 
-pub reopened : (l : Limits) (f : Flat) (es : List Entry) → l.services ≤ 1024 → IsOpening l f → Legal l f es → AllFit es
+pub reopened : (l : Limits) (f : Flat) (es : List Entry) → l.services ≤ 1024 → IsOpening l f → IsLegal l f es → AllFit es
     → (s : Stood) → IsMadeOf s f → IsReopened s l f es
 reopened l f es few begins legal fits s made =
     read_on s (unmarked f.services) (kept_changes l f es) made.read (kept_replayable l f es few begins legal fits s made)
 
-pub left_so : (l : Limits) (f : Flat) (es : List Entry) → l.services ≤ 1024 → IsOpening l f → Legal l f es → AllFit es
-    → (s : Stood) → IsMadeOf s f → (j : Journal) (now : List ℕ) → IsLeftSo s l f es j now
-left_so l f es few begins legal fits s made j now =
-    if_weaker (λ (kept : Stood). IsJournalOf kept (kept_configs l f es))
-    (λ (kept : Stood). Bears (Some kept) j (Some now) → IsLeftReadable kept (kept_configs l f es) now)
-    (and_changes (Some s) (kept_changes l f es)) (λ kept is borne. borne_left kept (kept_configs l f es) j now is borne)
-    (reopened l f es few begins legal fits s made)
-
-pub reopened_cut : (l : Limits) (f : Flat) (es : List Entry) → l.services ≤ 1024 → IsOpening l f → Legal l f es → AllFit es
+pub reopened_cut : (l : Limits) (f : Flat) (es : List Entry) → l.services ≤ 1024 → IsOpening l f → IsLegal l f es → AllFit es
     → (s : Stood) → IsMadeOf s f
     → (moment : ℕ) (step : Step) → IsTrue (may l (state l f es) moment step) → FitsStep step → (size : ℕ)
     → IsReopenedCut s l f es step size
@@ -81,9 +71,8 @@ unfolding state
 reopened_cut l f es few begins legal fits s made moment step ok asked size =
     let g = run_state l f es in
     let first = begun l f begins in
-    let each = legal_made l f es legal in
-    let ends = run_ends l f es first each fits (made_units s f made) in
-    let configs : unmarked g.services ≡ kept_configs l f es = unmarked_kept l f es first each in
+    let ends = run_ends l f es first legal fits (made_units s f made) in
+    let configs : unmarked g.services ≡ kept_configs l f es = unmarked_kept l f es first legal in
     if_weaker (IsReplayable (unmarked g.services)) (λ (change : Change). IfSome (and_changes (Some s) (kept_changes l f es))
     (λ (now : Stood). Stays now.bytes (kept_configs l f es) change (now.bytes ++ take size (piece_after now change)))) (change_of l g step)
     (λ change can. let here = subst (λ (cs : List Config). IsReplayable cs change) configs can in
