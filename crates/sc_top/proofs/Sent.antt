@@ -12,6 +12,8 @@ after_nothing : (now : Option (List ℕ)) (bytes : List ℕ) → Appends (Some [
 after_nothing None bytes none = absurd none
 after_nothing (Some now) bytes same = ap (λ (xs : List ℕ). Some xs) same
 
+-- What follows needs that the connection was fresh.
+-- Of one that may have begun with bytes that nobody tells, nothing could be said.
 pub sent_exactly : (c : Command) (peer : List ℕ) (past : List PastConnection) (past_now : Option (List PastConnection))
     (result : Result (List Heard) ClientFault) → (called : IsCalled c (Some peer) (Some past) past_now result)
     → past_now ≡ Some (past ++ record { address = Some c.address; left = called.left; written = Some called.run.text } ∷ [])
