@@ -27,11 +27,12 @@ pub enum ControlsSent {
     OutOfMemory,
 }
 
-/// How the sending of a process's controls ended, and the spent pass.
+/// How the sending of a process's controls ended, the spent pass, and what its feed left.
 #[derive(Drop)]
-pub struct ControlsEnded {
+pub struct ControlsEnded<P> {
     pub how: ControlsSent,
     pub spent: Spent,
+    pub past: P,
 }
 
 /// What ends the sending if the step that takes an order isn't made.
@@ -169,8 +170,8 @@ impl<'a, R: Wait, K: Keeper, C: Clock, Q: Quit> Sender<'a, R, K, C, Q> {
 }
 
 /// Sends a process its controls by a pass that is nobody's, as `Sender::write_controls` does, and
-/// drops the feed, which ends the child's input.
-pub fn send_controls<R: Wait, K: Keeper, F: Feed + Drop, C: Clock, Q: Quit>(
+/// ends the feed, and so the child's input.
+pub fn send_controls<R: Wait, K: Keeper, F: Feed, C: Clock, Q: Quit>(
     rt: &R,
     alloc: Global,
     book: &Book<K>,
@@ -179,13 +180,12 @@ pub fn send_controls<R: Wait, K: Keeper, F: Feed + Drop, C: Clock, Q: Quit>(
     feed: F,
     clock: &C,
     quit: &Q,
-) -> ControlsEnded
+) -> ControlsEnded<F::Past>
     requires book { IsOf book.now pass }
     requires runner { pass.caller ≡ 0 }
     ensures book { IsOf book.now result.spent }
-    // `last` is the feed as it was dropped.
-    ensures sends { (last : F) × Sends (C.tells clock.now) book.now.opening process
-        (Q.may_ask quit.now) pass (F.held feed) (F.held last) (F.faults feed) (F.faults last)
+    ensures sends { Sends (C.tells clock.now) book.now.opening process (Q.may_ask quit.now) pass
+        (F.held feed) (F.tells result.past).held (F.faults feed) (F.tells result.past).faults
         result.how result.spent }
     ensures keeps { KeepsAll book.now.opening pass result.spent }
 {
@@ -201,7 +201,7 @@ pub fn send_controls<R: Wait, K: Keeper, F: Feed + Drop, C: Clock, Q: Quit>(
     };
     let how = sender.write_controls(&mut pass, &mut feed);
     drop(sender);
-    drop(feed);
+    let past = feed.end();
     let spent = book.gone(rt, pass, clock.now());
-    ControlsEnded { how, spent }
+    ControlsEnded { how, spent, past }
 }
