@@ -3,4 +3,4 @@
 
 mod law;
 
-pub use law::{a_run_lasts, what_was_kept_stands};
+pub use law::{a_run_lasts, what_never_failed_is_left_alone, what_was_kept_stands};

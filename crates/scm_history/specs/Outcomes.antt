@@ -1,5 +1,6 @@
 -- What the steps of a history did with the changes that they make.
-use Rattle.std.specs.Prelude.{◌≡◌, ◌++◌, Bool, true, false, List, [], ◌∷◌, Option, None, Some, length}
+use Rattle.std.specs.Prelude.{◌≡◌, ◌&&◌, ◌++◌, Bool, true, false, not, List, [], ◌∷◌, Option, None, Some, is_some, length}
+use Rattle.std.specs.List.{list_any}
 use Rattle.scm_model.specs.declared.flat.Flat.{Flat}
 use Rattle.scm_model.specs.declared.flat.Limits.{Limits}
 use Rattle.scm_model.specs.declared.steps.Change.{Change}
@@ -36,6 +37,15 @@ unfoldable pub outcomes : Limits → Flat → List Entry → List Outcome
 outcomes l f [] = []
 outcomes l f (e ∷ es) = outcome_in l f e.1 ∷ outcomes l (step_of l f e.0 e.1).flat es
 
+-- whether a step makes a change whose append failed
+abbrev pub is_lost : Outcome → Bool
+is_lost o = is_some o.change && not o.kept
+
+-- whether a step tells that an append failed
+abbrev pub tells_failed : Step → Bool
+tells_failed (Call caller asked appended.Failed) = true
+tells_failed step = false
+
 -- the change, if it was kept
 abbrev pub if_kept : Bool → Option Change → Option Change
 if_kept true change = change
@@ -47,7 +57,8 @@ kept_among [] = []
 kept_among (o ∷ rest) = one_or_none (if_kept o.kept o.change) ++ kept_among rest
 
 -- a step that makes a change tells what became of it, and one that wasn't asked has none; there is one outcome for each entry, one entry
--- more adds its own, further entries add theirs, and the changes that were kept are those of which an outcome says so
+-- more adds its own, further entries add theirs, the changes that were kept are those of which an outcome says so, and none is lost where no
+-- entry tells that an append failed
 pub record LawOfOutcomes (l : Limits) (f : Flat) : Type 0 where
   pub kept : (g : Flat) (step : Step) (change : Change) → change_of l g step ≡ Some change
       → outcome_in l g (with_kept step appended.Kept) ≡ outcome_of change true
@@ -58,4 +69,5 @@ pub record LawOfOutcomes (l : Limits) (f : Flat) : Type 0 where
   pub more : (es : List Entry) (e : Entry) → outcomes l f (es ++ e ∷ []) ≡ outcomes l f es ++ outcome_in l (state l f es) e.1 ∷ []
   pub appended : (front rest : List Entry) → outcomes l f (front ++ rest) ≡ outcomes l f front ++ outcomes l (state l f front) rest
   pub long : (es : List Entry) → length (outcomes l f es) ≡ length es
+  pub unlost : (es : List Entry) → list_any (λ (e : Entry). tells_failed e.1) es ≡ false → list_any is_lost (outcomes l f es) ≡ false
   pub changes : (es : List Entry) → kept_changes l f es ≡ kept_among (outcomes l f es)
