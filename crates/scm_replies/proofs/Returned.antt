@@ -1,6 +1,6 @@
 -- Each reply to a call returns the sizes that are needed.
 use Rattle.std.proofs.Common.{ℕ, ◌≡◌, ◌≤◌, ◌^◌, ◌∙◌, ◌==◌, ◌||◌, ◌++◌, Bool, true, false, cond, List, [], Option, None, Some, length, refl}
-use Rattle.std.proofs.Common.{ap, sym, subst, arith, length-append}
+use Rattle.std.proofs.Common.{ap, sym, subst, arith, append-nil, length-append, ◌<◌}
 use Rattle.std.specs.Prelude.{All, option_and_then}
 use Rattle.std.proofs.lemmas.List.Elements.{All-filter}
 use Rattle.scm_model.specs.declared.flat.Flat.{Flat}
@@ -25,7 +25,7 @@ use Rattle.start_plan.specs.Decided.{code_of}
 use Rattle.start_plan.specs.Settle.{settled}
 use Rattle.scm_rules.specs.EnumDependents.{dependents_by}
 use Rattle.scm_rules.specs.EnumServices.{page_of, services_asked}
-use Rattle.scm_rules.specs.Histories.{state}
+use Rattle.scm_rules.specs.Histories.{Legal, state}
 use Rattle.scm_rules.specs.Locks.{lock_owner, lock_size}
 use Rattle.scm_rules.specs.Notify.{notice_in, notify_of}
 use Rattle.scm_rules.specs.Opening.{IsOpening}
@@ -225,6 +225,13 @@ front_fits : (es front rest : List Entry) → es ≡ front ++ rest → length fr
 front_fits es front rest split =
     let all = ap (λ (l : List Entry). length l) split in
     omega (arith, all, length-append front rest)
+
+-- a legal history is no longer than its limit
+pub legal_small : (l : Limits) (f : Flat) (es : List Entry) → l.services ≤ 1024 → l.steps < 2 ^ 31 → Legal l f es → AreSmall l es
+unfolding Legal
+legal_small l f es few low legal =
+    let fits = legal.fits es [] (sym (append-nil es)) in
+    record { services = few; short = omega (arith, fits, low) }
 
 -- after each front of a short history 32 bits hold them
 pub low_front : (l : Limits) (f : Flat) (es front rest : List Entry) → AreSmall l es → IsOpening l f → es ≡ front ++ rest

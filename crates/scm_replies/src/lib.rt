@@ -1,6 +1,7 @@
 //! What the service manager's calls return, over every run.
 #![tactic(auto)]
 
+ghost use Rattle.std.specs.Prelude.{◌<◌, ◌≤◌, ◌^◌};
 ghost use Rattle.scm_replies.specs.Replies.{LawOfReplies};
 ghost use Rattle.scm_replies.specs.Sizes.{AreSmall, HaveUuids, LawOfNeededSizes};
 ghost use Rattle.scm_runs.specs.Histories.{EachEntry};
@@ -35,4 +36,12 @@ pub fn law_of_needed_sizes(limits: &Limits, steps: &Items<(u64, Step)>, opening:
     requires small { AreSmall limits.now steps.now }
     requires uuids { HaveUuids opening.now steps.now }
     ensures { EachEntry LawOfNeededSizes limits.now opening.now steps.now }
+{}
+
+/// A legal history whose limit of steps is below 2^31 is so short, under a limit of 1,024 services.
+pub fn legal_histories_are_small(limits: &Limits, steps: &Items<(u64, Step)>, opening: &Flat)
+    requires few { limits.now.services ≤ 1024 }
+    requires low { limits.now.steps < 2 ^ 31 }
+    requires legal { Legal limits.now opening.now steps.now }
+    ensures { AreSmall limits.now steps.now }
 {}
