@@ -201,6 +201,9 @@ module _ (l : Limits) (f : Flat) (es : List Entry) (few : l.services ≤ 1024) (
   unfolding outcomes
   no_next = refl
 
+  pub still_journal : IsJournalOf (stood_after s (outcomes l f es)) (kept_configs l f es)
+  still_journal = is_journal es [] (sym (append-nil es))
+
   pub left_so : (now : List ℕ) → IsLeftSo s l f es now
   left_so now kept = left_at es [] None now (sym (append-nil es)) no_next kept
 

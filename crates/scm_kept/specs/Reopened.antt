@@ -30,7 +30,11 @@ abbrev pub IsReopened : Stood → Limits → Flat → List Entry → Type 0
 IsReopened s l f es =
     IfSome (and_changes (Some s) (kept_changes l f es)) (λ now. IsJournalOf now (kept_configs l f es))
 
--- and so is what is left of them after these bytes
+-- what stands then is a journal of that, whatever failed
+abbrev pub StandsAsKept : Stood → Limits → Flat → List Entry → Type 0
+StandsAsKept s l f es = IsJournalOf (stood_after s (outcomes l f es)) (kept_configs l f es)
+
+-- and what is left of it is read as that, or with a change more whose append failed
 abbrev pub IsLeftSo : Stood → Limits → Flat → List Entry → List ℕ → Type 0
 IsLeftSo s l f es now =
     IsKept (stood_after s (outcomes l f es)) now → IsLeftReadable (stood_after s (outcomes l f es)) (kept_configs l f es) now

@@ -2,22 +2,22 @@
 #![tactic(auto)]
 
 ghost use Rattle.std.specs.Prelude.{◌≡◌, ◌≤◌, All, List, ℕ};
+ghost use Rattle.journal_lasting.specs.Lasting.{IsOfFront};
+ghost use Rattle.record_journal.specs.Bearing.{Stood, stood};
+ghost use Rattle.record_journal.specs.declared.replaying.Replay.{Replay};
+ghost use Rattle.scm_history.specs.Outcomes.{outcomes};
+ghost use Rattle.scm_kept.specs.Fitting.{AllFit};
 ghost use Rattle.scm_kept.specs.Read.{IsJournalOf, IsReadAgain, IsReadCut, IsReadOn};
 ghost use Rattle.scm_kept.specs.Reopened.{IsLeftSo, IsReopened, IsReopenedCut, KeepsReplayable};
-ghost use Rattle.scm_kept.specs.Reopened.{MayFollow, OpensToFront};
+ghost use Rattle.scm_kept.specs.Reopened.{MayFollow, OpensToFront, StandsAsKept};
 ghost use Rattle.scm_kept.specs.Replayed.{UnmarkedAreKept, unmarked};
 ghost use Rattle.scm_model.specs.declared.flat.Config.{Config};
 ghost use Rattle.scm_model.specs.declared.flat.Limits.{Limits};
 ghost use Rattle.scm_model.specs.declared.steps.Change.{Change};
-ghost use Rattle.record_journal.specs.Bearing.{Stood, stood};
-ghost use Rattle.record_journal.specs.declared.replaying.Replay.{Replay};
+ghost use Rattle.scm_model.specs.Entries.{Entry};
 ghost use Rattle.scm_rules.specs.Histories.{Legal};
 ghost use Rattle.scm_rules.specs.Opening.{IsOpening, opening};
 ghost use Rattle.scm_trail.specs.Segments.{IsCoded};
-ghost use Rattle.scm_model.specs.Entries.{Entry};
-ghost use Rattle.scm_history.specs.Outcomes.{outcomes};
-ghost use Rattle.journal_lasting.specs.Lasting.{IsOfFront};
-ghost use Rattle.scm_kept.specs.Fitting.{AllFit};
 
 mod fitting;
 
@@ -72,6 +72,7 @@ pub fn what_a_run_keeps_is_read(
     requires legal { Legal limits.now opening.now steps.now }
     ensures kept { KeepsReplayable limits.now opening.now steps.now }
     ensures reopened { IsReopened (stood form journal.now) limits.now opening.now steps.now }
+    ensures stands { StandsAsKept (stood form journal.now) limits.now opening.now steps.now }
     ensures left { (now : List ℕ) →
         IsLeftSo (stood form journal.now) limits.now opening.now steps.now now }
     ensures cut { MayFollow limits.now opening.now steps.now next.now → (size : ℕ) →
