@@ -26,8 +26,8 @@ pub fn what_never_failed_is_left_alone()
     ensures alone { (s : Stood) (now : List ℕ) → s.lost ≡ [] → IsKept s now → now ≡ s.bytes }
 {}
 
-/// What is kept of a run is what the changes that were kept come to. Those whose append failed leave
-/// no byte there.
+/// What is kept of a run is what the changes that were kept result in. Those whose append failed
+/// leave no byte there.
 pub fn what_was_kept_stands()
     ensures { (s : Stood) (outs : List Outcome) → StandsByKept s outs }
 {}

@@ -57,7 +57,7 @@ kept_among [] = []
 kept_among (o ∷ rest) = one_or_none (if_kept o.kept o.change) ++ kept_among rest
 
 -- a step that makes a change tells what became of it, and one that wasn't asked has none; there is one outcome for each entry, one entry
--- more adds its own, further entries add theirs, the changes that were kept are those of which an outcome says so, and none is lost where no
+-- more adds its own, further entries add theirs, the changes that were kept are those of which an outcome says so, and none is lost if no
 -- entry tells that an append failed
 pub record LawOfOutcomes (l : Limits) (f : Flat) : Type 0 where
   pub kept : (g : Flat) (step : Step) (change : Change) → change_of l g step ≡ Some change

@@ -159,9 +159,9 @@ pub fn law_of_kept_changes(limits: &Limits, first: &Flat)
     ensures { LawOfKept limits.now first.now }
 {}
 
-/// The law of outcomes: there is one outcome for each entry of a history, one entry more adds what it
-/// did with the change that it makes, and the changes that were kept are those of which an outcome
-/// says so. From any state.
+/// The law of outcomes: there is one outcome for each entry of a history, one entry more adds what
+/// it did with the change that it makes, and the changes that were kept are those of which an
+/// outcome says so. If no entry tells that an append failed, no outcome does. From any state.
 pub fn law_of_outcomes(limits: &Limits, first: &Flat)
     ensures { LawOfOutcomes limits.now first.now }
 {}

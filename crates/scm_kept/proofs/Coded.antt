@@ -95,7 +95,8 @@ given_subtype (Some bytes) fit = fit
 level : (asked : Info) → has.IsInfo asked → FitsLevel asked
 level (info.Description asked) fit = given_text asked fit
 level (info.Failure reset command actions) fit = (fit.0, given_text command fit.1, given_actions actions fit.2)
-level (info.Triggers triggers) fit = All-weaker has.IsTrigger FitsTrigger (λ t is. (is.action, given_subtype t.subtype is.subtype)) triggers fit.1
+level (info.Triggers triggers) fit =
+    All-weaker has.IsTrigger FitsTrigger (λ t is. (is.action, given_subtype t.subtype is.subtype)) triggers fit.1
 level (info.Delayed on) fit = tt
 level (info.OnExit on) fit = tt
 level (info.Other code) fit = tt

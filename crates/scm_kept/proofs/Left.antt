@@ -220,7 +220,8 @@ module _ (l : Limits) (f : Flat) (es : List Entry) (few : l.services ≤ 1024) (
         front = p.front;
         rest = p.rest;
         is = p.is;
-        all = subst (λ (n : ℕ). least ≤ n) (sym (ap (λ (outs : List Outcome). length outs) p.of_front) ∙ (law_of_outcomes l f).long p.front) of.all;
+        all = subst (λ (n : ℕ). least ≤ n)
+            (sym (ap (λ (outs : List Outcome). length outs) p.of_front) ∙ (law_of_outcomes l f).long p.front) of.all;
         left = left_at p.front p.rest next now p.is
             (ap (λ (g : Flat). next_change (outcomes l g p.rest)) (sym state_same)) kept;
       }

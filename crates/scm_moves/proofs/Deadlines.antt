@@ -179,7 +179,8 @@ module _ (P : ℕ → ℕ → Type 0) (least now : ℕ) (comes : (number : ℕ) 
         let same = ap (λ (g : Flat). g.next.plan) (settled_frame l f) in
         let next = t.next in
         omega (arith, same, next);
-    rows = subst (OfDeadlines P) (sym (settled_dues l f)) (fewer P (λ (due : Due). is_due_still (settled l f).plans due.kind) f.dues t.rows);
+    rows = subst (OfDeadlines P) (sym (settled_dues l f))
+        (fewer P (λ (due : Due). is_due_still (settled l f).plans due.kind) f.dues t.rows);
   }
 
   ends : (l : Limits) (f : Flat) (told : Answer) → Stands f → Stands (finished f told).flat
@@ -250,8 +251,8 @@ record Lasts (P : ℕ → ℕ → Type 0) (least : ℕ) (f : Flat) : Type 0 wher
   next : least ≤ f.next.plan
   rows : OfDeadlines P f.dues
 
-lasts_step : (P : ℕ → ℕ → Type 0) (least : ℕ) → ((moment number : ℕ) → least ≤ number → P moment number) → (l : Limits) (f : Flat) (e : Entry)
-    → Lasts P least f → Lasts P least (step_of l f e.0 e.1).flat
+lasts_step : (P : ℕ → ℕ → Type 0) (least : ℕ) → ((moment number : ℕ) → least ≤ number → P moment number) → (l : Limits) (f : Flat)
+    (e : Entry) → Lasts P least f → Lasts P least (step_of l f e.0 e.1).flat
 lasts_step P least each l f e lasts =
     let t = one_step P least l f e (each (deadline_at (at_moment f e.0 e.1).moment)) lasts.next lasts.rows in
     record { next = t.next; rows = t.rows }

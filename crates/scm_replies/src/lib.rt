@@ -26,10 +26,10 @@ pub fn law_of_replies(limits: &Limits, steps: &Items<(u64, Step)>, opening: &Fla
 
 /// The law of needed sizes: under a limit of 1,024 services and in a history of less than 2^31
 /// entries, whatever its limit of steps, each size that a reply to a call returns is the size of
-/// what the call asks for, in bytes or in units of a name, and the resume index of an enumeration is
-/// the number of the last service returned. 32 bits hold them all, so none is cut off; the law also
-/// bounds the size of each call. What an enumeration leaves is returned up to 262,144 bytes, the
-/// range of `pcbBytesNeeded` (MS-SCMR): 1,024 services may leave 1,089,536, 246 never more.
+/// what the call asks for, in bytes or in units of a name, and the resume index of an enumeration
+/// is the number of the last service returned. 32 bits hold them all, so none is cut off; the law
+/// also bounds the size of each call. What an enumeration leaves is returned up to 262,144 bytes,
+/// the range of `pcbBytesNeeded` (MS-SCMR): 1,024 services may leave 1,089,536, 246 never more.
 pub fn law_of_needed_sizes(limits: &Limits, steps: &Items<(u64, Step)>, opening: &Flat)
     requires begins { IsOpening limits.now opening.now }
     requires legal { Legal limits.now opening.now steps.now }

@@ -14,7 +14,8 @@ returns c =
     let small = c.requires.small in
     let legal = c.requires.legal in
     let begins = c.requires.begins in
-    let steps = along (IsFew l) ReturnsThere l (few_keeps l) (gives l small.services) f es (few_begun l f begins) (legal_made l f es legal) in
+    let made = legal_made l f es legal in
+    let steps = along (IsFew l) ReturnsThere l (few_keeps l) (gives l small.services) f es (few_begun l f begins) made in
     λ front e rest told split is.
     at_entry ReturnsThere l f es steps front e rest told split is
     (low_front l f es front (e ∷ rest) small begins split) (uuids_front l f es front (e ∷ rest) c.requires.uuids split)
