@@ -2,9 +2,9 @@
 use Rattle.std.proofs.Common.{◌≡◌, ◌≢◌, ◌⊎◌, ◌∙◌, ℕ, true, false, List, [], ◌∷◌, ◌++◌, length, map, Option, None, Some, refl, sym, ap}
 use Rattle.std.proofs.Common.{subst}
 use Rattle.std.proofs.Common.{inl, inr, eq-eqb}
-use Rattle.std.specs.Prelude.{IfSome}
 use Rattle.std.proofs.lemmas.List.Elements.{All-cons}
 use mathlib.Core.List.{IsPrefix}
+use Rattle.outside.specs.Written.{IsFresh}
 use Rattle.scm_model.specs.declared.calls.Reply.{Reply}
 use Rattle.scm_model.specs.declared.flat.Principal.{Principal}
 use Rattle.scm_model.specs.declared.steps.Answer.TheVariants as answers
@@ -100,7 +100,7 @@ module _ (tells : ℕ → Type 0) (o : Opening) (begins : IsOpening o.limits o.f
 -- ## Refused
 
 refused_for : (o : Opening) (principal : Principal) (seen : List Entry) (given began : Option (List ℕ)) (past : PastConnection)
-    → (has_place o seen ≡ false) ⊎ (room_behind o seen (Joined principal) ≡ false) → IfSome began (λ bytes. bytes ≡ [])
+    → (has_place o seen ≡ false) ⊎ (room_behind o seen (Joined principal) ≡ false) → IsFresh given began
     → past.left ≡ given → past.written ≡ began → past.read_faults ≡ 0 → past.write_faults ≡ 0
     → WasRefused o seen principal (record { given = given; began = began; past = past; caller = None })
 refused_for o principal seen given began past cause fresh left written reads writes = record {
@@ -116,7 +116,7 @@ refused_for o principal seen given began past cause fresh left written reads wri
 
 pub refused_by : (tells : ℕ → Type 0) (o : Opening) (principal : Principal) (by by' : Known) (given began : Option (List ℕ))
     (past : PastConnection) (fault : JoinFault)
-    → Watches o by by' → JoinCause o by' principal fault → IfSome began (λ bytes. bytes ≡ []) → past.left ≡ given → past.written ≡ began
+    → Watches o by by' → JoinCause o by' principal fault → IsFresh given began → past.left ≡ given → past.written ≡ began
     → past.read_faults ≡ 0 → past.write_faults ≡ 0
     → is_without_memory fault ≡ false → WasRefused o by'.seen principal
     (record { given = given; began = began; past = past; caller = None })
@@ -223,7 +223,7 @@ module _ (tells : ℕ → Type 0) (o : Opening) (begins : IsOpening o.limits o.f
           named = has_named p.caller (caller_named e.1) _ named;
         }))
 
-    pub stands_for : p.caller ≢ 0 → IfSome began (λ bytes. bytes ≡ []) → (how ≡ served.OutOfMemory → ⊥)
+    pub stands_for : p.caller ≢ 0 → IsFresh given began → (how ≡ served.OutOfMemory → ⊥)
         → StandsForIt tells o spent.seen principal (record { given = given; began = began; past = past; caller = Some p.caller }) p.caller
     stands_for some fresh memory =
         let one : Told = made_of (moment, Joined principal) (answers.Caller p.caller) in

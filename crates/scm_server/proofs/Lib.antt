@@ -10,3 +10,4 @@ mod Acceptors
 mod Callers
 pub mod Still
 mod Taken
+pub mod Exact

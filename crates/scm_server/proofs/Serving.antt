@@ -18,6 +18,7 @@ use Rattle.scm_book.specs.Joins.{JoinCause, Joins, TakesIn, Watches}
 use Rattle.scm_book.specs.Passes.{Known}
 use Rattle.conn_desk.specs.declared.served.Served.{Served}
 use Rattle.outside.specs.Causes.{Rose}
+use Rattle.outside.specs.Written.{IsFresh}
 use Rattle.scm_listener.specs.Accepting.{Takes}
 use Rattle.scm_listener.specs.Connections.{PastConnection, and_last}
 use Rattle.scm_listener.specs.declared.accepted.Accepted.{Accepted}
@@ -368,7 +369,7 @@ serves_all tells o principal by l s none serves =
 
 pub joined_goes : (tells : ℕ → Type 0) (o : Opening) (principal : Principal) (by mid : Known) (m m' : Told) (outs : List Out) (w : Out)
     (short : Bool) (moment : ℕ) → Watches o by mid → HasCome m m' w.number w.given → tells moment
-    → Joins o by moment principal mid w.pass → w.pass.caller ≢ 0 → IsUntouched w.began w.read_faults w.write_faults
+    → Joins o by moment principal mid w.pass → w.pass.caller ≢ 0 → IsUntouched w.given w.began w.read_faults w.write_faults
     → GoesOn tells o principal (stand by m outs short) (stand mid m' (outs ++ w ∷ []) short)
 joined_goes tells o principal by mid m m' outs w short moment watches come so joins somebody untouched =
     came_joined tells o principal by mid m m' outs w short watches come
@@ -377,7 +378,7 @@ joined_goes tells o principal by mid m m' outs w short moment watches come so jo
 pub refused_goes : (tells : ℕ → Type 0) (o : Opening) (principal : Principal) (by by' : Known) (m m' now : Told) (outs : List Out)
     (short one : Bool) (fault : JoinFault) → one ≡ is_without_memory fault
     → (given began : Option (List ℕ)) (past : PastConnection) (number : ℕ) → Watches o by by' → HasCome m m' number given
-    → JoinCause o by' principal fault → IfSome began (λ bytes. bytes ≡ [])
+    → JoinCause o by' principal fault → IsFresh given began
     → past.left ≡ given → past.written ≡ began → past.read_faults ≡ 0 → past.write_faults ≡ 0 → past.number ≡ number
     → now.left ≡ m'.left → now.accepted ≡ m'.accepted → now.listened ≡ m'.listened → now.faults ≡ m'.faults
     → now.noted ≡ and_last m'.noted past

@@ -1,6 +1,7 @@
 -- What becomes of a connection at the book: it was refused, or a caller of the history stands for it.
-use Rattle.std.specs.Prelude.{ℕ, ◌≡◌, ◌≤◌, ◌<◌, ◌^◌, ◌⊎◌, ◌++◌, Bool, true, false, List, [], ◌∷◌, length, map, Option, None, Some, IfSome}
+use Rattle.std.specs.Prelude.{ℕ, ◌≡◌, ◌≤◌, ◌<◌, ◌^◌, ◌⊎◌, ◌++◌, Bool, true, false, List, [], ◌∷◌, length, map, Option, None, Some}
 use Rattle.std.specs.Io.KnownBytes.{Appends, Consumes}
+use Rattle.outside.specs.Written.{IsFresh}
 use mathlib.Core.List.{IsPrefix}
 use Rattle.scm_model.specs.declared.calls.Reply.{Reply}
 use Rattle.scm_model.specs.declared.flat.Principal.{Principal}
@@ -38,7 +39,7 @@ pub record Handed : Type 0 where
   pub caller : Option ℕ
 
 abbrev pub IsJustHanded : Handed → Type 0
-IsJustHanded h = IfSome h.began (λ bytes. bytes ≡ [])
+IsJustHanded h = IsFresh h.given h.began
 
 -- ## The first case
 

@@ -1,5 +1,6 @@
 -- Connections at work, and what becomes of one.
-use Rattle.std.specs.Prelude.{ℕ, ◌≡◌, ◌≢◌, All, true, List, [], Option, IfSome}
+use Rattle.std.specs.Prelude.{ℕ, ◌≡◌, ◌≢◌, All, true, List, Option}
+use Rattle.outside.specs.Written.{IsFresh}
 use Rattle.scm_model.specs.declared.flat.Principal.{Principal}
 use Rattle.scm_rules.specs.Named.{names_caller}
 use Rattle.scm_history.specs.Owned.{Made as Told}
@@ -27,8 +28,8 @@ out_of number given began read_faults write_faults pass =
     record { number = number; given = given; began = began; read_faults = read_faults; write_faults = write_faults; pass = pass }
 
 -- nothing of it was read, written or failed
-pub record IsUntouched (began : Option (List ℕ)) (read_faults write_faults : ℕ) : Type 0 where
-  pub unwritten : IfSome began (λ bytes. bytes ≡ [])
+pub record IsUntouched (given began : Option (List ℕ)) (read_faults write_faults : ℕ) : Type 0 where
+  pub unwritten : IsFresh given began
   pub unread : read_faults ≡ 0
   pub unfailed : write_faults ≡ 0
 
@@ -40,7 +41,7 @@ pub record HasJoined (tells : ℕ → Type 0) (o : Opening) (principal : Princip
   pub told : tells moment
   pub joins : Joins o by moment principal by' out.pass
   pub somebody : out.pass.caller ≢ 0
-  pub untouched : IsUntouched out.began out.read_faults out.write_faults
+  pub untouched : IsUntouched out.given out.began out.read_faults out.write_faults
 
 -- each entry names the caller
 abbrev pub AreNamed : ℕ → List Told → Type 0

@@ -172,7 +172,8 @@ where
     )
         requires at { IsAt host.now.book.now host.now.clock.now self.old }
         requires one { input.number ≡ output.number }
-        requires new { IsUntouched (O.held output.end) (I.faults input.end) (O.faults output.end) }
+        requires new { IsUntouched (I.left input.end) (O.held output.end)
+            (I.faults input.end) (O.faults output.end) }
         ensures at { IsAt host.now.book.now host.now.clock.now self.new }
         ensures only { let tell = told_by N.left N.accepted N.noted N.listened N.faults in
             OnlyNotes (tell self.old.listener) (tell self.new.listener) }

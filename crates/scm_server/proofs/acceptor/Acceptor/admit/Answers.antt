@@ -25,7 +25,7 @@ returns-in-Err-clause-goes g c = λ came come.
     let reads = ap (λ (p : PastConnection). p.read_faults) c.end.ensures ∙ new.unread in
     let writes = ap (λ (p : PastConnection). p.write_faults) c.end.ensures ∙ new.unfailed in
     rw c.is_either-self.ensures (refused_goes (g.C.Clock.tells c.args.host.now.clock.now) c.args.host.now.book.now.opening
-    c.args.host.now.principal c.args.self.now.by _ came _ _ _ c.args.self.now.is_short _ _ c.is_without_memory.ensures _ _ _ _
-    c.in-Err.ensures.by come c.in-Err.ensures.cause new.unwritten left written reads writes
-    (ap (λ (p : PastConnection). p.number) c.end.ensures) c.note.ensures.left c.note.ensures.accepted c.note.ensures.listened
-    c.note.ensures.faults c.note.ensures.noted)
+    c.args.host.now.principal c.args.self.now.by _ came _ _ _ c.args.self.now.is_short _ _ c.is_without_memory.ensures
+    (g.I.Source.left c.args.input.end) (g.O.Sink.held c.args.output.end) _ _ c.in-Err.ensures.by come c.in-Err.ensures.cause
+    new.unwritten left written reads writes (ap (λ (p : PastConnection). p.number) c.end.ensures) c.note.ensures.left
+    c.note.ensures.accepted c.note.ensures.listened c.note.ensures.faults c.note.ensures.noted)
