@@ -100,11 +100,10 @@ module _ (o : Opening) where
     served_legal process left faults ended link k how k' s = end_legal s.serves.stood k' process s.serves.moment s.serves.ended
         s.serves.ends
 
-    pub sent_legal : (process : ℕ) (may_ask : Type 0) {F : Type 0} (held : F → Option (List ℕ)) (faults : F → ℕ) (feed : F) (k : Known)
+    pub sent_legal : (process : ℕ) (may_ask : Type 0) (held held_now : Option (List ℕ)) (faults faults_now : ℕ) (k : Known)
         (how : ControlsSent) (k' : Known)
-        → (last : F) × Sends tells o process may_ask k (held feed) (held last) (faults feed) (faults last) how k' → SawLegal o k
-        → SawLegal o k'
-    sent_legal process may_ask held faults feed k how k' s legal = s.1.takes.legal legal
+        → Sends tells o process may_ask k held held_now faults faults_now how k' → SawLegal o k → SawLegal o k'
+    sent_legal process may_ask held held_now faults faults_now k how k' s legal = s.takes.legal legal
 
 -- a child that is handed out by a look is ready
 pub if_ready : (b : Identity) (tells : ℕ → Type 0) {L F : Type 0} (pid : L → ℕ) (gives : L → F → Type 0) (k : Known) (s : Spawning)

@@ -5,10 +5,10 @@ use Rattle.scm_rules.specs.Histories.{Legal}
 use Rattle.book_rule.specs.declared.view.Opening.{Opening}
 use Rattle.book_rule.specs.Seats.{Identity}
 use Rattle.scm_book.specs.Passes.{IsOf, Known}
-use Rattle.scm_launcher.specs.declared.children.ChildPast.{ChildPast}
 use Rattle.scm_launcher.specs.declared.children.Child.{Child}
 use Rattle.scm_launcher.specs.declared.children.Next.{Next}
 use Rattle.scm_launcher.specs.declared.children.Next.TheVariants as nexts
+use Rattle.scm_launcher.specs.declared.launcher.SpentPasses.{SpentPasses}
 use Rattle.scm_launcher.specs.Launches.{IsHanded}
 
 -- what the pass has seen is legal
@@ -31,8 +31,8 @@ IfReady b (nexts.Child child) = IsReady b child
 IfReady b next = Unit {0}
 
 -- both passes are of the book, and what they have seen is legal
-pub record IsPast (b : Identity) (past : ChildPast) : Type 0 where
-  pub child : IsOf b past.child.spent
-  pub child_legal : SawLegal b.opening past.child.spent
-  pub controls : IsOf b past.controls.spent
-  pub controls_legal : SawLegal b.opening past.controls.spent
+pub record IsPast (b : Identity) (past : SpentPasses) : Type 0 where
+  pub child : IsOf b past.child
+  pub child_legal : SawLegal b.opening past.child
+  pub controls : IsOf b past.controls
+  pub controls_legal : SawLegal b.opening past.controls

@@ -85,11 +85,12 @@ pub fn launch_next<R: Wait, K: Keeper, P: Spawner, C: Clock>(
     }
 }
 
-/// How the serving of a child and the sending of its controls ended, each with its spent pass.
+/// How the serving of a child and the sending of its controls ended, each with its spent pass, and
+/// what its feed left.
 #[derive(Drop)]
-pub struct ChildPast {
+pub struct ChildPast<P> {
     pub child: ChildEnded,
-    pub controls: ControlsEnded,
+    pub controls: ControlsEnded<P>,
 }
 
 /// Serves a child until it ends, and drops its link.
@@ -129,7 +130,7 @@ pub fn run_child<R, K, L, F, C, Q>(
     feed: F,
     clock: &C,
     quit: &Q,
-) -> ChildPast
+) -> ChildPast<F::Past>
 where
     R: Threads + Wait + Sync,
     K: Keeper + Send,
@@ -146,20 +147,19 @@ where
     ensures serves { ServesLink (C.tells clock.now) book.now.opening process L.left L.faults L.ended
         link taken result.child.how result.child.spent }
     ensures controls_book { IsOf book.now result.controls.spent }
-    // `last` is the feed as it was dropped.
-    ensures sends { (last : F) × Sends (C.tells clock.now) book.now.opening process
-        (Q.may_ask quit.now) other (F.held feed) (F.held last) (F.faults feed) (F.faults last)
-        result.controls.how result.controls.spent }
+    ensures sends { let past = F.tells result.controls.past in Sends (C.tells clock.now)
+        book.now.opening process (Q.may_ask quit.now) other (F.held feed) past.held
+        (F.faults feed) past.faults result.controls.how result.controls.spent }
     ensures keeps { KeepsAll book.now.opening other result.controls.spent }
 {
     let (controls, child) = thread::join(
         rt,
-        || -> ControlsEnded
+        || -> ControlsEnded<F::Past>
             requires { IsOf book.now other × (other.caller ≡ 0) }
             ensures book { IsOf book.entry.now result.spent }
-            ensures sends { (last : F) × Sends (C.tells clock.entry.now) book.entry.now.opening
-                process (Q.may_ask quit.entry.now) other (F.held feed) (F.held last)
-                (F.faults feed) (F.faults last) result.how result.spent }
+            ensures sends { let past = F.tells result.past in Sends (C.tells clock.entry.now)
+                book.entry.now.opening process (Q.may_ask quit.entry.now) other (F.held feed)
+                past.held (F.faults feed) past.faults result.how result.spent }
             ensures keeps { KeepsAll book.entry.now.opening other result.spent }
         { send_controls(rt, alloc, book, other, process, feed, clock, quit) },
         || -> ChildEnded

@@ -6,6 +6,7 @@ ghost use Rattle.scm_launcher.specs.Past.{IfReady, IsPast, IsReady, SawLegal, Se
 
 use crate::children::{Child, ChildPast, Next, launch_next, run_child};
 use child_link::{Feed, Link};
+use child_runner::{ChildEnded, ControlsEnded};
 use outside::Clock;
 use process_runner::{Quit, Spawner};
 use record_journal::Keeper;
@@ -22,20 +23,27 @@ pub struct Launched<P> {
     pub spawner: P,
 }
 
+/// The spent passes of a child that is past: the one that served it, and the one for its controls.
+#[derive(Drop)]
+struct SpentPasses {
+    child: Spent,
+    controls: Spent,
+}
+
 /// The book of the passes that a child's thread gives back.
 #[derive(Drop)]
 struct OfBook<'a, K: Keeper> {
     book: &'a Book<K>,
 }
 
-impl<'a, K: Keeper> Promise<ChildPast> for OfBook<'a, K> {
+impl<'a, K: Keeper> Promise<SpentPasses> for OfBook<'a, K> {
     ghost kept_by = { λ p past. IsPast p.book.now past };
 }
 
 /// A child's thread, and whether it is about to end.
 #[derive(Drop)]
 struct Runner<'a, K: Keeper> {
-    handle: PromisedHandle<ChildPast, OfBook<'a, K>>,
+    handle: PromisedHandle<SpentPasses, OfBook<'a, K>>,
     is_done: Arc<AtomicBool>,
 }
 
@@ -61,15 +69,15 @@ fn take_in<K: Keeper>(book: &Book<K>, by: &mut Pass, spent: Spent)
 
 #[tactic(auto, using(crate::proofs::Seeing::sees_then))]
 /// Takes both passes of a child in that is past.
-fn take_both<K: Keeper>(book: &Book<K>, by: &mut Pass, past: ChildPast)
+fn take_both<K: Keeper>(book: &Book<K>, by: &mut Pass, past: SpentPasses)
     requires by { IsOf book.now by.old }
     requires nobody { by.old.caller ≡ 0 }
     requires past { IsPast book.now past }
     ensures book { IsOf book.now by.new }
     ensures sees { SeesOn book.now.opening by.old by.new }
 {
-    take_in(book, by, past.child.spent);
-    take_in(book, by, past.controls.spent);
+    take_in(book, by, past.child);
+    take_in(book, by, past.controls);
 }
 
 /// Waits for a child's thread.
@@ -172,7 +180,7 @@ fn keep<'a, R: Threads, K: Keeper>(
 }
 
 #[tactic(auto, using(crate::proofs::Seeing::served_legal, crate::proofs::Seeing::sent_legal))]
-/// Runs a child that was launched to its end.
+/// Runs a child that was launched to its end, and gives back its passes.
 fn run<R, K, L, F, C, Q>(
     rt: &R,
     alloc: Global,
@@ -180,7 +188,7 @@ fn run<R, K, L, F, C, Q>(
     child: Child<L, F>,
     clock: &C,
     quit: &Q,
-) -> ChildPast
+) -> SpentPasses
 where
     R: Threads + Wait + Sync,
     K: Keeper + Send,
@@ -198,9 +206,17 @@ where
         taken,
         other,
     } = child;
-    run_child(
+    let ChildPast { child, controls } = run_child(
         rt, alloc, book, taken, other, process, link, feed, clock, quit,
-    )
+    );
+    let ChildEnded { spent: child, .. } = child;
+    let ControlsEnded {
+        spent: controls,
+        past,
+        ..
+    } = controls;
+    drop(past);
+    SpentPasses { child, controls }
 }
 
 #[tactic(auto, using(crate::proofs::Seeing::sees_looked, crate::proofs::Seeing::if_ready))]
@@ -294,7 +310,7 @@ where
             take_both(book, by, run(rt, alloc, book, child, clock, quit));
             return;
         };
-        let worker = move || -> ChildPast
+        let worker = move || -> SpentPasses
             requires { IsReady book.now child }
             ensures { IsPast book.entry.now result }
         {

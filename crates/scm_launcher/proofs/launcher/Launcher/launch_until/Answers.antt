@@ -14,10 +14,10 @@ pub look-requires-clause-path : goal.look-requires-clause-path
 look-requires-clause-path g c = omega (arith, c.requires.path, c.loop.invariant.path)
 
 pub look-requires-clause-book : goal.look-requires-clause-book
-look-requires-clause-book g c = c.loop.invariant.book
+look-requires-clause-book g c = λ _ _. c.loop.invariant.book
 
 pub look-requires-clause-nobody : goal.look-requires-clause-nobody
-look-requires-clause-nobody g c = c.loop.invariant.sees.nobody
+look-requires-clause-nobody g c = λ _ _. c.loop.invariant.sees.nobody
 
 pub reap-requires-clause-by : goal.reap-requires-clause-by
 reap-requires-clause-by g c = c.look.ensures.book
