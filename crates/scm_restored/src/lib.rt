@@ -4,9 +4,12 @@
 mod configs;
 
 ghost use Rattle.std.specs.Prelude.{◌≡◌, ◌≤◌, IfOk, IsErrOf, OnOk, is_some};
+ghost use Rattle.outside.specs.Asked.{text_of};
 ghost use Rattle.outside.specs.Causes.{Rose};
-ghost use Rattle.record_journal.specs.Bearing.{Bears, stood_in};
-ghost use Rattle.record_journal.specs.Keepers.{Settles};
+ghost use Rattle.record_journal.specs.Bearing.{Bears, StandsIn, stood_in};
+ghost use Rattle.record_journal.specs.Crashes.{Crashing};
+ghost use Rattle.record_journal.specs.Keepers.{Settles, opened_at};
+ghost use Rattle.record_journal.specs.Opening.{AsksAt, IsOpened};
 ghost use Rattle.scm_core.specs.Managed.{AreSmall};
 ghost use Rattle.scm_rules.specs.Opening.{IsOpening};
 ghost use Rattle.scm_restored.specs.Restored.{Comes, IsUnmoved};
@@ -56,6 +59,14 @@ pub fn open_manager<K: Keeper>(
     ensures kept { OnOk result (K.faults keeper.new ≡ K.faults keeper.old) }
     ensures settled { Settles (K.faults keeper.old) (K.faults keeper.new) result
         (K.settled keeper.new) }
+    // A crash on the way leaves what was there, or what is read as it.
+    ensures moments { Crashing (λ x. IsOpened (opened_at (is_some path.entry) x))
+        (K.held keeper.old) (K.crashes keeper.old) (K.crashes keeper.new) }
+    // A crash after it leaves what is held.
+    ensures stands { IfOk result (λ opened.
+        StandsIn (stood_in opened.journal.form (K.held keeper.new)) (K.crashes keeper.new)) }
+    ensures asked { AsksAt (text_of path.entry)
+        (K.asked keeper.old) (K.asked keeper.new) result }
 {
     let Restored { journal, configs } = open_journal(alloc, keeper, path)?;
     let Ok(copy) = copied_if(alloc, copies, &configs) else {
