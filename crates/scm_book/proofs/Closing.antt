@@ -5,8 +5,9 @@ use Rattle.scm_model.specs.declared.flat.Flat.{Flat}
 use Rattle.scm_model.specs.declared.steps.Answer.{Answer}
 use Rattle.scm_model.specs.declared.steps.Answer.TheVariants as answers
 use Rattle.scm_model.specs.declared.steps.Step.TheVariants.{Gone}
-use Rattle.scm_model.specs.Entries.{Entry}
+use Rattle.scm_model.specs.Entries.{Entry, text_in}
 use Rattle.scm_trail.specs.Trailed.{Trailed}
+use Rattle.scm_trail.proofs.Histories.{ends_whole}
 use Rattle.record_journal.specs.Bearing.{Bears, and_changes}
 use Rattle.record_journal.specs.Keepers.{SettledSince}
 use Rattle.scm_history.specs.Kept.{kept_changes}
@@ -33,8 +34,11 @@ module _ {K : Type 0} (tells : K → Option (List ℕ)) (faulted : K → ℕ) (I
       → Closes tells faulted IsSettled b.opening (known s) c
   closes c trail keeper services =
       let log = ends.log in
-      let is : c.trail.entries ≡ log = ap (λ (t : Trailed). t.entries) trail ∙ ends.fits.trail in record {
+      let whole : h.trail.entries ≡ log = ends_whole h.trail log ends.fits.ends ends.fits.whole in
+      let is : c.trail.entries ≡ log = ap (λ (t : Trailed). t.entries) trail ∙ whole in record {
         longer = subst (IsPrefix s.me.0.seen) (sym is) ends.longer;
+        past = ap (λ (t : Trailed). t.past) trail ∙ ends.fits.whole;
+        text = ap (λ (t : Trailed). t.text) trail ∙ (ends.fits.ends.text ∙ ap text_in (sym is));
         legal = subst (Legal b.opening.limits b.opening.first) (sym is) ends.run.legal;
         alone = λ only. is ∙ (ends.alone only).seen;
         services = services ∙ (ap (λ (f : Flat). length f.services) ends.fits.manager

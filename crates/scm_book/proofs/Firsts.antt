@@ -15,6 +15,7 @@ use Rattle.scm_model.specs.declared.steps.Answer.TheVariants as answers
 use Rattle.scm_model.specs.declared.steps.Step.TheVariants.{LaunchTaken}
 use Rattle.scm_model.specs.Changes.{with_moment}
 use Rattle.scm_model.specs.Entries.{Entry}
+use Rattle.scm_trail.specs.Trailed.{Extends}
 use Rattle.start_plan.specs.Settle.{settled}
 use Rattle.scm_rules.specs.Launches.{first_wanted, launch_taken, launch_told}
 use Rattle.scm_rules.specs.Steps.{finished, step_of, wants_launch}
@@ -52,7 +53,7 @@ module _ {K : Type 0} (h h' : Held K) (moment process : ℕ) (first : first_want
     steps = h.manager.steps + 1;
     room = None;
   }
-      → h'.trail.entries ≡ h.trail.entries ++ (moment, LaunchTaken) ∷ [] → h.trail.room ≤ h'.trail.room + 1 → h'.journal ≡ h.journal
+      → Extends h.trail h'.trail (moment, LaunchTaken) → h.trail.room ≤ h'.trail.room + 1 → h'.journal ≡ h.journal
       → h'.keeper ≡ h.keeper
       → Adds h h' moment LaunchTaken (answers.Launch process)
   adds_launch manager entries room journal keeper = record {

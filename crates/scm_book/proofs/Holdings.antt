@@ -21,6 +21,7 @@ use Rattle.scm_owed.proofs.Effects.{debt_owed}
 use Rattle.book_rule.specs.declared.view.Opening.{Opening}
 use Rattle.record_journal.specs.Bearing.{Bears, Stood, and_change, and_changes}
 use Rattle.record_journal.specs.Keepers.{SettledSince}
+use Rattle.scm_trail.proofs.Histories.{ends_more, ends_same}
 use Rattle.scm_book.specs.declared.held.Held.{Held}
 use Rattle.scm_book.specs.Holds.{Holds, RoseBy, Runs, failures_in, one_failed, stood_at}
 use Rattle.scm_book.specs.Steps.{Adds, Grows, IsAsItWas, Makes}
@@ -89,7 +90,8 @@ module _ {K : Type 0} (tells : K → Option (List ℕ)) (faulted : K → ℕ) (I
   holds_made moment step told made runs =
       let now : Step = with_kept step made.append in
       let grows = made.grows in record {
-        trail = grows.trail ∙ ap (λ (l : List Entry). l ++ (moment, now) ∷ []) holds.trail;
+        ends = ends_more h.trail h'.trail log (moment, now) holds.ends grows.trail;
+        whole = grows.trail.past ∙ holds.whole;
         limits = grows.limits ∙ holds.limits;
         steps = steps_then moment now told grows;
         text = text_then moment now told grows;
@@ -121,7 +123,8 @@ module _ {K : Type 0} (tells : K → Option (List ℕ)) (faulted : K → ℕ) (I
       → Holds tells faulted IsSettled o (log ++ (moment, step) ∷ []) h'
   holds_added moment step told adds owes textless faultless changeless runs =
       let grows = adds.grows in record {
-        trail = grows.trail ∙ ap (λ (l : List Entry). l ++ (moment, step) ∷ []) holds.trail;
+        ends = ends_more h.trail h'.trail log (moment, step) holds.ends grows.trail;
+        whole = grows.trail.past ∙ holds.whole;
         limits = grows.limits ∙ holds.limits;
         steps = steps_then moment step told grows;
         text = text_then moment step told grows;
@@ -144,7 +147,8 @@ module _ {K : Type 0} (tells : K → Option (List ℕ)) (faulted : K → ℕ) (I
 
   pub holds_same : IsAsItWas h h' → Holds tells faulted IsSettled o log h'
   holds_same same = record {
-    trail = same.none.trail ∙ holds.trail;
+    ends = ends_same h.trail h'.trail log holds.ends same.none.trail;
+    whole = same.none.trail.past ∙ holds.whole;
     limits = same.none.limits ∙ holds.limits;
     steps = same.none.steps ∙ holds.steps;
     text = same.none.text ∙ holds.text;

@@ -108,7 +108,7 @@ pub one_more : {K : Type 0} (tells : K → Option (List ℕ)) (faulted : K → �
     (h : Box (Held K) Global) → v' ≡ v → Stands (way_of tells faulted IsSettled) b v (box_value h)
     → IsOneMore (way_of tells faulted IsSettled) b v' h
 one_more tells faulted IsSettled b v v' h is stands = subst (λ (x : View). IsOneMore (way_of tells faulted IsSettled) b x h) (sym is)
-    (record { entry = stands.entry; trail = stands.trail; names = stands.names; follows = stands.follows; fits = stands.fits })
+    (record { entry = stands.entry; last = stands.last; names = stands.names; follows = stands.follows; fits = stands.fits })
 
 -- ## A caller that joins beside another
 

@@ -7,7 +7,8 @@ use Rattle.scm_runs.proofs.Histories.{state_none}
 use Rattle.scm_owed.proofs.Histories.{legal_none}
 use Rattle.scm_owed.proofs.Whole.{opened_owes}
 use Rattle.scm_history.proofs.Kept.{law_of_kept}
-use Rattle.scm_trail.specs.Trailed.{Trailed}
+use Rattle.scm_trail.specs.Trailed.{Ends, Trailed, no_entries}
+use Rattle.scm_trail.proofs.Histories.{ends_none}
 use Rattle.record_journal.specs.Bearing.{Bears, and_changes, stood_in}
 use Rattle.record_journal.specs.declared.journal.Journal.{Journal}
 use Rattle.scm_book.specs.declared.held.Held.{Held}
@@ -21,7 +22,7 @@ pub record IsNew {K : Type 0} (tells : K → Option (List ℕ)) (IsSettled : K �
   pub text : h.manager.text ≡ 0
   pub journal : Bears (stood_in h.journal.form (tells h.keeper)) h.journal (tells h.keeper)
   pub settled : IsSettled h.keeper
-  pub trail : h.trail.entries ≡ []
+  pub trail : h.trail ≡ no_entries
 
 module _ {K : Type 0} (tells : K → Option (List ℕ)) (faulted : K → ℕ) (IsSettled : K → Type 0) (h : Held K)
     (new : IsNew tells IsSettled h) where
@@ -33,7 +34,8 @@ module _ {K : Type 0} (tells : K → Option (List ℕ)) (faulted : K → ℕ) (I
 
   pub new_holds : Holds tells faulted IsSettled ((way_of tells faulted IsSettled).opening h) [] h
   new_holds = record {
-    trail = new.trail;
+    ends = subst (λ (t : Trailed). Ends t []) (sym new.trail) ends_none;
+    whole = ap (λ (t : Trailed). t.past) new.trail;
     limits = refl;
     steps = new.steps;
     text = new.text;
@@ -49,7 +51,7 @@ module _ {K : Type 0} (tells : K → Option (List ℕ)) (faulted : K → ℕ) (I
 pub is_new : {K : Type 0} (tells : K → Option (List ℕ)) (IsSettled : K → Type 0) (h : Held K) (m : Managed) (t : Trailed) (j : Journal)
     (k : K) → h.manager ≡ m → h.trail ≡ t → h.journal ≡ j → h.keeper ≡ k
     → IsOpening m.limits m.flat → AreSmall m.limits → m.steps ≡ 0 → m.text ≡ 0
-    → Bears (stood_in j.form (tells k)) j (tells k) → IsSettled k → t.entries ≡ [] → IsNew tells IsSettled h
+    → Bears (stood_in j.form (tells k)) j (tells k) → IsSettled k → t ≡ no_entries → IsNew tells IsSettled h
 is_new tells IsSettled h m t j k manager trail journal keeper begins small steps text bears settled none = record {
   begins = subst (λ (x : Managed). IsOpening x.limits x.flat) (sym manager) begins;
   small = subst (λ (x : Managed). AreSmall x.limits) (sym manager) small;
@@ -58,5 +60,5 @@ is_new tells IsSettled h m t j k manager trail journal keeper begins small steps
   journal = subst (λ (x : Journal). Bears (stood_in x.form (tells h.keeper)) x (tells h.keeper)) (sym journal)
       (subst (λ x. Bears (stood_in j.form (tells x)) j (tells x)) (sym keeper) bears);
   settled = subst IsSettled (sym keeper) settled;
-  trail = ap (λ (x : Trailed). x.entries) trail ∙ none;
+  trail = trail ∙ none;
 }

@@ -1,5 +1,5 @@
 -- What one step more makes of what the holder of the turn has.
-use Rattle.std.proofs.Common.{ℕ, ◌≡◌, ◌∙◌, ◌+◌, ◌≤◌, true, IsTrue, List, [], ◌∷◌, ◌++◌, Option, None, Some, refl, ap, sym, subst, arith}
+use Rattle.std.proofs.Common.{ℕ, ◌≡◌, ◌∙◌, ◌+◌, ◌≤◌, true, IsTrue, List, [], ◌∷◌, Option, None, Some, refl, ap, sym, subst, arith}
 use Rattle.std.proofs.Common.{inl, inr}
 use Rattle.outside.specs.Causes.{Rose}
 use Rattle.scm_model.specs.declared.flat.Flat.{Flat}
@@ -10,7 +10,7 @@ use Rattle.scm_model.specs.declared.steps.Kept.{Kept}
 use Rattle.scm_model.specs.declared.steps.Kept.TheVariants as appended
 use Rattle.scm_model.specs.declared.steps.Step.{Step}
 use Rattle.scm_model.specs.declared.steps.Step.TheVariants.{Call}
-use Rattle.scm_model.specs.Entries.{Entry, with_kept}
+use Rattle.scm_model.specs.Entries.{with_kept}
 use Rattle.scm_model.specs.Texts.{text_of}
 use Rattle.record_journal.specs.Bearing.{Bears, BearsMore, BearsSame, Stood, and_changes}
 use Rattle.record_journal.specs.Keepers.{SettledSince}
@@ -19,7 +19,8 @@ use Rattle.scm_rules.specs.Owed.{owed}
 use Rattle.scm_rules.specs.Room.{debt}
 use Rattle.scm_rules.specs.Steps.{keeps_right, may, may_come, step_of}
 use Rattle.scm_core.specs.Managed.{Managed, WasMadeFor}
-use Rattle.scm_trail.specs.Trailed.{Trailed}
+use Rattle.scm_trail.specs.Trailed.{Extends, Trailed}
+use Rattle.scm_trail.proofs.Histories.{stays_extended, stays_on, stays_self}
 use Rattle.record_journal.specs.declared.journal.Journal.{Journal}
 use Rattle.scm_rules.specs.Verdicts.{change_of}
 use Rattle.scm_history.specs.Kept.{kept_change, one_or_none}
@@ -42,14 +43,14 @@ answer_one l f moment step = refl
 
 pub grown : {K : Type 0} (h h' : Held K) (moment : ℕ) (step both copy : Step) (told : Answer) → both ≡ step → copy ≡ step
     → IsTrue (may h.manager.limits h.manager.flat moment step)
-    → h'.trail.entries ≡ h.trail.entries ++ (moment, copy) ∷ []
+    → Extends h.trail h'.trail (moment, copy)
     → told ≡ (step_of h.manager.limits h.manager.flat moment both).answer
     → h'.manager.flat ≡ (step_of h.manager.limits h.manager.flat moment both).flat
     → h'.manager.limits ≡ h.manager.limits → h'.manager.steps ≡ h.manager.steps + 1 → h'.manager.text ≡ h.manager.text + text_of both
     → Grows h h' moment step told
 grown h h' moment step both copy told one other may trail says flat limits steps text = record {
   may = may;
-  trail = trail ∙ ap (λ (s : Step). h.trail.entries ++ (moment, s) ∷ []) other;
+  trail = subst (λ (s : Step). Extends h.trail h'.trail (moment, s)) other trail;
   flat = flat ∙ (ap (λ (s : Step). (step_of h.manager.limits h.manager.flat moment s).flat) one
       ∙ sym (state_one h.manager.limits h.manager.flat moment step));
   answer = answer_one h.manager.limits h.manager.flat moment step
@@ -121,7 +122,7 @@ module _ {K : Type 0} (tells : K → Option (List ℕ)) (faulted : K → ℕ) (I
 module _ {K : Type 0} (h mid h' : Held K) where
   none_as : MakesNone h mid → h'.manager ≡ mid.manager → h'.trail ≡ mid.trail → MakesNone h h'
   none_as was manager trail = record {
-    trail = ap (λ (t : Trailed). t.entries) trail ∙ was.trail;
+    trail = stays_on h.trail mid.trail h'.trail was.trail (stays_self mid.trail h'.trail trail);
     flat = ap (λ (m : Managed). m.flat) manager ∙ was.flat;
     limits = ap (λ (m : Managed). m.limits) manager ∙ was.limits;
     steps = ap (λ (m : Managed). m.steps) manager ∙ was.steps;
@@ -142,7 +143,7 @@ module _ {K : Type 0} (h mid h' : Held K) where
   grown_from : (moment : ℕ) (step : Step) (told : Answer) → MakesNone h mid → Grows mid h' moment step told → Grows h h' moment step told
   grown_from moment step told none grows = record {
     may = (λ i. may (sym none.limits i) (sym none.flat i) moment step) ∙ grows.may;
-    trail = grows.trail ∙ ap (λ (l : List Entry). l ++ (moment, step) ∷ []) none.trail;
+    trail = stays_extended h.trail mid.trail h'.trail (moment, step) none.trail grows.trail;
     flat = grows.flat ∙ (λ i. state (none.limits i) (none.flat i) ((moment, step) ∷ []));
     answer = (λ i. answer (sym none.limits i) (sym none.flat i) ((moment, step) ∷ []) 0) ∙ grows.answer;
     limits = grows.limits ∙ none.limits;

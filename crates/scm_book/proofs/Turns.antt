@@ -1,11 +1,13 @@
 -- What a commit asks of what the holder has, and what it tells.
-use Rattle.std.proofs.Common.{◌≡◌, ℕ, inl, inr, true, List, [], ◌∷◌, ◌++◌, length, Option, Some, Box, sym, ◌∙◌, subst}
+use Rattle.std.proofs.Common.{◌≡◌, ℕ, inl, inr, true, List, [], ◌∷◌, ◌++◌, length, Option, None, Some, Box, sym, ◌∙◌, subst}
+use Rattle.std.specs.List.{last_or}
 use Rattle.std.specs.declared.alloc.Global.{Global}
 use Rattle.atomic_table.specs.declared.shared.Seat.{Seat}
 use Rattle.scm_model.specs.declared.steps.Answer.{Answer}
 use Rattle.scm_model.specs.declared.steps.Name.{Name}
 use Rattle.scm_model.specs.declared.steps.Step.{Step}
 use Rattle.scm_model.specs.Entries.{Entry, with_kept}
+use Rattle.scm_trail.proofs.Histories.{extended_last}
 use Rattle.scm_rules.specs.Histories.{answer}
 use Rattle.book_rule.specs.declared.view.Opening.{Opening}
 use Rattle.book_rule.specs.declared.view.View.{View}
@@ -28,7 +30,7 @@ use Rattle.scm_book.proofs.Room.{named_kept, owed_is}
 -- what a commit asks of what the holder has
 pub record Stands {K : Type 0} (w : Protocol (Held K)) (b : Identity) (v : View) (h : Held K) : Type 0 where
   pub entry : Entry
-  pub trail : h.trail.entries ≡ v.seen ++ entry ∷ []
+  pub last : last_or None h.trail.entries ≡ Some entry
   pub names : NamesOwn w v.names entry
   pub follows : Follows w b.opening v.seen entry
   pub fits : w.fits b.opening (v.seen ++ entry ∷ []) h
@@ -36,20 +38,20 @@ pub record Stands {K : Type 0} (w : Protocol (Held K)) (b : Identity) (v : View)
 module _ {K : Type 0} (tells : K → Option (List ℕ)) (faulted : K → ℕ) (IsSettled : K → Type 0) (b : Identity) (v : View) (h h' : Held K)
     (holds : Holds tells faulted IsSettled b.opening v.seen h) (runs : Runs b.opening v.seen) (moment : ℕ) where
   module _ (owed : Owed) (told : Answer) (adds : Adds h h' moment (owed_step owed) told) where
+    pub end_added : last_or None h'.trail.entries ≡ Some (moment, owed_step owed)
+    end_added = extended_last h.trail h'.trail (moment, owed_step owed) adds.grows.trail
+
     pub stands_added : ((n : Name) → Has n (all_names (owed_step owed)) → Has n v.names) → Stands (way_of tells faulted IsSettled) b v h'
     stands_added own =
         let there : Holds tells faulted IsSettled b.opening (v.seen ++ (moment, owed_step owed) ∷ []) h' =
         added_holds tells faulted IsSettled b.opening v.seen h holds h' moment owed told runs adds in record {
           entry = (moment, owed_step owed);
-          trail = there.trail;
+          last = end_added;
           names = own;
           follows = follows tells faulted IsSettled b.opening v.seen (moment, owed_step owed) runs
               (may_then tells faulted IsSettled b.opening v.seen h holds h' moment (owed_step owed) told adds.grows) (inl (owed_is owed));
           fits = there;
         }
-
-    pub end_added : h'.trail.entries ≡ v.seen ++ (moment, owed_step owed) ∷ []
-    end_added = (added_holds tells faulted IsSettled b.opening v.seen h holds h' moment owed told runs adds).trail
 
     pub did_add : (s s' : Seat (Option (Box (Held K) Global)) View) → s.me.0 ≡ v → s'.table_id ≡ s.table_id
         → Commits (way_of tells faulted IsSettled) b s s' (moment, owed_step owed)
@@ -66,22 +68,22 @@ module _ {K : Type 0} (tells : K → Option (List ℕ)) (faulted : K → ℕ) (I
     }
 
   module _ (step : Step) (told : Answer) (made : Makes tells faulted IsSettled h h' moment step told) where
+    pub end_made : last_or None h'.trail.entries ≡ Some (moment, with_kept step made.append)
+    end_made = extended_last h.trail h'.trail (moment, with_kept step made.append) made.grows.trail
+
     pub stands_made : ((n : Name) → Has n (all_names step) → Has n v.names) → Stands (way_of tells faulted IsSettled) b v h'
     stands_made own =
         let now : Step = with_kept step made.append in
         let there : Holds tells faulted IsSettled b.opening (v.seen ++ (moment, now) ∷ []) h' =
         made_holds tells faulted IsSettled b.opening v.seen h holds h' moment step told runs made in record {
           entry = (moment, now);
-          trail = there.trail;
+          last = end_made;
           names = λ n has. own n (subst (λ (ns : List Name). Has n ns) (named_kept step made.append) has);
           follows = follows tells faulted IsSettled b.opening v.seen (moment, now) runs
               (may_then tells faulted IsSettled b.opening v.seen h holds h' moment now told made.grows)
               (inr (made_free tells faulted IsSettled b.opening v.seen h holds h' moment step told runs made));
           fits = there;
         }
-
-    pub end_made : h'.trail.entries ≡ v.seen ++ (moment, with_kept step made.append) ∷ []
-    end_made = (made_holds tells faulted IsSettled b.opening v.seen h holds h' moment step told runs made).trail
 
     pub did_make : (s s' : Seat (Option (Box (Held K) Global)) View) → s.me.0 ≡ v → s'.table_id ≡ s.table_id
         → Commits (way_of tells faulted IsSettled) b s s' (moment, with_kept step made.append)

@@ -3,6 +3,7 @@ use Rattle.std.specs.Prelude.{ℕ, ◌≡◌, ◌≢◌, true, List, [], length,
 use mathlib.Core.List.{IsPrefix}
 use Rattle.scm_model.specs.declared.steps.Answer.TheVariants as answers
 use Rattle.scm_model.specs.declared.steps.Step.TheVariants.{Gone}
+use Rattle.scm_model.specs.Entries.{text_in}
 use Rattle.scm_rules.specs.Histories.{Legal, state}
 use Rattle.book_rule.specs.declared.view.Opening.{Opening}
 use Rattle.book_rule.specs.Seats.{Identity}
@@ -41,6 +42,8 @@ module _ {K : Type 0} (tells : K → Option (List ℕ)) (faulted : K → ℕ) (I
   -- a legal history of which the pass had seen a prefix, and all of it where it was alone; and what the keeper holds of its changes
   pub record Closes (o : Opening) (k : Known) (c : Closed K) : Type 0 where
     pub longer : IsPrefix k.seen c.trail.entries
+    pub past : c.trail.past ≡ 0
+    pub text : c.trail.text ≡ text_in c.trail.entries
     pub legal : Legal o.limits o.first c.trail.entries
     pub alone : k.alone ≡ true → c.trail.entries ≡ k.seen
     pub services : c.services ≡ length (state o.limits o.first c.trail.entries).services

@@ -1,5 +1,6 @@
 -- What the holder of the turn has at the end of a history.
-use Rattle.std.specs.Prelude.{ℕ, ◌≡◌, ◌≤◌, ◌+◌, ◌-◌, ◌^◌, min, IsTrue, List, [], ◌∷◌, length, Option}
+use Rattle.std.specs.Prelude.{ℕ, ◌≡◌, ◌≤◌, ◌+◌, ◌-◌, ◌^◌, min, IsTrue, List, [], ◌∷◌, length, Option, None}
+use Rattle.std.specs.List.{last_or}
 use Rattle.scm_model.specs.declared.steps.Kept.TheVariants as appended
 use Rattle.scm_model.specs.declared.steps.Step.{Step}
 use Rattle.scm_model.specs.declared.steps.Step.TheVariants.{Call}
@@ -9,6 +10,7 @@ use Rattle.book_rule.specs.declared.view.Opening.{Opening}
 use Rattle.book_rule.specs.Ways.{Protocol}
 use Rattle.record_journal.specs.Bearing.{Bears, Stood, and_changes, stood_in}
 use Rattle.record_journal.specs.Keepers.{SettledSince}
+use Rattle.scm_trail.specs.Trailed.{Ends}
 use Rattle.scm_rules.specs.Histories.{Legal, state}
 use Rattle.scm_rules.specs.Opening.{IsOpening}
 use Rattle.scm_rules.specs.Owed.{owed}
@@ -54,7 +56,9 @@ Lives o log caller = IsTrue (is_caller (state o.limits o.first log) caller)
 
 module _ {K : Type 0} (tells : K → Option (List ℕ)) (faulted : K → ℕ) (IsSettled : K → Type 0) where
   pub record Holds (o : Opening) (log : List Entry) (h : Held K) : Type 0 where
-    pub trail : h.trail.entries ≡ log
+    -- the trail holds the history's end, and all of it
+    pub ends : Ends h.trail log
+    pub whole : h.trail.past ≡ 0
     pub limits : h.manager.limits ≡ o.limits
     pub steps : h.manager.steps ≡ length log
     pub text : h.manager.text ≡ text_in log
@@ -79,7 +83,7 @@ module _ {K : Type 0} (tells : K → Option (List ℕ)) (faulted : K → ℕ) (I
       form = h.journal.form;
       faults = faulted h.keeper;
     };
-    trail = λ h. h.trail.entries;
+    last = λ h. last_or None h.trail.entries;
     fits = Holds;
     run = Runs;
     lives = Lives;

@@ -1,11 +1,12 @@
 -- What one step more makes of what the holder of the turn has.
-use Rattle.std.specs.Prelude.{ℕ, ◌≡◌, ◌≤◌, ◌+◌, Bool, true, false, IsTrue, List, [], ◌∷◌, ◌++◌, Option, Some}
+use Rattle.std.specs.Prelude.{ℕ, ◌≡◌, ◌≤◌, ◌+◌, Bool, true, false, IsTrue, List, [], ◌∷◌, Option, Some}
 use Rattle.scm_model.specs.declared.steps.Answer.{Answer}
 use Rattle.scm_model.specs.declared.steps.Kept.{Kept}
 use Rattle.scm_model.specs.declared.steps.Step.{Step}
 use Rattle.scm_model.specs.declared.steps.Step.TheVariants.{EndStart, LaunchTaken, Launched, LaunchFailed, Ended, Gone}
 use Rattle.scm_model.specs.Entries.{with_kept}
 use Rattle.scm_model.specs.Texts.{text_of}
+use Rattle.scm_trail.specs.Trailed.{Extends, Stays}
 use Rattle.record_journal.specs.Bearing.{Bears, Stood, and_changes}
 use Rattle.record_journal.specs.Keepers.{SettledSince}
 use Rattle.scm_rules.specs.Histories.{answer, state}
@@ -53,7 +54,7 @@ module _ {K : Type 0} where
   -- the manager made the step at this moment, and was told this, and the trail has it as its last entry
   pub record Grows (h h' : Held K) (moment : ℕ) (step : Step) (told : Answer) : Type 0 where
     pub may : IsTrue (may h.manager.limits h.manager.flat moment step)
-    pub trail : h'.trail.entries ≡ h.trail.entries ++ (moment, step) ∷ []
+    pub trail : Extends h.trail h'.trail (moment, step)
     pub flat : h'.manager.flat ≡ state h.manager.limits h.manager.flat ((moment, step) ∷ [])
     pub answer : answer h.manager.limits h.manager.flat ((moment, step) ∷ []) 0 ≡ Some told
     pub limits : h'.manager.limits ≡ h.manager.limits
@@ -69,7 +70,7 @@ module _ {K : Type 0} where
 
   -- no step was made
   pub record MakesNone (h h' : Held K) : Type 0 where
-    pub trail : h'.trail.entries ≡ h.trail.entries
+    pub trail : Stays h.trail h'.trail
     pub flat : h'.manager.flat ≡ h.manager.flat
     pub limits : h'.manager.limits ≡ h.manager.limits
     pub steps : h'.manager.steps ≡ h.manager.steps

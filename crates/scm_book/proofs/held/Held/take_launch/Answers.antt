@@ -1,5 +1,6 @@
-use Rattle.std.proofs.Common.{◌∙◌, ◌++◌, ◌∷◌, [], ap, refl}
+use Rattle.std.proofs.Common.{ap, refl, subst}
 use Rattle.scm_model.specs.declared.steps.Step.{Step}
+use Rattle.scm_trail.specs.Trailed.{Extends}
 use Rattle.scm_core.specs.Managed.{Managed}
 use Rattle.scm_book.proofs.Firsts.{adds_launch, nothing_wanted, some_first}
 use Rattle.scm_book.proofs.held.Held.take_launch.Goals as goal
@@ -10,7 +11,12 @@ push-requires-clause-room g c = c.requires.room (some_first c.args.self.now.mana
 pub returns-in-Some : goal.returns-in-Some
 returns-in-Some g c = (
   adds_launch c.args.self.now _ c.args.moment c.in-Some.process c.in-Some.ensures.0 c.in-Some.ensures.3
-      (c.push.ensures.entries ∙ ap (λ (step : Step). c.args.self.now.trail.entries ++ (c.args.moment, step) ∷ []) c.note.ensures)
+      (subst (λ (step : Step). Extends c.args.self.now.trail c.push.new.self (c.args.moment, step)) c.note.ensures (record {
+        past = c.push.ensures.past;
+        entries = c.push.ensures.entries;
+        text = c.push.ensures.text;
+        first = c.push.ensures.first;
+      }))
       c.push.ensures.room refl refl,
   record { lies = c.in-Some.ensures.1; rest = c.in-Some.ensures.2 },
 )

@@ -36,7 +36,7 @@ commit-requires-clause-content g c =
     c.deref_mut.result.now
     c.make_pending.new.self holds c.requires.turn.runs c.args.moment c.args.step.now.step c.in-Ok.told c.in-Ok.ensures.ok
     c.requires.may.own in
-    record { entry = p.entry; trail = p.trail; names = p.names; follows = p.follows; fits = p.fits }
+    record { entry = p.entry; last = p.last; names = p.names; follows = p.follows; fits = p.fits }
 
 pub returns-in-Ok-clause-ok : goal.returns-in-Ok-clause-ok
 returns-in-Ok-clause-ok g c =

@@ -1,5 +1,4 @@
-use Rattle.std.proofs.Common.{◌≡◌, ◌∙◌, ◌++◌, ◌∷◌, [], refl, sym, ap, subst}
-use Rattle.book_rule.specs.declared.view.View.{View}
+use Rattle.std.proofs.Common.{◌∙◌, refl, sym, ap, subst}
 use Rattle.scm_model.specs.Entries.{Entry, with_kept}
 use Rattle.book_rule.specs.Views.{emptied, having_made}
 use Rattle.scm_book.specs.declared.held.Held.{Held}
@@ -62,8 +61,7 @@ returns-in-Ok-clause-ok g c =
           (end_made g.K.Keeper.held g.K.Keeper.faults g.K.Keeper.settled c.args.self.now.turn (emptied c.args.seat.now.me.0)
           c.deref_mut.result.now
           c.make_pending.new.self
-          holds c.requires.turn.runs c.args.moment c.args.step.now.step c.in-Ok.told c.in-Ok.ensures.ok
-          ∙ ap (λ (x : View). x.seen ++ e ∷ []) (sym v)));
+          holds c.requires.turn.runs c.args.moment c.args.step.now.step c.in-Ok.told c.in-Ok.ensures.ok));
     }
 
 pub returns-in-Ok-clause-waits : goal.returns-in-Ok-clause-waits
@@ -76,7 +74,6 @@ returns-in-Ok-clause-new g c =
     let holds = subst (λ (x : Held _). Holds g.K.Keeper.held g.K.Keeper.faults g.K.Keeper.settled c.args.self.now.turn.opening
     c.args.seat.now.me.0.seen x)
     (sym c.deref_mut.ensures.value) c.requires.turn.holds in
-    let v = ap (λ m. m.0) c.hand_over-new.ensures.new_me in
     let e : Entry = (c.args.moment, with_kept c.args.step.now.step c.in-Ok.ensures.ok.append) in
     settled_waits c.args.self.now.turn c.hand_over-new.result c.commit.new.seat
     (having_made (way_of g.K.Keeper.held g.K.Keeper.faults g.K.Keeper.settled) c.args.self.now.turn.opening c.hand_over-new.result.me.0 e)
@@ -85,8 +82,7 @@ returns-in-Ok-clause-new g c =
     (c.commit.ensures.seat e (end_made g.K.Keeper.held g.K.Keeper.faults g.K.Keeper.settled c.args.self.now.turn
     (emptied c.args.seat.now.me.0) c.deref_mut.result.now
     c.make_pending.new.self
-    holds c.requires.turn.runs c.args.moment c.args.step.now.step c.in-Ok.told c.in-Ok.ensures.ok
-    ∙ ap (λ (x : View). x.seen ++ e ∷ []) (sym v))).me refl
+    holds c.requires.turn.runs c.args.moment c.args.step.now.step c.in-Ok.told c.in-Ok.ensures.ok)).me refl
 
 pub unlock-requires-clause-fits : goal.unlock-requires-clause-fits
 unlock-requires-clause-fits g c =

@@ -39,7 +39,7 @@ commit-requires-clause-content g c =
     c.deref_mut.result.now
     c.take_control.new.self holds c.requires.turn.runs c.args.moment (ControlTaken c.args.process)
     (answers.Control c.in-Ok.handed.order) c.in-Ok.ensures.ok.0 c.requires.may.own in
-    record { entry = p.entry; trail = p.trail; names = p.names; follows = p.follows; fits = p.fits }
+    record { entry = p.entry; last = p.last; names = p.names; follows = p.follows; fits = p.fits }
 
 pub returns-in-Ok-clause-ok : goal.returns-in-Ok-clause-ok
 returns-in-Ok-clause-ok g c =

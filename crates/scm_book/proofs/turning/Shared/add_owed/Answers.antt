@@ -52,7 +52,7 @@ commit-requires-clause-content g c =
     let p = stands_added g.K.Keeper.held g.K.Keeper.faults g.K.Keeper.settled c.args.self.now.turn c.args.seat.now.me.0
     c.deref_mut.result.now
     c.add-told.new.self holds c.requires.turn.runs c.args.moment c.args.owed c.add-told.result c.add-told.ensures c.requires.may.own in
-    record { entry = p.entry; trail = p.trail; names = p.names; follows = p.follows; fits = p.fits }
+    record { entry = p.entry; last = p.last; names = p.names; follows = p.follows; fits = p.fits }
 
 pub returns-clause-did : goal.returns-clause-did
 returns-clause-did g c =

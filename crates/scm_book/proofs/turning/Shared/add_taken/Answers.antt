@@ -1,10 +1,12 @@
 use Rattle.std.proofs.Common.{refl, sym, subst}
 use Rattle.scm_model.specs.declared.steps.Answer.TheVariants as answers
 use Rattle.scm_model.specs.declared.steps.Step.TheVariants.{LaunchTaken}
+use Rattle.book_rule.specs.Views.{having_made}
 use Rattle.scm_book.specs.declared.held.Held.{Held}
 use Rattle.scm_book.specs.declared.held.Owed.TheVariants as owes
-use Rattle.scm_book.specs.Holds.{Holds}
+use Rattle.scm_book.specs.Holds.{Holds, way_of}
 use Rattle.scm_book.proofs.Firsts.{launch_room, line_same}
+use Rattle.scm_book.proofs.Passes.{settled_waits}
 use Rattle.scm_book.proofs.Standing.{few_steps}
 use Rattle.scm_book.proofs.Turns.{did_add, end_added, stands_added}
 use Rattle.scm_book.proofs.turning.Shared.add_taken.Goals as goal
@@ -36,7 +38,7 @@ commit-requires-clause-content g c =
     c.deref_mut.result.now
     c.take_launch.new.self holds c.requires.turn.runs c.args.moment owes.LaunchTaken
     (answers.Launch c.in-Some.taken.process) c.in-Some.ensures.0 (λ n has. absurd has) in
-    record { entry = p.entry; trail = p.trail; names = p.names; follows = p.follows; fits = p.fits }
+    record { entry = p.entry; last = p.last; names = p.names; follows = p.follows; fits = p.fits }
 
 pub returns-clause-did : goal.returns-clause-did
 returns-clause-did g c =
@@ -54,3 +56,18 @@ returns-clause-did g c =
           c.deref_mut.result.now holds
           c.args.path.now c.take_launch.new.path c.in-Some.taken.words c.in-Some.ensures.1,
     )
+
+pub returns-clause-waits : goal.returns-clause-waits
+returns-clause-waits g c =
+    let holds = subst (λ (x : Held _). Holds g.K.Keeper.held g.K.Keeper.faults g.K.Keeper.settled c.args.self.now.turn.opening
+    c.args.seat.now.me.0.seen x)
+    (sym c.deref_mut.ensures.value) c.requires.turn.holds in
+    let did = did_add g.K.Keeper.held g.K.Keeper.faults g.K.Keeper.settled c.args.self.now.turn c.args.seat.now.me.0 c.deref_mut.result.now
+    c.take_launch.new.self holds c.requires.turn.runs c.args.moment owes.LaunchTaken
+    (answers.Launch c.in-Some.taken.process) c.in-Some.ensures.0 c.args.seat.now c.commit.new.seat refl c.commit.ensures.table
+    (c.commit.ensures.seat (c.args.moment, LaunchTaken) (end_added g.K.Keeper.held g.K.Keeper.faults g.K.Keeper.settled c.args.self.now.turn
+    c.args.seat.now.me.0 c.deref_mut.result.now c.take_launch.new.self holds c.requires.turn.runs c.args.moment owes.LaunchTaken
+    (answers.Launch c.in-Some.taken.process) c.in-Some.ensures.0)) in
+    settled_waits c.args.self.now.turn c.args.seat.now c.commit.new.seat
+    (having_made (way_of g.K.Keeper.held g.K.Keeper.faults g.K.Keeper.settled) c.args.self.now.turn.opening c.args.seat.now.me.0
+    (c.args.moment, LaunchTaken)) c.requires.turn.seat did.table did.me refl
