@@ -148,7 +148,7 @@ stands_same was held log at old new stands same = record {
       (sym same.entries) stands.logged;
 }
 
-ends_gone : (old new : Trailed) (log : List Entry) → Ends old log → LetsFrontGo old new → Ends new log
+pub ends_gone : (old new : Trailed) (log : List Entry) → Ends old log → LetsFrontGo old new → Ends new log
 ends_gone old new log ends goes = record {
   front = ends.front ++ goes.gone;
   is = ends.is ∙ ap (λ l. ends.front ++ l) goes.entries ∙ sym (append_assoc ends.front goes.gone new.entries);

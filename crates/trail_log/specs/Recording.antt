@@ -2,6 +2,7 @@
 use Rattle.std.specs.Prelude.{ℕ, ◌≡◌, ◌+◌, ◌≤◌, List, ◌++◌, Option, drop, length}
 use Rattle.std.specs.List.{flat_map}
 use Rattle.std.specs.Io.KnownBytes.{Keeps, append_known}
+use mathlib.Core.List.{IsPrefix}
 use Rattle.scm_model.specs.Entries.{Entry}
 use Rattle.step_code.specs.Codes.{code_of}
 use Rattle.scm_trail.specs.Trailed.{Ends, Trailed}
@@ -34,3 +35,11 @@ pub record Stands (was : Option (List ℕ)) (log : List Entry) (t : Trailed) (at
   pub within : IsWithin at t.parts
   pub fits : at ≤ length (flat_map code_of t.entries)
   pub logged : Keeps (append_known was (flat_map code_of log)) (append_known held (drop at (flat_map code_of t.entries)))
+
+-- The trail holds the end of a history. The log told what it had before the history, and tells a front of the codes since: so it is at each
+-- moment, and so it stays of a log that takes nothing more.
+pub record HasFront (was : Option (List ℕ)) (log : List Entry) (t : Trailed) (held : Option (List ℕ)) : Type 0 where
+  pub ends : Ends t log
+  pub front : List ℕ
+  pub begins : IsPrefix front (flat_map code_of log)
+  pub told : Keeps (append_known was front) held

@@ -3,8 +3,12 @@
 //! refuses.
 #![tactic(auto)]
 
+mod laws;
+mod recorder;
 mod recording;
 mod standing;
 
+pub use laws::a_log_is_a_front;
+pub use recorder::{Mode, RecordEnd, Recorder};
 pub use recording::record;
 pub use standing::{write_log, write_segment};
