@@ -7,8 +7,9 @@ use scm_text::{Items, OutOfMemory};
 use scm_trail::Trail;
 use std::alloc::Global;
 
-/// What a history came to that left so many services.
+/// What a history came to that left so many services. The trail holds all of it.
 pub fn summary_of(alloc: Global, trail: &Trail, services: u64) -> Result<Items<u8>, OutOfMemory>
+    requires { trail.now.past ≡ 0 }
     ensures { IfOk result (λ text. text ≡ summary trail.now.entries services) }
 {
     let calls = calls(alloc, trail)?;
