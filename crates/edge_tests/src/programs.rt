@@ -1,4 +1,4 @@
-use child_link::{Link, PipeFeed, PipeLink};
+use child_link::{Feed, Link, PipeFeed, PipeLink};
 use outside::{Source, write_all};
 use process_runner::{ProcessSpawner, SpawnFault, Spawned, Spawner};
 use scm_text::{Items, OutOfMemory, Text};
@@ -34,11 +34,11 @@ fn read_all<S: Source>(alloc: Global, source: &mut S) -> Option<Vec<u8>> {
 fn talk(alloc: Global, child: Spawned<PipeLink, PipeFeed>, text: &str) -> Option<Vec<u8>> {
     let Spawned { mut link, mut feed } = child;
     let is_written = write_all(&mut feed, text.as_bytes()).is_ok();
-    drop(feed);
+    let past = feed.end();
     let bytes = read_all(alloc, &mut link);
     let has_ended = link.wait().is_ok();
     drop(link);
-    if is_written && has_ended {
+    if is_written && past.faults == 0 && has_ended {
         bytes
     } else {
         drop(bytes);

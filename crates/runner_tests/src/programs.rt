@@ -158,7 +158,7 @@ fn obeys<R: Wait>(
     let granted = tells(at, caller, &[(Ask::Stops(2), 0)]);
     let sender = at.book.join_runner(caller);
     let quit = AfterLooks::new(1);
-    let ControlsEnded { how, spent } = send_controls(
+    let ControlsEnded { how, spent, past } = send_controls(
         at.rt, at.alloc, at.book, sender, process, feed, &CLOCK, &quit,
     );
     drop(spent);
@@ -169,6 +169,7 @@ fn obeys<R: Wait>(
     running == Some(4)
         && granted
         && how == ControlsSent::Shut
+        && past.faults == 0
         && stopped == Some(1)
         && waited.is_ok()
         && ended == EndedEnd::Stale

@@ -138,7 +138,23 @@ impl<'a> Sink for ObedientFeed<'a> {
     }
 }
 
-impl<'a> Feed for ObedientFeed<'a> {}
+/// It has ended.
+#[derive(Clone, Copy)]
+pub struct ObedientPast;
+
+impl<'a> Feed for ObedientFeed<'a> {
+    ghost use Rattle.std.specs.Prelude.{None};
+    ghost use Rattle.child_link.specs.Children.{feed_past};
+
+    type Past = ObedientPast;
+
+    ghost tells = { λ _. feed_past None 0 };
+
+    fn end(self) -> ObedientPast {
+        drop(self);
+        ObedientPast
+    }
+}
 
 /// Starts the children in their order, and nothing else.
 #[derive(Drop)]

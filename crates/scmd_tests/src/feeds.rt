@@ -77,24 +77,26 @@ fn writes<R: Wait>(
     ended == how && feed.bytes() == written
 }
 
-/// How the sending of a process's controls by a new pass ends.
+/// How the sending of a process's controls by a new pass ends that sends nothing.
 fn sends<R: Wait, Q: Quit>(
     at: &Site<'_, R>,
     caller: &mut Pass,
     process: u64,
     quit: &Q,
-) -> ControlsSent
+) -> Option<ControlsSent>
     requires { IsOf at.now.book.now caller.old }
     ensures book { IsOf at.now.book.now caller.new }
     ensures caller { caller.new.caller ≡ caller.old.caller }
 {
     let runner = at.book.join_runner(caller);
     let feed = MemorySink::new(at.alloc, Vec::new(at.alloc));
-    let ControlsEnded { how, spent } = send_controls(
+    let ControlsEnded { how, spent, past } = send_controls(
         at.rt, at.alloc, at.book, runner, process, feed, &CLOCK, quit,
     );
+    let is_empty = past.bytes().is_empty();
+    drop(past);
     drop(spent);
-    how
+    if is_empty { Some(how) } else { None }
 }
 
 /// The line of a control to stop.
@@ -180,12 +182,12 @@ pub fn stops_once<R: Wait>(at: &Site<'_, R>, caller: &mut Pass, spawner: &mut Me
     at.book.shut(at.rt);
     let stopped = stops(at, caller, spawner);
     let asked = BellQuit::new(at.book.bell());
-    let shut = sends(at, caller, 1, &asked) == ControlsSent::Shut;
+    let shut = sends(at, caller, 1, &asked) == Some(ControlsSent::Shut);
     let mut by = runner(at.book, caller);
     let written = is_written_once(at, &mut by);
     let fault = each_is_fault(at, caller, &mut by);
     drop(by);
-    let over = sends(at, caller, 2, &NoQuit) == ControlsSent::Over;
+    let over = sends(at, caller, 2, &NoQuit) == Some(ControlsSent::Over);
     stopped && shut && written && fault && over
 }
 
