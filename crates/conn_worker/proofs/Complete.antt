@@ -6,6 +6,8 @@ use Rattle.std.specs.Io.KnownBytes.{Appends, Consumes, IsAtEnd}
 use Rattle.outside.specs.Causes.{Rose}
 use Rattle.outside.specs.Written.{Begins}
 use Rattle.scm_model.specs.declared.calls.Reply.{Reply}
+use Rattle.scm_model.specs.declared.steps.Answer.TheVariants as answers
+use Rattle.scm_model.specs.declared.steps.Step.TheVariants.{Gone}
 use Rattle.rpc_session.specs.declared.state.Incoming.{Incoming}
 use Rattle.rpc_session.specs.Items.{StreamEnd, AtRest, Unfinished, BadPdu, TooLong, Told, items}
 use Rattle.book_rule.specs.declared.view.Opening.{Opening}
@@ -14,13 +16,14 @@ use Rattle.conn_desk.specs.declared.asked.DecodedRequest.{DecodedRequest}
 use Rattle.conn_desk.specs.declared.served.Served.{Served}
 use Rattle.conn_desk.specs.declared.served.Served.TheVariants as served
 use Rattle.conn_desk.specs.Connection.{AllBefore, AllServed, FirstServed, HasNoRoom, IsOpenEnd, IsServedFor, Reached}
-use Rattle.conn_worker.specs.Complete.{AnswersAll, EndsAs, FindsRoom, HasRoomThroughout, IsComplete, end_as}
+use Rattle.conn_worker.specs.Complete.{AnswersAll, EndsAs, FindsRoom, HadRoomThroughout, IsComplete, end_as}
 use Rattle.conn_desk.specs.Bodies.{asked, spoken}
 use Rattle.conn_desk.specs.Desks.{Chain}
 use Rattle.conn_desk.specs.Serves.{Leaves}
 use Rattle.conn_worker.specs.Connecting.{Connects, HasNoRoomFor}
 use Rattle.conn_worker.specs.Serving.{IsServed}
 use Rattle.conn_worker.proofs.Fronts.{front_of_all}
+use Rattle.conn_worker.proofs.Owning.{adds_made}
 
 -- ## Bytes
 
@@ -140,13 +143,13 @@ where_full full at read left_now done heard written how reached is =
 module _ (silent : Bool) (tells : ℕ → Type 0) (o : Opening) (k k' : Known) (left_now held held_now : Option (List ℕ)) where
   -- there was room for the next request
   not_full : (bytes : List ℕ) (how : Served) (c : Connects silent tells o k k' (Some bytes) left_now held held_now how)
-      → HasRoomThroughout silent tells o k bytes
+      → HadRoomThroughout silent tells o k k' bytes
       → how ≡ served.Full → HasNoRoom (HasNoRoomFor o) c.stood c.read c.done → ⊥
   not_full bytes how c room is none =
       let learnt : Learnt o c.last c.stood = subst (λ (h : Served). Leaves (Learnt o) h c.last c.stood) is c.leaves in
       false≢true (sym none.met ∙ room c.done none.next none.request
       (front_of_all c.read bytes (c.done ++ none.next ∷ []) (rest_of bytes c.read left_now c.consumed) none.follows) none.asks c.heard
-      c.last c.stood c.chain learnt)
+      c.last c.stood c.chain learnt (adds_made o c.stood k' c.moment (Gone k.caller) answers.Done c.goes).longer)
 
   pub answers_all : (left : Option (List ℕ)) (how : Served) → Connects silent tells o k k' left left_now held held_now how
       → AnswersAll silent tells o k left held held_now how
@@ -163,7 +166,7 @@ module _ (silent : Bool) (tells : ℕ → Type 0) (o : Opening) (k k' : Known) (
       }
 
   pub finds_room : (left : Option (List ℕ)) (how : Served) → Connects silent tells o k k' left left_now held held_now how
-      → FindsRoom (HasRoomThroughout silent tells o k) left how
+      → FindsRoom (HadRoomThroughout silent tells o k k') left how
   finds_room None how c = tt
   finds_room (Some bytes) how c = λ room is.
       not_full bytes how c room is

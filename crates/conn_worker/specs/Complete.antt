@@ -1,6 +1,7 @@
 -- A connection at which nothing failed ends as its input does, unless a request found no room, or memory ran out.
 use Rattle.std.specs.Prelude.{ℕ, Bool, ◌≡◌, ◌≢◌, ◌⊎◌, ◌<◌, ◌^◌, ◌++◌, true, List, [], ◌∷◌, length, Option, Some, IfSome}
 use Rattle.std.specs.Io.KnownBytes.{Appends}
+use mathlib.Core.List.{IsPrefix}
 use Rattle.outside.specs.Causes.{Rose}
 use Rattle.outside.specs.Written.{Begins}
 use Rattle.scm_model.specs.declared.calls.Reply.{Reply}
@@ -56,14 +57,15 @@ AnswersAll silent tells o k left held held_now how =
 
 -- ## Room
 
--- if the input is known and there is room for each of its requests, the connection isn't full
+-- if the input is known and there was room for each of its requests, the connection isn't full
 abbrev pub FindsRoom : (room : List ℕ → Type 0) → (left : Option (List ℕ)) → Served → Type 0
 FindsRoom room left how = IfSome left (λ bytes. room bytes → how ≢ served.Full)
 
--- whatever a pass may have seen after the first requests of these bytes, the limits have room for the next one
-abbrev pub HasRoomThroughout : (silent : Bool) → (tells : ℕ → Type 0) → Opening → Known → List ℕ → Type 0
-HasRoomThroughout silent tells o k bytes =
+-- Whatever the pass had seen after the first requests of these bytes, of all that it saw until its caller went, the limits had room for the
+-- next one. What others do after that plays no part.
+abbrev pub HadRoomThroughout : (silent : Bool) → (tells : ℕ → Type 0) → Opening → (k k' : Known) → List ℕ → Type 0
+HadRoomThroughout silent tells o k k' bytes =
     (done : List Incoming) (next : Incoming) (request : DecodedRequest) → Begins (done ++ next ∷ []) (items bytes).items
     → asked_by next ≡ Some request
     → (heard : List (Option Reply)) (last now : Known) → Chain (IsServed silent tells o) k last (asked done) heard → Learnt o last now
-    → room_behind o now.seen (step_for now.caller request) ≡ true
+    → IsPrefix now.seen k'.seen → room_behind o now.seen (step_for now.caller request) ≡ true

@@ -1,7 +1,7 @@
 ghost use Rattle.std.specs.Prelude.{◌≡◌, ◌≢◌, ◌≤◌};
 ghost use Rattle.scm_book.specs.Passes.{IsOf};
 ghost use Rattle.conn_desk.specs.Connection.{IsServedFor};
-ghost use Rattle.conn_worker.specs.Complete.{AnswersAll, FindsRoom, HasRoomThroughout, IsComplete};
+ghost use Rattle.conn_worker.specs.Complete.{AnswersAll, FindsRoom, HadRoomThroughout, IsComplete};
 ghost use Rattle.conn_worker.specs.Connecting.{Connects};
 
 use crate::desk::BookDesk;
@@ -47,9 +47,9 @@ pub fn serve_connection<R: Wait, K: Keeper, I: Source, O: Sink, C: Clock, W: Wai
     // Where it ends as its input does, each item of that is answered.
     ensures answers { AnswersAll W.silent (C.tells clock.now) book.now.opening pass
         (I.left input.old) (O.held output.old) (O.held output.new) result.how }
-    // Where there is room for each request, it isn't full.
-    ensures room { FindsRoom (HasRoomThroughout W.silent (C.tells clock.now) book.now.opening pass)
-        (I.left input.old) result.how }
+    // Where there was room for each request, whoever else is at the book, it isn't full.
+    ensures room { FindsRoom (HadRoomThroughout W.silent (C.tells clock.now) book.now.opening pass
+        result.spent) (I.left input.old) result.how }
 {
     let mut desk = BookDesk {
         rt,
