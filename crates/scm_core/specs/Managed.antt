@@ -1,5 +1,5 @@
 -- What contracts see of a manager.
-use Rattle.std.specs.Prelude.{ℕ, ◌≡◌, ◌≤◌, ◌+◌, List, Option, None, Some, option_map}
+use Rattle.std.specs.Prelude.{ℕ, ◌≡◌, ◌≤◌, ◌<◌, ◌+◌, ◌^◌, List, Option, None, Some, option_map}
 use Rattle.scm_text.specs.TextWithRoom.{TextWithRoom}
 use Rattle.scm_model.specs.declared.flat.Flat.{Flat}
 use Rattle.scm_model.specs.declared.flat.Limits.{Limits}
@@ -28,7 +28,7 @@ WasMadeFor room Tick = room ≡ Some Tick
 WasMadeFor room (Raised caller subtype) = room ≡ Some (Raised caller subtype)
 WasMadeFor room step = Unit {0}
 
--- no limit is greater than these
+-- no limit is greater than these; a step gives at most 2^12 of any number, and a number has 64 bits, so there are fewer than 2^50 steps
 pub record AreSmall (limits : Limits) : Type 0 where
   pub services : limits.services ≤ 1024
   pub handles : limits.handles ≤ 1024
@@ -36,8 +36,8 @@ pub record AreSmall (limits : Limits) : Type 0 where
   pub callers : limits.callers ≤ 64
   pub processes : limits.processes ≤ 128
   pub controls : limits.controls ≤ 16
-  pub steps : limits.steps ≤ 16777216
-  pub text : limits.text ≤ 268435456
+  pub steps : limits.steps < 2 ^ 50
+  pub text : limits.text ≤ 2 ^ 62
 
 -- the process of the service that a caller's handle is of
 abbrev pub process_held : Flat → ℕ → ℕ → Option ℕ
