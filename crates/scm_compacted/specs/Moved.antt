@@ -1,5 +1,6 @@
 -- What the move of a journal leaves of it, and of the store that it is moved to.
 use Rattle.std.specs.Prelude.{ℕ, ◌≡◌, ◌≢◌, ◌⊎◌, Bool, true, false, List, [], Option, Result, Ok, Err}
+use Rattle.outside.specs.Asked.{IsAsked, Paths, with_path}
 use Rattle.record_journal.specs.Keepers.{SettledSince}
 use Rattle.record_journal.specs.declared.keeper.KeepFault.{KeepFault}
 use Rattle.record_journal.specs.declared.keeper.KeepFault.TheVariants as keeps
@@ -55,6 +56,17 @@ HasMovedFrom old now result = IfHeld (λ (stood stands : List ℕ). ReadsJournal
 abbrev pub IsAskedLast : {Q : Type 0} → (old new : Q) → Result (Unit {0}) MoveFault → Type 0
 IsAskedLast old new (Err (faults.Journal fault)) = new ≡ old
 IsAskedLast old new result = Unit {0}
+
+-- the path was asked for, unless the store failed, perhaps at that
+abbrev pub AsksStore : {T : Type 0} → Option (List ℕ) → Paths → Paths → Result T KeepFault → Type 0
+AsksStore path old new (Err keeps.Failed) = IsAsked path old new
+AsksStore path old new result = new ≡ with_path old path
+
+-- the same at the end of a move; if the journal isn't read nothing was asked for
+abbrev pub AsksLast : Option (List ℕ) → Paths → Paths → Result (Unit {0}) MoveFault → Type 0
+AsksLast path old new (Err (faults.Journal fault)) = new ≡ old
+AsksLast path old new (Err (faults.Store keeps.Failed)) = IsAsked path old new
+AsksLast path old new result = new ≡ with_path old path
 
 -- once it is filled or not empty, a crash leaves what it holds, and nothing else; after a fault it does so too, unless the store failed
 abbrev pub FillsOnly : (before now : ℕ) → Result Bool KeepFault → (only settled : Type 0) → Type 0

@@ -1,5 +1,7 @@
-ghost use Rattle.std.specs.Prelude.{IfOk};
+ghost use Rattle.std.specs.Prelude.{◌⊎◌, IfOk, Some};
+ghost use Rattle.record_journal.specs.Crashes.{Crashing};
 ghost use Rattle.record_journal.specs.Keepers.{Settles};
+ghost use Rattle.record_journal.specs.Opening.{AsksAt, IsOpened};
 ghost use Rattle.journal_store.specs.Compacting.{IsOnly};
 ghost use Rattle.scm_compacted.specs.Compacted.{HasCompacted, HasJournalCause, IfHeld};
 ghost use Rattle.scm_compacted.specs.Compacted.{IsCompactOf, LeavesOnly, ReadsJournal};
@@ -24,6 +26,9 @@ pub fn compact_text_at<K: Keeper>(
     ensures cause { HasJournalCause (K.faults keeper.old) (K.faults keeper.new) result }
     ensures settled { Settles (K.faults keeper.old) (K.faults keeper.new) result
         (K.settled keeper.new) }
+    ensures moments { Crashing IsOpened
+        (K.held keeper.old) (K.crashes keeper.old) (K.crashes keeper.new) }
+    ensures asked { AsksAt (Some path.now) (K.asked keeper.old) (K.asked keeper.new) result }
 {
     let Restored {
         journal: _,
@@ -43,7 +48,11 @@ pub fn compact<Q: Compactor>(alloc: Global, store: &mut Q, path: &str) -> Result
     ensures cause { HasJournalCause (Q.faults store.old) (Q.faults store.new) result }
     // A crash after it leaves what the store holds, unless the store failed.
     ensures only { LeavesOnly (Q.faults store.old) (Q.faults store.new) result
-        (IsOnly (Q.held store.new) (Q.leaves store.new)) (Q.settled store.new) }
+        (IsOnly (Q.held store.new) (Q.crashes store.new).leaves) (Q.settled store.new) }
+    // A crash on the way leaves what was there, what is read as it, or its compact text.
+    ensures moments { Crashing (λ x y. IsOpened x y ⊎ IsCompactOf (Some x) y)
+        (Q.held store.old) (Q.crashes store.old) (Q.crashes store.new) }
+    ensures asked { AsksAt (Some path.now) (Q.asked store.old) (Q.asked store.new) result }
 {
     let text = compact_text_at(alloc, store, path)?;
     let how = store.replace(text.as_slice());

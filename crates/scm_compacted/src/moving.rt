@@ -1,8 +1,11 @@
-ghost use Rattle.std.specs.Prelude.{◌≡◌, ◌==◌, IfOk, IfSome, length};
+ghost use Rattle.std.specs.Prelude.{◌≡◌, ◌⊎◌, ◌==◌, IfOk, IfSome, Some, length};
 ghost use Rattle.std.specs.Io.KnownBytes.{Keeps};
+ghost use Rattle.record_journal.specs.Crashes.{Crashing, Same};
 ghost use Rattle.record_journal.specs.Keepers.{Settles};
+ghost use Rattle.record_journal.specs.Opening.{AsksAt, IsOpened};
 ghost use Rattle.journal_store.specs.Compacting.{HasKeepCause, IsOnly};
-ghost use Rattle.scm_compacted.specs.Compacted.{HasJournalCause};
+ghost use Rattle.scm_compacted.specs.Compacted.{HasJournalCause, IsCompactOf};
+ghost use Rattle.scm_compacted.specs.Moved.{AsksLast, AsksStore};
 ghost use Rattle.scm_compacted.specs.Moved.{FillsOnly, HasFilled, HasMovedFrom, HasMovedInto};
 ghost use Rattle.scm_compacted.specs.Moved.{IsAskedLast, MovesOnly, journal_part, store_part};
 
@@ -31,6 +34,9 @@ fn opens_empty<Q: Compactor>(store: &mut Q, path: &str) -> Result<bool, KeepFaul
     ensures cause { HasKeepCause (Q.faults store.old) (Q.faults store.new) result }
     ensures settled { Settles (Q.faults store.old) (Q.faults store.new) result
         (Q.settled store.new) }
+    ensures moments { Crashing Same
+        (Q.held store.old) (Q.crashes store.old) (Q.crashes store.new) }
+    ensures asked { AsksStore (Some path.now) (Q.asked store.old) (Q.asked store.new) result }
 {
     let Ok(()) = store.open_at(Some(path)) else {
         return Err(KeepFault::Failed);
@@ -46,7 +52,10 @@ fn fill<Q: Compactor>(store: &mut Q, path: &str, bytes: &[u8]) -> Result<bool, K
     ensures filled { HasFilled bytes.now (Q.held store.old) (Q.held store.new) result }
     ensures cause { HasKeepCause (Q.faults store.old) (Q.faults store.new) result }
     ensures only { FillsOnly (Q.faults store.old) (Q.faults store.new) result
-        (IsOnly (Q.held store.new) (Q.leaves store.new)) (Q.settled store.new) }
+        (IsOnly (Q.held store.new) (Q.crashes store.new).leaves) (Q.settled store.new) }
+    ensures moments { Crashing (λ x y. Same x y ⊎ Same bytes.now y)
+        (Q.held store.old) (Q.crashes store.old) (Q.crashes store.new) }
+    ensures asked { AsksStore (Some path.now) (Q.asked store.old) (Q.asked store.new) result }
 {
     if !opens_empty(store, path)? {
         return Ok(false);
@@ -78,7 +87,16 @@ pub fn move_journal<K: Keeper, Q: Compactor>(
         (journal_part result) (K.settled keeper.new) }
     // A crash after it leaves what the store holds, unless the store failed or wasn't asked.
     ensures only { MovesOnly (Q.faults store.old) (Q.faults store.new) result
-        (IsOnly (Q.held store.new) (Q.leaves store.new)) (Q.settled store.new) }
+        (IsOnly (Q.held store.new) (Q.crashes store.new).leaves) (Q.settled store.new) }
+    // A crash on the way leaves the journal, or what is read as it; and of the store what was
+    // there, or the compact text of the journal.
+    ensures keeper_moments { Crashing IsOpened
+        (K.held keeper.old) (K.crashes keeper.old) (K.crashes keeper.new) }
+    ensures moments { Crashing (λ x y. Same x y ⊎ IsCompactOf (K.held keeper.old) y)
+        (Q.held store.old) (Q.crashes store.old) (Q.crashes store.new) }
+    ensures keeper_asked { AsksAt (Some from.now)
+        (K.asked keeper.old) (K.asked keeper.new) (journal_part result) }
+    ensures asked { AsksLast (Some to.now) (Q.asked store.old) (Q.asked store.new) result }
 {
     match compact_text_at(alloc, keeper, from) {
         Ok(text) => {

@@ -1,7 +1,9 @@
-use Rattle.std.proofs.Common.{List, Option, ℕ, Err, IfSome, refl, subst, sym}
+use Rattle.std.proofs.Common.{List, Option, ℕ, Err, IfSome, Some, refl, subst, sym}
 use Rattle.std.proofs.lemmas.Result.{err_from_is_err_and}
-use Rattle.record_journal.specs.Opening.{LeavesAll, Restores}
+use Rattle.record_journal.specs.Opening.{AsksAt, LeavesAll, Restores}
 use Rattle.record_journal.specs.declared.opening.JournalFault.{JournalFault}
+use Rattle.record_journal.specs.declared.opening.Restored.{Restored}
+use Rattle.scm_compacted.proofs.Asking.{asks_still}
 use Rattle.scm_compacted.proofs.Opened.{compact_of, not_opened, opened_well, opened_without_memory}
 use Rattle.scm_compacted.proofs.compacting.compact_text_at.Goals as goal
 
@@ -29,3 +31,13 @@ pub returns-in-Err-clause-journal : goal.returns-in-Err-clause-journal
 returns-in-Err-clause-journal g c =
     opened_without_memory (g.K.Keeper.held c.args.keeper.now) (g.K.Keeper.held c.open_journal.new.keeper) c.in_ok-configs.field-0
     c.in_ok-configs.ensures.answer c.in_ok-configs.ensures.leaves
+
+pub returns-in_err-configs-clause-asked : goal.returns-in_err-configs-clause-asked
+returns-in_err-configs-clause-asked g c =
+    let p = err_from_is_err_and c.from_residual.result c.from_residual.ensures.1 in
+    let path = Some c.args.path.now in
+    let old = g.K.Keeper.asked c.args.keeper.now in
+    let now = g.K.Keeper.asked c.open_journal.new.keeper in
+    rw p.1
+    (asks_still Restored (List ℕ) path old now p.0
+    (subst (λ (fault : JournalFault). AsksAt {T = Restored} path old now (Err fault)) (sym p.2) c.in_err-configs.ensures.asked))
