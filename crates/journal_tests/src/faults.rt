@@ -68,6 +68,8 @@ const FAILS_AT_3: Fate = Fate::Fails { done: 3 };
 
 const FAILS_AT_5: Fate = Fate::Fails { done: 5 };
 
+const FAILS_AT_18: Fate = Fate::Fails { done: 18 };
+
 const FAILS_AT_99: Fate = Fate::Fails { done: 99 };
 
 /// What becomes of three calls, and how many removals are refused by them.
@@ -146,7 +148,7 @@ fn is_left(alloc: Global, names: &str, fates: &[Fate], want: &[u8]) -> Result<bo
 }
 
 /// The names of the services, what becomes of the calls, and what is left.
-const ROWS: [(&str, [Fate; 2], &[u8]); 8] = [
+const ROWS: [(&str, [Fate; 2], &[u8]); 9] = [
     ("a", [FAILS_AT_0, Fate::Succeeds], &[]),
     (
         "a",
@@ -162,6 +164,14 @@ const ROWS: [(&str, [Fate; 2], &[u8]); 8] = [
     ),
     ("ab", [FAILS_AT_5, FAILS_AT_0], &[0x53, 0x43, 0x4D, 0x4A, 2]),
     ("ab", [FAILS_AT_5, FAILS_AT_1], &[]),
+    // both appends fail, and a part of the piece of the first change stands
+    (
+        "ab",
+        [FAILS_AT_18, FAILS_AT_0],
+        &[
+            0x53, 0x43, 0x4D, 0x4A, 2, 0, 0, 0, 3, 6, 0, 0, 0, 1, 0, 0, 0, 0x61,
+        ],
+    ),
     (
         "ab",
         [FAILS_AT_5, Fate::Succeeds],

@@ -59,13 +59,22 @@ fn come_to_fates(keeper: &mut MemoryKeeper) -> bool {
     true
 }
 
+/// Whether it was opened at the journal's path, and then without one.
+fn has_paths(keeper: &MemoryKeeper) -> bool {
+    match keeper.asked() {
+        [Some(path), None] => path.as_str() == "journal",
+        _ => false,
+    }
+}
+
 #[test]
 fn calls_come_to_their_fates_in_order(rt: HostRuntime) -> Result<(), Fail> {
     let mut fates = Vec::new(rt.alloc());
     list_fates(&mut fates)?;
     let mut keeper = MemoryKeeper::new(Vec::from_slice(rt.alloc(), b"abc")?, fates);
     let come_to_fates = come_to_fates(&mut keeper);
+    let has_paths = has_paths(&keeper);
     drop(keeper);
-    assert!(rt; come_to_fates);
+    assert!(rt; come_to_fates && has_paths);
     Ok(())
 }
