@@ -1,5 +1,5 @@
 -- What a book's close hands out, and what its calls are told.
-use Rattle.std.proofs.Common.{◌≡◌, ◌≢◌, ℕ, List, length, Option, sym, ap, ◌∙◌, subst}
+use Rattle.std.proofs.Common.{◌≡◌, ◌≢◌, ℕ, All, List, [], length, Option, Some, sym, ap, ◌∙◌, subst}
 use mathlib.Core.List.{IsPrefix}
 use Rattle.scm_model.specs.declared.flat.Flat.{Flat}
 use Rattle.scm_model.specs.declared.steps.Answer.{Answer}
@@ -8,9 +8,9 @@ use Rattle.scm_model.specs.declared.steps.Step.TheVariants.{Gone}
 use Rattle.scm_model.specs.Entries.{Entry, text_in}
 use Rattle.scm_trail.specs.Trailed.{Trailed}
 use Rattle.scm_trail.proofs.Histories.{ends_whole}
-use Rattle.record_journal.specs.Bearing.{Bears, and_changes}
-use Rattle.record_journal.specs.Keepers.{SettledSince}
-use Rattle.scm_history.specs.Kept.{kept_changes}
+use Rattle.scm_trail.specs.Segments.{IsCoded}
+use Rattle.scm_history.specs.Outcomes.{outcomes}
+use Rattle.journal_lasting.proofs.Turning.{closed}
 use Rattle.scm_rules.specs.Histories.{Legal, state}
 use Rattle.atomic_table.specs.declared.shared.Seat.{Seat}
 use Rattle.std.proofs.Common.{Box}
@@ -19,20 +19,36 @@ use Rattle.book_rule.specs.declared.view.Opening.{Opening}
 use Rattle.book_rule.specs.declared.view.View.{View}
 use Rattle.book_rule.specs.Seats.{Identity}
 use Rattle.book_rule.specs.Seats.{Closes as Ends}
+use Rattle.scm_book.specs.Ghosts.{Ghosts}
 use Rattle.scm_book.specs.declared.book.Closed.{Closed}
 use Rattle.scm_book.specs.declared.held.Held.{Held}
-use Rattle.scm_book.specs.Holds.{Opens, RoseBy, failures_in, way_of, stood_at}
-use Rattle.scm_book.specs.Calls.{Closes, Goes}
+use Rattle.scm_book.specs.Holds.{Holds, Opens, kept_after, way_of, stood_at}
+use Rattle.scm_book.specs.Calls.{Closes, Goes, HasKept}
 use Rattle.scm_book.specs.Passes.{Known, Made}
 use Rattle.scm_book.specs.Turns.{known}
 use Rattle.scm_book.proofs.Coming.{shaped}
+use Rattle.scm_book.proofs.Leaving.{only_kept}
 
-module _ {K : Type 0} (tells : K → Option (List ℕ)) (faulted : K → ℕ) (IsSettled : K → Type 0) (b : Identity)
+has_kept : {K : Type 0} (ghosts : Ghosts K) (o : Opening) (log : List Entry) (h : Held K) (keeper : K) → keeper ≡ h.keeper
+    → Holds ghosts o log h → HasKept ghosts o log keeper
+has_kept ghosts o log h keeper is holds =
+    let kept = closed (kept_after o log) h.journal (ghosts.held h.keeper) holds.journal in
+    subst (λ k. HasKept ghosts o log k) (sym is) (record {
+      holds = kept;
+      lasts = holds.lasts;
+      only = only_kept (stood_at o) (outcomes o.limits o.first log) o.moment (ghosts.held h.keeper) (ghosts.crashes h.keeper) kept
+          holds.lasts;
+      faults = holds.faults;
+      settled = holds.settled;
+      asked = holds.asked;
+    })
+
+module _ {K : Type 0} (ghosts : Ghosts K) (b : Identity)
     (s : Seat (Option (Box (Held K) Global)) View)
-    (h : Held K) (ends : Ends (way_of tells faulted IsSettled) b s h) where
+    (h : Held K) (ends : Ends (way_of ghosts) b s h) where
   pub closes : (c : Closed K) → c.trail ≡ h.trail → c.keeper ≡ h.keeper → c.services ≡ length h.manager.flat.services
-      → Closes tells faulted IsSettled b.opening (known s) c
-  closes c trail keeper services =
+      → All IsCoded c.trail.entries → Closes ghosts b.opening (known s) c
+  closes c trail keeper services coded =
       let log = ends.log in
       let whole : h.trail.entries ≡ log = ends_whole h.trail log ends.fits.ends ends.fits.whole in
       let is : c.trail.entries ≡ log = ap (λ (t : Trailed). t.entries) trail ∙ whole in record {
@@ -43,14 +59,9 @@ module _ {K : Type 0} (tells : K → Option (List ℕ)) (faulted : K → ℕ) (I
         alone = λ only. is ∙ (ends.alone only).seen;
         services = services ∙ (ap (λ (f : Flat). length f.services) ends.fits.manager
             ∙ ap (λ (l : List Entry). length (state b.opening.limits b.opening.first l).services) (sym is));
-        journal = h.journal;
-        bears = subst (λ (l : List Entry). Bears (and_changes (stood_at b.opening) (kept_changes b.opening.limits b.opening.first l))
-            h.journal (tells c.keeper)) (sym is)
-            (subst (λ (k : K). Bears (and_changes (stood_at b.opening) (kept_changes b.opening.limits b.opening.first log))
-            h.journal (tells k)) (sym keeper) ends.fits.journal);
-        faults = subst (λ (l : List Entry). RoseBy (failures_in l) b.opening.faults (faulted c.keeper)) (sym is)
-            (subst (λ (k : K). RoseBy (failures_in log) b.opening.faults (faulted k)) (sym keeper) ends.fits.faults);
-        settled = subst (λ (k : K). SettledSince b.opening.faults (faulted k) (IsSettled k)) (sym keeper) ends.fits.settled;
+        coded = coded;
+        keeps = subst (λ (l : List Entry). HasKept ghosts b.opening l c.keeper) (sym is)
+            (has_kept ghosts b.opening log h c.keeper keeper ends.fits);
       }
 
 -- a going is told that it was done

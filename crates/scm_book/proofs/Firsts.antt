@@ -21,6 +21,7 @@ use Rattle.scm_rules.specs.Launches.{first_wanted, launch_taken, launch_told}
 use Rattle.scm_rules.specs.Steps.{finished, step_of, wants_launch}
 use Rattle.scm_tables.specs.Lines.{first_line}
 use Rattle.scm_core.specs.Managed.{Managed}
+use Rattle.scm_book.specs.Ghosts.{Ghosts}
 use Rattle.scm_book.specs.declared.held.Held.{Held}
 use Rattle.scm_book.specs.Steps.{Adds}
 use Rattle.scm_book.specs.Holds.{Holds, Runs, way_of}
@@ -73,14 +74,14 @@ nothing_wanted f is = none_first f.wanted is
 
 -- ## At the end of a history
 
-module _ {K : Type 0} (tells : K → Option (List ℕ)) (faulted : K → ℕ) (IsSettled : K → Type 0) (o : Opening) (log : List Entry) (h : Held K)
-    (holds : Holds tells faulted IsSettled o log h) where
+module _ {K : Type 0} (ghosts : Ghosts K) (o : Opening) (log : List Entry) (h : Held K)
+    (holds : Holds ghosts o log h) where
   pub wanted_same : wants_launch h.manager.flat.wanted ≡ is_wanted_behind o log
   wanted_same = ap (λ (f : Flat). wants_launch f.wanted) holds.manager
 
   -- where a launch is wanted, there is memory for the entry that takes it
   pub launch_room : Runs o log → (moment : ℕ) → IsTrue (wants_launch h.manager.flat.wanted) → 1 ≤ h.trail.room
-  launch_room runs moment wanted = owed_room tells faulted IsSettled o log h holds runs moment owes.LaunchTaken (sym wanted_same ∙ wanted)
+  launch_room runs moment wanted = owed_room ghosts o log h holds runs moment owes.LaunchTaken (sym wanted_same ∙ wanted)
 
   pub line_same : (path path' : TextWithRoom) (words : List (List ℕ)) →
       HandsOut (first_line h.manager.flat h.manager.flat.wanted) path path' words → HandsOut (line_behind o log) path path' words
@@ -88,21 +89,21 @@ module _ {K : Type 0} (tells : K → Option (List ℕ)) (faulted : K → ℕ) (I
 
 -- ## A turn
 
-module _ {K : Type 0} (tells : K → Option (List ℕ)) (faulted : K → ℕ) (IsSettled : K → Type 0) (b : Identity)
+module _ {K : Type 0} (ghosts : Ghosts K) (b : Identity)
     (s s1 : Seat (Option (Box (Held K) Global)) View)
-    (h : Box (Held K) Global) (enters : Enters (way_of tells faulted IsSettled) b s s1 h) where
+    (h : Box (Held K) Global) (enters : Enters (way_of ghosts) b s s1 h) where
   pub did_launch : (s2 : Seat (Option (Box (Held K) Global)) View) (moment : ℕ) (path path' : TextWithRoom) (r : Option TakenLaunch)
-      → DidLaunch tells faulted IsSettled b s1 s2 moment path path' r
+      → DidLaunch ghosts b s1 s2 moment path path' r
       → TakesBy b.opening (known s) moment path path' r (known s2)
   did_launch s2 moment path path' None did = (
-    left_learnt tells faulted IsSettled b s s1 h enters s2 did.0,
+    left_learnt ghosts b s s1 h enters s2 did.0,
     subst (λ (l : List Entry). is_wanted_behind b.opening l ≡ false)
         (sym (ap (λ m. m.0.seen) did.0.me)) did.1,
     did.2,
   )
   did_launch s2 moment path path' (Some taken) did =
       let e : Entry = (moment, LaunchTaken) in
-      let made = did_made tells faulted IsSettled b s s1 h enters s2 moment LaunchTaken (answers.Launch taken.process) did.0 in
+      let made = did_made ghosts b s s1 h enters s2 moment LaunchTaken (answers.Launch taken.process) did.0 in
       let now : s2.me.0.seen ≡ s1.me.0.seen ++ e ∷ [] = ap (λ m. m.0.seen) did.0.me in
       let same : made.before ≡ s1.me.0.seen = append_cancel_right made.before s1.me.0.seen (e ∷ []) (sym made.seen ∙ now) in record {
         made = made;

@@ -1,5 +1,5 @@
 -- What the rule of turns asks of an entry that may come.
-use Rattle.std.proofs.Common.{◌≡◌, ◌≢◌, ℕ, ◌+◌, ◌≤◌, ◌⊎◌, inl, inr, true, false, IsTrue, List, [], ◌∷◌, ◌++◌, length, length-append, refl}
+use Rattle.std.proofs.Common.{◌≡◌, ◌≢◌, ℕ, ◌+◌, ◌<◌, ◌≤◌, ◌^◌, ◌⊎◌, inl, inr, true, false, IsTrue, List, [], ◌∷◌, ◌++◌, length, length-append, refl}
 use Rattle.std.proofs.Common.{ap, arith, ne_eqb, Option}
 use Rattle.scm_model.specs.declared.flat.Flat.{Flat}
 use Rattle.scm_model.specs.declared.flat.Limits.{Limits}
@@ -15,6 +15,7 @@ use Rattle.scm_rules.specs.Steps.{may}
 use Rattle.scm_history.specs.Callers.{CallersStay, takes_leave}
 use Rattle.book_rule.specs.declared.view.Opening.{Opening}
 use Rattle.book_rule.specs.Ways.{Has, MadeAt, NamedAt, Follows}
+use Rattle.scm_book.specs.Ghosts.{Ghosts}
 use Rattle.scm_book.specs.Naming.{names_made, all_names, whose_after}
 use Rattle.scm_book.specs.Holds.{Runs, way_of}
 use Rattle.scm_book.proofs.Last.{anew, behind, callers_stay, stays, within}
@@ -43,7 +44,7 @@ contradicts : (l : Limits) (f : Flat) (n : Name) (log front rest : List Entry) �
     → has_name l f n log ≡ false → ⊥
 contradicts l f n log front rest is there none = let same = ap (has_name l f n) is in absurd cc
 
-module _ {K : Type 0} (tells : K → Option (List ℕ)) (faulted : K → ℕ) (IsSettled : K → Type 0) (o : Opening) (log : List Entry) (e : Entry)
+module _ {K : Type 0} (ghosts : Ghosts K) (o : Opening) (log : List Entry) (e : Entry)
     (runs : Runs o log)
     (ok : IsTrue (may o.limits (state o.limits o.first log) e.0 e.1))
     (free : (is_owed e.1 ≡ true) ⊎ IsTrue (has_room o.limits (state o.limits o.first log) (length log) (text_in log) e.1)) where
@@ -57,17 +58,17 @@ module _ {K : Type 0} (tells : K → Option (List ℕ)) (faulted : K → ℕ) (I
   counted = let w = within o.limits o.first runs.opens.begins (log ++ e ∷ []) legal_then in let n = length-append log (e ∷ []) in
       omega arith
 
-  pub short : length log + 1 ≤ 16777216
+  pub short : length log + 1 < 2 ^ 50
   short = let c = counted in let small = runs.opens.small.steps in omega arith
 
-  new_name : (n : Name) → Has n (names_made (state o.limits o.first log) e.1) → (k : ℕ) → MadeAt (way_of tells faulted IsSettled) o log k n
+  new_name : (n : Name) → Has n (names_made (state o.limits o.first log) e.1) → (k : ℕ) → MadeAt (way_of ghosts) o log k n
       → ⊥
   new_name n has k at =
       let no = not_before o.limits o.first n log e (anew o.limits o.first runs.opens.begins log e legal_then) has in
       contradicts o.limits o.first n log at.front (at.entry ∷ at.rest) at.is
       (made_at o.limits o.first n at.front at.entry at.rest at.made) no
 
-  unnamed : (n : Name) → Has n (names_made (state o.limits o.first log) e.1) → (k : ℕ) → NamedAt (way_of tells faulted IsSettled) log k n
+  unnamed : (n : Name) → Has n (names_made (state o.limits o.first log) e.1) → (k : ℕ) → NamedAt (way_of ghosts) log k n
       → ⊥
   unnamed n has k at =
       let no = not_before o.limits o.first n log e (anew o.limits o.first runs.opens.begins log e legal_then) has in
@@ -76,7 +77,7 @@ module _ {K : Type 0} (tells : K → Option (List ℕ)) (faulted : K → ℕ) (I
       (made_more o.limits o.first n at.front (at.entry ∷ at.rest) (named_before o.limits o.first n at.front at.entry stands at.named))
       no
 
-  pub follows : Follows (way_of tells faulted IsSettled) o log e
+  pub follows : Follows (way_of ghosts) o log e
   follows =
       let stay = callers_stay o.limits o.first runs.opens.begins log e legal_then in
       record {

@@ -12,6 +12,7 @@ use Rattle.book_rule.specs.Ways.{Has}
 use Rattle.atomic_table.specs.declared.shared.Seat.{Seat}
 use Rattle.book_rule.specs.declared.view.View.{View}
 use Rattle.book_rule.specs.Seats.{Forks, Identity, Merges, StillClaims, Waits}
+use Rattle.scm_book.specs.Ghosts.{Ghosts}
 use Rattle.scm_book.specs.declared.held.Held.{Held}
 use Rattle.scm_book.specs.Joins.{TakesIn, accompanied, fresh}
 use Rattle.scm_book.specs.Holds.{Opens, way_of}
@@ -64,11 +65,11 @@ keeps_on o k mid k' first then = record {
   plans = λ plan has. then.plans plan (first.plans plan has);
 }
 
-module _ {K : Type 0} (tells : K → Option (List ℕ)) (faulted : K → ℕ) (IsSettled : K → Type 0) (b : Identity) (opens : Opens b.opening)
+module _ {K : Type 0} (ghosts : Ghosts K) (b : Identity) (opens : Opens b.opening)
     (s s' r : Seat (Option (Box (Held K) Global)) View) where
-  pub merged_keeps : Merges s r s' → StillClaims (way_of tells faulted IsSettled) b s s' → KeepsAll b.opening (known s) (known s')
+  pub merged_keeps : Merges s r s' → StillClaims (way_of ghosts) b s s' → KeepsAll b.opening (known s) (known s')
   merged_keeps merges still = keeps_within b.opening opens (known s) (known s') merges.this still.log still.within still.run.legal
-      (claims_in tells faulted IsSettled b.opening still.log s.table_id s.me.0 still.claims)
+      (claims_in ghosts b.opening still.log s.table_id s.me.0 still.claims)
       (ap (λ m. m.0.names) merges.me) (ap (λ m. m.0.caller) merges.me)
 
 -- ## What they have seen

@@ -11,6 +11,7 @@ use Rattle.scm_model.specs.declared.steps.Step.TheVariants.{ControlTaken}
 use Rattle.scm_model.specs.Entries.{with_kept}
 use Rattle.scm_rules.specs.Controls.{next_order}
 use Rattle.scm_rules.specs.Steps.{step_of}
+use Rattle.scm_book.specs.Ghosts.{Ghosts}
 use Rattle.scm_book.specs.declared.controlling.HandedOrder.{HandedOrder}
 use Rattle.scm_book.specs.declared.held.Held.{Held}
 use Rattle.scm_book.specs.Reporting.{HandsOver, HoldsControl}
@@ -18,9 +19,9 @@ use Rattle.scm_book.specs.Steps.{Grows, IsPrepared, Makes}
 use Rattle.scm_book.proofs.ReportsMade.{order_answer}
 use Rattle.scm_book.proofs.Steps.{answer_one, made}
 
-module _ {K : Type 0} (tells : K → Option (List ℕ)) (faulted : K → ℕ) (IsSettled : K → Type 0) (h mid h' : Held K) (process moment : ℕ)
+module _ {K : Type 0} (ghosts : Ghosts K) (h mid h' : Held K) (process moment : ℕ)
     (append : Kept)
-    (step : Step) (is : step ≡ ControlTaken process) (prepared : IsPrepared tells faulted IsSettled h mid step append) where
+    (step : Step) (is : step ≡ ControlTaken process) (prepared : IsPrepared ghosts h mid step append) where
   -- the answer is the order that was sent next
   order_told : (told : Answer) (order : Order) → Grows mid h' moment (with_kept step append) told
       → next_order mid.manager.flat process ≡ Some order → told ≡ answers.Control order
@@ -36,12 +37,12 @@ module _ {K : Type 0} (tells : K → Option (List ℕ)) (faulted : K → ℕ) (I
   pub handed_over : (name name' : TextWithRoom) (told : Answer) (handed : HandedOrder) → Grows mid h' moment (with_kept step append) told
       → h'.journal ≡ mid.journal → h'.keeper ≡ mid.keeper → mid.trail.room ≤ h'.trail.room + 1
       → HandsOver mid.manager.flat process name name' handed
-      → HoldsControl tells faulted IsSettled h h' moment process name name' handed
+      → HoldsControl ghosts h h' moment process name name' handed
   handed_over name name' told handed grows journal keeper room hands =
-      let all = made h mid h' tells faulted IsSettled step append moment told prepared grows journal keeper room in
-      let so : Makes tells faulted IsSettled h h' moment (ControlTaken process) told =
-      subst (λ (s : Step). Makes tells faulted IsSettled h h' moment s told) is all in (
-        subst (λ (a : Answer). Makes tells faulted IsSettled h h' moment (ControlTaken process) a)
+      let all = made h mid h' ghosts step append moment told prepared grows journal keeper room in
+      let so : Makes ghosts h h' moment (ControlTaken process) told =
+      subst (λ (s : Step). Makes ghosts h h' moment s told) is all in (
+        subst (λ (a : Answer). Makes ghosts h h' moment (ControlTaken process) a)
             (order_told told handed.order grows hands.order) so,
         subst (λ (f : Flat). HandsOver f process name name' handed) prepared.none.flat hands,
       )

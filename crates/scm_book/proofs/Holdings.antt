@@ -1,11 +1,10 @@
 -- What the holder has stands at the end of the longer history.
 use Rattle.std.proofs.Common.{◌≡◌, ℕ, ◌+◌, ◌≤◌, true, List, [], ◌∷◌, ◌++◌, length, length-append, Option, None, refl, sym, ap, ◌∙◌, subst}
-use Rattle.std.proofs.Common.{arith, inl, inr}
-use Rattle.std.proofs.lemmas.List.Sums.{fold-append}
+use Rattle.std.proofs.Common.{Some, arith, false, inl, inr}
+use Rattle.std.specs.Prelude.{IfSome, option_map}
 use Rattle.scm_model.specs.declared.flat.Flat.{Flat}
 use Rattle.scm_model.specs.declared.flat.Limits.{Limits}
 use Rattle.scm_model.specs.declared.steps.Answer.{Answer}
-use Rattle.scm_model.specs.declared.steps.Change.{Change}
 use Rattle.scm_model.specs.declared.steps.Kept.{Kept}
 use Rattle.scm_model.specs.declared.steps.Step.{Step}
 use Rattle.scm_model.specs.declared.steps.Step.TheVariants.{Call}
@@ -15,17 +14,22 @@ use Rattle.scm_rules.specs.Histories.{state}
 use Rattle.scm_rules.specs.Owed.{owed}
 use Rattle.scm_rules.specs.Room.{debt, is_owed}
 use Rattle.scm_runs.proofs.Histories.{state_appended}
-use Rattle.scm_history.specs.Kept.{kept_change, kept_changes, one_or_none}
-use Rattle.scm_history.proofs.Kept.{law_of_kept}
+use Rattle.scm_history.specs.Outcomes.{Outcome, no_outcome, outcome_in, outcomes}
+use Rattle.scm_history.proofs.Outcomes.{law_of_outcomes}
+use Rattle.journal_lasting.specs.Lasting.{HasLasted, TurnLeaves, stood_after, with_outcome}
+use Rattle.journal_lasting.proofs.Turning.{bears_behind, same_bears, turn_none}
 use Rattle.scm_owed.proofs.Effects.{debt_owed}
 use Rattle.book_rule.specs.declared.view.Opening.{Opening}
-use Rattle.record_journal.specs.Bearing.{Bears, Stood, and_change, and_changes}
+use Rattle.record_journal.specs.Bearing.{Bears, Stands, Stood}
+use Rattle.record_journal.specs.declared.journal.Journal.{Journal}
 use Rattle.record_journal.specs.Keepers.{SettledSince}
 use Rattle.scm_trail.proofs.Histories.{ends_more, ends_same}
+use Rattle.scm_book.specs.Ghosts.{Ghosts}
 use Rattle.scm_book.specs.declared.held.Held.{Held}
-use Rattle.scm_book.specs.Holds.{Holds, RoseBy, Runs, failures_in, one_failed, stood_at}
-use Rattle.scm_book.specs.Steps.{Adds, Grows, IsAsItWas, Makes}
+use Rattle.scm_book.specs.Holds.{Holds, Lasts, RoseBy, Runs, failures_in, kept_after, one_failed, stood_at}
+use Rattle.scm_book.specs.Steps.{Adds, Grows, IsAsItWas, Makes, outcome_at}
 use Rattle.scm_book.proofs.Last.{leaves_owed}
+use Rattle.scm_book.proofs.Leaving.{lasts_on}
 use Rattle.scm_book.proofs.Room.{room_text, text_kept}
 
 text_more : (log : List Entry) (e : Entry) → text_in (log ++ e ∷ []) ≡ text_in log + text_of e.1
@@ -54,17 +58,9 @@ debt_kept : (f : Flat) (step : Step) (now : Kept) → debt f (with_kept step now
 debt_kept f (Call caller asked append) now = refl
 debt_kept f step now = refl
 
--- the changes of one entry more
-changes_more : (l : Limits) (f : Flat) (told : Option Stood) (log : List Entry) (e : Entry)
-    → and_changes (and_changes told (kept_changes l f log)) (one_or_none (kept_change l (state l f log) e.1)) ≡ and_changes told
-    (kept_changes l f (log ++ e ∷ []))
-changes_more l f told log e =
-    sym (fold-append and_change told (kept_changes l f log) (one_or_none (kept_change l (state l f log) e.1)))
-    ∙ ap (and_changes told) (sym ((law_of_kept l f).more log e))
-
-module _ {K : Type 0} (tells : K → Option (List ℕ)) (faulted : K → ℕ) (IsSettled : K → Type 0) (o : Opening) (log : List Entry)
+module _ {K : Type 0} (ghosts : Ghosts K) (o : Opening) (log : List Entry)
     (h h' : Held K)
-    (holds : Holds tells faulted IsSettled o log h) where
+    (holds : Holds ghosts o log h) where
   module _ (moment : ℕ) (step : Step) (told : Answer) (grows : Grows h h' moment step told) where
     flat_then : h'.manager.flat ≡ state o.limits o.first (log ++ (moment, step) ∷ [])
     flat_then = grows.flat ∙ ((λ i. state (holds.limits i) (holds.manager i) ((moment, step) ∷ []))
@@ -84,9 +80,28 @@ module _ {K : Type 0} (tells : K → Option (List ℕ)) (faulted : K → ℕ) (I
         let debts = ap (λ (f : Flat). debt f step) holds.manager in
         omega arith
 
-  pub holds_made : (moment : ℕ) (step : Step) (told : Answer) (made : Makes tells faulted IsSettled h h' moment step told)
+  -- what is kept after one entry more, of which this became
+  module _ (e : Entry) (out : Outcome) (is : out ≡ outcome_in o.limits (state o.limits o.first log) e.1) where
+    outcomes_then : outcomes o.limits o.first (log ++ e ∷ []) ≡ outcomes o.limits o.first log ++ out ∷ []
+    outcomes_then = (law_of_outcomes o.limits o.first).more log e
+        ∙ ap (λ (x : Outcome). outcomes o.limits o.first log ++ x ∷ []) (sym is)
+
+    journal_then : Bears (option_map (λ s. with_outcome s out) (kept_after o log)) h'.journal (ghosts.held h'.keeper)
+        → Bears (kept_after o (log ++ e ∷ [])) h'.journal (ghosts.held h'.keeper)
+    journal_then bears = subst (λ (outs : List Outcome). Bears (option_map (λ s. stood_after s outs) (stood_at o)) h'.journal
+        (ghosts.held h'.keeper)) (sym outcomes_then)
+        (bears_behind (stood_at o) (outcomes o.limits o.first log) out h'.journal (ghosts.held h'.keeper) bears)
+
+    lasts_then : ((s : Stood) → Bears (Some s) h.journal (ghosts.held h.keeper) → Stands s (ghosts.crashes h.keeper)
+        → TurnLeaves s out (ghosts.crashes h.keeper) (ghosts.crashes h'.keeper)) → Lasts o (log ++ e ∷ []) (ghosts.crashes h'.keeper)
+    lasts_then turn = subst (λ (outs : List Outcome). IfSome (stood_at o) (λ s. HasLasted s o.moment outs (ghosts.crashes h'.keeper)))
+        (sym outcomes_then) (lasts_on (stood_at o) o.moment (outcomes o.limits o.first log) out h.journal (ghosts.held h.keeper)
+        (ghosts.held h'.keeper) (ghosts.settled h'.keeper) (ghosts.crashes h.keeper) (ghosts.crashes h'.keeper)
+        (ghosts.are_crashes h'.keeper) holds.journal holds.lasts turn)
+
+  pub holds_made : (moment : ℕ) (step : Step) (told : Answer) (made : Makes ghosts h h' moment step told)
       → Runs o (log ++ (moment, with_kept step made.append) ∷ [])
-      → Holds tells faulted IsSettled o (log ++ (moment, with_kept step made.append) ∷ []) h'
+      → Holds ghosts o (log ++ (moment, with_kept step made.append) ∷ []) h'
   holds_made moment step told made runs =
       let now : Step = with_kept step made.append in
       let grows = made.grows in record {
@@ -96,16 +111,15 @@ module _ {K : Type 0} (tells : K → Option (List ℕ)) (faulted : K → ℕ) (I
         steps = steps_then moment now told grows;
         text = text_then moment now told grows;
         manager = flat_then moment now told grows;
-        journal = subst (λ (t : Option Stood). Bears t h'.journal (tells h'.keeper))
-            (changes_more o.limits o.first (stood_at o) log (moment, now))
-            (subst (λ (c : Option Change). Bears (and_changes (and_changes (stood_at o) (kept_changes o.limits o.first log))
-            (one_or_none c)) h'.journal (tells h'.keeper))
-            (λ i. kept_change (holds.limits i) (holds.manager i) now)
-            (made.keeps.bears (and_changes (stood_at o) (kept_changes o.limits o.first log)) holds.journal));
-        faults = subst (λ (n : ℕ). RoseBy n o.faults (faulted h'.keeper)) (sym (failed_more log (moment, now)))
-            (rose_more (failures_in log) (one_failed now) o.faults (faulted h.keeper) (faulted h'.keeper) holds.faults made.keeps.faults);
-        settled = settled_more (failures_in log) (one_failed now) o.faults (faulted h.keeper) (faulted h'.keeper) (IsSettled h.keeper)
-            (IsSettled h'.keeper) holds.faults made.keeps.faults holds.settled made.keeps.settled;
+        journal = journal_then (moment, now) (outcome_at h now) (λ i. outcome_in (holds.limits i) (holds.manager i) now)
+            (made.keeps.bears (kept_after o log) holds.journal);
+        lasts = lasts_then (moment, now) (outcome_at h now) (λ i. outcome_in (holds.limits i) (holds.manager i) now) made.keeps.turn;
+        asked = made.keeps.asked ∙ holds.asked;
+        faults = subst (λ (n : ℕ). RoseBy n o.faults (ghosts.faults h'.keeper)) (sym (failed_more log (moment, now)))
+            (rose_more (failures_in log) (one_failed now) o.faults (ghosts.faults h.keeper) (ghosts.faults h'.keeper) holds.faults
+            made.keeps.faults);
+        settled = settled_more (failures_in log) (one_failed now) o.faults (ghosts.faults h.keeper) (ghosts.faults h'.keeper)
+            (ghosts.settled h.keeper) (ghosts.settled h'.keeper) holds.faults made.keeps.faults holds.settled made.keeps.settled;
         room = let owes = owed_then moment now told grows runs in let d = debt_kept h.manager.flat step made.append in let r = made.room in
             omega arith;
         fits =
@@ -119,33 +133,36 @@ module _ {K : Type 0} (tells : K → Option (List ℕ)) (faulted : K → ℕ) (I
 
   pub holds_added : (moment : ℕ) (step : Step) (told : Answer) → Adds h h' moment step told → is_owed step ≡ true → text_of step ≡ 0
       → one_failed step ≡ 0
-      → kept_change h.manager.limits h.manager.flat step ≡ None → Runs o (log ++ (moment, step) ∷ [])
-      → Holds tells faulted IsSettled o (log ++ (moment, step) ∷ []) h'
+      → outcome_at h step ≡ no_outcome → Runs o (log ++ (moment, step) ∷ [])
+      → Holds ghosts o (log ++ (moment, step) ∷ []) h'
   holds_added moment step told adds owes textless faultless changeless runs =
-      let grows = adds.grows in record {
+      let grows = adds.grows in
+      let none : no_outcome ≡ outcome_in o.limits (state o.limits o.first log) step =
+      sym changeless ∙ (λ i. outcome_in (holds.limits i) (holds.manager i) step) in record {
         ends = ends_more h.trail h'.trail log (moment, step) holds.ends grows.trail;
         whole = grows.trail.past ∙ holds.whole;
         limits = grows.limits ∙ holds.limits;
         steps = steps_then moment step told grows;
         text = text_then moment step told grows;
         manager = flat_then moment step told grows;
-        journal = subst (λ (t : Option Stood). Bears t h'.journal (tells h'.keeper))
-            (changes_more o.limits o.first (stood_at o) log (moment, step))
-            (subst (λ (c : Option Change). Bears (and_changes (and_changes (stood_at o) (kept_changes o.limits o.first log))
-            (one_or_none c)) h'.journal (tells h'.keeper))
-            (sym changeless ∙ (λ i. kept_change (holds.limits i) (holds.manager i) step))
-            (subst (λ (j : _). Bears (and_changes (stood_at o) (kept_changes o.limits o.first log)) j (tells h'.keeper)) (sym adds.journal)
-            (subst (λ (k : K). Bears (and_changes (stood_at o) (kept_changes o.limits o.first log)) h.journal (tells k))
-            (sym adds.keeper) holds.journal)));
-        faults = subst (λ (n : ℕ). RoseBy n o.faults (faulted h'.keeper)) (sym (failed_more log (moment, step)))
-            (let f = ap faulted adds.keeper in let b = holds.faults in let z = faultless in omega arith);
-        settled = subst (λ (k : K). SettledSince o.faults (faulted k) (IsSettled k)) (sym adds.keeper) holds.settled;
+        journal = journal_then (moment, step) no_outcome none
+            (subst (λ (j : Journal). Bears (option_map (λ s. with_outcome s no_outcome) (kept_after o log)) j (ghosts.held h'.keeper))
+            (sym adds.journal)
+            (subst (λ (k : K). Bears (option_map (λ s. with_outcome s no_outcome) (kept_after o log)) h.journal (ghosts.held k))
+            (sym adds.keeper) (same_bears (kept_after o log) false h.journal (ghosts.held h.keeper) holds.journal)));
+        lasts = lasts_then (moment, step) no_outcome none
+            (λ s bears stands. subst (λ (k : K). TurnLeaves s no_outcome (ghosts.crashes h.keeper) (ghosts.crashes k)) (sym adds.keeper)
+            (turn_none s false (ghosts.crashes h.keeper) stands));
+        asked = ap ghosts.asked adds.keeper ∙ holds.asked;
+        faults = subst (λ (n : ℕ). RoseBy n o.faults (ghosts.faults h'.keeper)) (sym (failed_more log (moment, step)))
+            (let f = ap ghosts.faults adds.keeper in let b = holds.faults in let z = faultless in omega arith);
+        settled = subst (λ (k : K). SettledSince o.faults (ghosts.faults k) (ghosts.settled k)) (sym adds.keeper) holds.settled;
         room = let o = owed_then moment step told grows runs in let d = debt_owed h.manager.flat step owes in let r = adds.room in
             let b = holds.room in omega arith;
         fits = let m = text_more log (moment, step) in let b = holds.fits in omega arith;
       }
 
-  pub holds_same : IsAsItWas h h' → Holds tells faulted IsSettled o log h'
+  pub holds_same : IsAsItWas h h' → Holds ghosts o log h'
   holds_same same = record {
     ends = ends_same h.trail h'.trail log holds.ends same.none.trail;
     whole = same.none.trail.past ∙ holds.whole;
@@ -153,11 +170,12 @@ module _ {K : Type 0} (tells : K → Option (List ℕ)) (faulted : K → ℕ) (I
     steps = same.none.steps ∙ holds.steps;
     text = same.none.text ∙ holds.text;
     manager = same.none.flat ∙ holds.manager;
-    journal = subst (λ (j : _). Bears (and_changes (stood_at o) (kept_changes o.limits o.first log)) j (tells h'.keeper)) (sym same.journal)
-        (subst (λ (k : K). Bears (and_changes (stood_at o) (kept_changes o.limits o.first log)) h.journal (tells k))
-        (sym same.keeper) holds.journal);
-    faults = let f = ap faulted same.keeper in let b = holds.faults in omega arith;
-    settled = subst (λ (k : K). SettledSince o.faults (faulted k) (IsSettled k)) (sym same.keeper) holds.settled;
+    journal = subst (λ (j : Journal). Bears (kept_after o log) j (ghosts.held h'.keeper)) (sym same.journal)
+        (subst (λ (k : K). Bears (kept_after o log) h.journal (ghosts.held k)) (sym same.keeper) holds.journal);
+    lasts = subst (λ (k : K). Lasts o log (ghosts.crashes k)) (sym same.keeper) holds.lasts;
+    asked = ap ghosts.asked same.keeper ∙ holds.asked;
+    faults = let f = ap ghosts.faults same.keeper in let b = holds.faults in omega arith;
+    settled = subst (λ (k : K). SettledSince o.faults (ghosts.faults k) (ghosts.settled k)) (sym same.keeper) holds.settled;
     room = let f = ap owed same.none.flat in let b = holds.room in let r = same.room in omega arith;
     fits = holds.fits;
   }

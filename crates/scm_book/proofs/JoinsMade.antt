@@ -18,6 +18,7 @@ use Rattle.book_rule.specs.Seats.{Enters, Forks, HandsOver, Holding, Identity, I
 use Rattle.book_rule.specs.Views.{emptied, having_left, in_company, longer, newcomer}
 use Rattle.book_rule.proofs.Owning.{claims_none}
 use Rattle.book_rule.proofs.Prefixes.{longer_is, prefix_trans}
+use Rattle.scm_book.specs.Ghosts.{Ghosts}
 use Rattle.scm_book.specs.declared.answers.JoinFault.{JoinFault}
 use Rattle.scm_book.specs.declared.fault.StepFault.{StepFault}
 use Rattle.scm_book.specs.declared.fault.StepFault.TheVariants as steps
@@ -104,30 +105,30 @@ module _ {K : Type 0} (b : Identity) (s s' r : Seat (Option (Box (Held K) Global
   old_waits = settled_waits b s s' (in_company s.me.0) holding hands.table hands.me refl
 
 -- what stands after what the old seat saw stands after what the new one did
-pub one_more : {K : Type 0} (tells : K → Option (List ℕ)) (faulted : K → ℕ) (IsSettled : K → Type 0) (b : Identity) (v v' : View)
-    (h : Box (Held K) Global) → v' ≡ v → Stands (way_of tells faulted IsSettled) b v (box_value h)
-    → IsOneMore (way_of tells faulted IsSettled) b v' h
-one_more tells faulted IsSettled b v v' h is stands = subst (λ (x : View). IsOneMore (way_of tells faulted IsSettled) b x h) (sym is)
+pub one_more : {K : Type 0} (ghosts : Ghosts K) (b : Identity) (v v' : View)
+    (h : Box (Held K) Global) → v' ≡ v → Stands (way_of ghosts) b v (box_value h)
+    → IsOneMore (way_of ghosts) b v' h
+one_more ghosts b v v' h is stands = subst (λ (x : View). IsOneMore (way_of ghosts) b x h) (sym is)
     (record { entry = stands.entry; last = stands.last; names = stands.names; follows = stands.follows; fits = stands.fits })
 
 -- ## A caller that joins beside another
 
-module _ {K : Type 0} (tells : K → Option (List ℕ)) (faulted : K → ℕ) (IsSettled : K → Type 0) (b : Identity)
+module _ {K : Type 0} (ghosts : Ghosts K) (b : Identity)
     (s s1 s2 : Seat (Option (Box (Held K) Global)) View) (h : Box (Held K) Global)
-    (enters : Enters (way_of tells faulted IsSettled) b s s1 h) (moment : ℕ) (step : Step) (new : MadeBeside K)
-    (beside : DidBeside tells faulted IsSettled b s1 s2 moment step new) where
+    (enters : Enters (way_of ghosts) b s s1 h) (moment : ℕ) (step : Step) (new : MadeBeside K)
+    (beside : DidBeside ghosts b s1 s2 moment step new) where
   -- the new seat, as it would be had it been made before the turn was taken
   abbrev begun : Seat (Option (Box (Held K) Global)) View
   begun = record s { me = (newcomer s.me.0, []) }
 
-  enters_new : Enters (way_of tells faulted IsSettled) b begun beside.holder h
+  enters_new : Enters (way_of ghosts) b begun beside.holder h
   enters_new = record {
     table = beside.hands.new_table ∙ enters.table;
     log = enters.log;
     learns = record {
       longer = enters.learns.longer;
       run = enters.learns.run;
-      claims = claims_none (way_of tells faulted IsSettled) b.opening enters.log (newcomer s.me.0) refl refl refl;
+      claims = claims_none (way_of ghosts) b.opening enters.log (newcomer s.me.0) refl refl refl;
       alone = λ is. absurd cc;
       fits = enters.learns.fits;
     };
@@ -138,11 +139,11 @@ module _ {K : Type 0} (tells : K → Option (List ℕ)) (faulted : K → ℕ) (I
   waits_is = ap (λ m. m.0) beside.hands.me ∙ ap (λ m. having_left (in_company m.0)) enters.me
 
   made_beside : MadeSo b.opening (fresh (known s)) moment step new.told (known new.seat)
-  made_beside = did_so tells faulted IsSettled b begun beside.holder h enters_new new.seat moment step new.told beside.did
+  made_beside = did_so ghosts b begun beside.holder h enters_new new.seat moment step new.told beside.did
 
   behind : made_beside.made.before ≡ enters.log
   unfolding enters_new made_beside
-  behind = so_behind tells faulted IsSettled b begun beside.holder h enters_new new.seat moment step new.told beside.did
+  behind = so_behind ghosts b begun beside.holder h enters_new new.seat moment step new.told beside.did
 
   begins : IsPrefix enters.log new.seat.me.0.seen
   begins = subst (λ (l : List Entry). IsPrefix l new.seat.me.0.seen) behind
@@ -167,16 +168,16 @@ module _ {K : Type 0} (tells : K → Option (List ℕ)) (faulted : K → ℕ) (I
       legal = subst (Legal b.opening.limits b.opening.first) (sym sees_new) made_beside.made.legal;
     }
 
-    pub keeps_beside : Opens b.opening → StillClaims (way_of tells faulted IsSettled) b s2 s3 → KeepsAll b.opening (known s) (known s3)
+    pub keeps_beside : Opens b.opening → StillClaims (way_of ghosts) b s2 s3 → KeepsAll b.opening (known s) (known s3)
     keeps_beside opens still =
         let seen : enters.log ≡ s2.me.0.seen = sym (ap (λ (v : View). v.seen) waits_is) in
         keeps_on b.opening (known s) (known s2) (known s3)
         (keeps_seen b.opening opens (known s) (known s2) (subst (IsPrefix s.me.0.seen) seen enters.learns.longer)
         (subst (Legal b.opening.limits b.opening.first) seen enters.learns.run.legal)
         (subst (λ (l : List Entry). ClaimsIn b.opening l (known s)) seen
-        (claims_in tells faulted IsSettled b.opening enters.log s.table_id s.me.0 enters.learns.claims))
+        (claims_in ghosts b.opening enters.log s.table_id s.me.0 enters.learns.claims))
         (ap (λ (v : View). v.names) waits_is) (ap (λ (v : View). v.caller) waits_is))
-        (merged_keeps tells faulted IsSettled b opens s2 s3 w merges still)
+        (merged_keeps ghosts b opens s2 s3 w merges still)
 
     -- the witness changes nothing
     stays_so : known new.seat ≡ known now
@@ -184,20 +185,20 @@ module _ {K : Type 0} (tells : K → Option (List ℕ)) (faulted : K → ℕ) (I
         let company : new.seat.me.0.alone ≡ false = made_beside.made.same.alone in
         (λ i. record (known new.seat) { alone = company i }) ∙ (λ i. knows (sym forks.table i) (sym forks.me i).0)
 
-module _ {K : Type 0} (tells : K → Option (List ℕ)) (faulted : K → ℕ) (IsSettled : K → Type 0) (b : Identity) (opens : Opens b.opening)
+module _ {K : Type 0} (ghosts : Ghosts K) (b : Identity) (opens : Opens b.opening)
     (s s1 s2 : Seat (Option (Box (Held K) Global)) View) (h : Box (Held K) Global)
-    (enters : Enters (way_of tells faulted IsSettled) b s s1 h) (moment : ℕ) (principal : Principal) (new : MadeBeside K)
-    (beside : DidBeside tells faulted IsSettled b s1 s2 moment (Joined principal) new) where
+    (enters : Enters (way_of ghosts) b s s1 h) (moment : ℕ) (principal : Principal) (new : MadeBeside K)
+    (beside : DidBeside ghosts b s1 s2 moment (Joined principal) new) where
   pub told_new : new.told ≡ answers.Caller new.seat.me.0.caller
   told_new =
-      let made = made_beside tells faulted IsSettled b s s1 s2 h enters moment (Joined principal) new beside in
+      let made = made_beside ghosts b s s1 s2 h enters moment (Joined principal) new beside in
       shaped b.opening opens (fresh (known s)) (known new.seat) moment (Joined principal) new.told made.made
       ∙ ap answers.Caller (sym made.made.caller)
 
   module _ (now w s3 : Seat (Option (Box (Held K) Global)) View) (forks : Forks new.seat now w) (merges : Merges s2 w s3) (p : Known)
       (is : known now ≡ p) where
     passes : known new.seat ≡ p
-    passes = stays_so tells faulted IsSettled b s s1 s2 h enters moment (Joined principal) new beside now w s3 forks merges ∙ is
+    passes = stays_so ghosts b s s1 s2 h enters moment (Joined principal) new beside now w s3 forks merges ∙ is
 
     -- the number that was told is the new pass's
     pub told_is : (number : ℕ) → new.told ≡ answers.Caller number → number ≡ p.caller
@@ -205,17 +206,17 @@ module _ {K : Type 0} (tells : K → Option (List ℕ)) (faulted : K → ℕ) (I
 
     pub joined_beside : Joins b.opening (known s) moment principal (known s3) p
     joined_beside =
-        let made = made_beside tells faulted IsSettled b s s1 s2 h enters moment (Joined principal) new beside in
+        let made = made_beside ghosts b s s1 s2 h enters moment (Joined principal) new beside in
         let alone : s.me.0.alone ≡ true → made.made.before ≡ s.me.0.seen =
-        λ was. behind tells faulted IsSettled b s s1 s2 h enters moment (Joined principal) new beside ∙ (enters.learns.alone was).seen in
+        λ was. behind ghosts b s s1 s2 h enters moment (Joined principal) new beside ∙ (enters.learns.alone was).seen in
         let both : (made : MadeSo b.opening (fresh (known s)) moment (Joined principal) (answers.Caller new.seat.me.0.caller)
         (known new.seat)) × (s.me.0.alone ≡ true → made.made.before ≡ s.me.0.seen) =
         subst (λ (t : Answer). (made : MadeSo b.opening (fresh (known s)) moment (Joined principal) t (known new.seat))
         × (s.me.0.alone ≡ true → made.made.before ≡ s.me.0.seen)) told_new (made, alone) in
         subst (Joins b.opening (known s) moment principal (known s3)) passes (record {
           made = both.0;
-          seen = sees_new tells faulted IsSettled b s s1 s2 h enters moment (Joined principal) new beside now w s3 forks merges;
+          seen = sees_new ghosts b s s1 s2 h enters moment (Joined principal) new beside now w s3 forks merges;
           company = ap (λ m. m.0.alone) merges.me ∙ ap (λ (v : View). v.alone)
-              (waits_is tells faulted IsSettled b s s1 s2 h enters moment (Joined principal) new beside);
+              (waits_is ghosts b s s1 s2 h enters moment (Joined principal) new beside);
           alone = both.1;
         })

@@ -3,12 +3,13 @@ mod Steps
 mod Last
 pub mod Names
 mod Following
+pub mod Leaving
 mod Holdings
 mod Standing
 mod Turns
 mod Passes
 mod Coming
-mod Opening
+pub mod Opening
 mod Closing
 mod Forks
 mod JoinsMade

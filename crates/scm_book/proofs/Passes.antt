@@ -19,6 +19,7 @@ use Rattle.book_rule.specs.Rule.{ClaimsOf}
 use Rattle.book_rule.specs.Seats.{Enters, Holding, Identity, Waits}
 use Rattle.book_rule.specs.Views.{having_left, having_made, having_seen}
 use Rattle.book_rule.proofs.Prefixes.{prefix_length}
+use Rattle.scm_book.specs.Ghosts.{Ghosts, nothing_seen}
 use Rattle.scm_book.specs.declared.fault.MakeFault.{MakeFault}
 use Rattle.scm_book.specs.declared.fault.StepFault.{StepFault}
 use Rattle.scm_book.specs.declared.held.Held.{Held}
@@ -30,40 +31,38 @@ use Rattle.scm_book.specs.Turns.{NamesNoOther, StepCause, StepEnds, known, of_ba
 
 -- ## What a keeper tells plays no part in what a seat claims
 
-module _ {K J : Type 0} (tells : K → Option (List ℕ)) (faulted : K → ℕ) (IsSettled : K → Type 0) (tells' : J → Option (List ℕ))
-    (faulted' : J → ℕ) (IsSettled' : J → Type 0) where
-  made_as : (o : Opening) (log : List Entry) (k : ℕ) (n : Name) → MadeAt (way_of tells faulted IsSettled) o log k n
-      → MadeAt (way_of tells' faulted' IsSettled') o log k n
+module _ {K J : Type 0} (ghosts : Ghosts K) (ghosts' : Ghosts J) where
+  made_as : (o : Opening) (log : List Entry) (k : ℕ) (n : Name) → MadeAt (way_of ghosts) o log k n
+      → MadeAt (way_of ghosts') o log k n
   made_as o log k n at = record { front = at.front; entry = at.entry; rest = at.rest; is = at.is; place = at.place; made = at.made }
 
-  named_as : (log : List Entry) (k : ℕ) (n : Name) → NamedAt (way_of tells faulted IsSettled) log k n
-      → NamedAt (way_of tells' faulted' IsSettled') log k n
+  named_as : (log : List Entry) (k : ℕ) (n : Name) → NamedAt (way_of ghosts) log k n
+      → NamedAt (way_of ghosts') log k n
   named_as log k n at = record { front = at.front; entry = at.entry; rest = at.rest; is = at.is; place = at.place; named = at.named }
 
-module _ {K J : Type 0} (tells : K → Option (List ℕ)) (faulted : K → ℕ) (IsSettled : K → Type 0) (tells' : J → Option (List ℕ))
-    (faulted' : J → ℕ) (IsSettled' : J → Type 0) where
+module _ {K J : Type 0} (ghosts : Ghosts K) (ghosts' : Ghosts J) where
   claims_as : (o : Opening) (log : List Entry) (whose : ℕ) (names : List Name) (own : List ℕ) (seen : List Entry)
-      → Claims (way_of tells faulted IsSettled) o log whose names own seen
-      → Claims (way_of tells' faulted' IsSettled') o log whose names own seen
+      → Claims (way_of ghosts) o log whose names own seen
+      → Claims (way_of ghosts') o log whose names own seen
   claims_as o log whose names own seen claims = record {
     within = claims.within;
     made = λ n has. let one = claims.made n has in (
       one.0,
       one.1,
-      made_as tells faulted IsSettled tells' faulted' IsSettled' o log one.0 n
+      made_as ghosts ghosts' o log one.0 n
           one.2,
     );
-    all = λ k n mine at. claims.all k n mine (made_as tells' faulted' IsSettled' tells faulted IsSettled o log k n at);
-    named = λ n has k at. claims.named n has k (named_as tells' faulted' IsSettled' tells faulted IsSettled log k n at);
+    all = λ k n mine at. claims.all k n mine (made_as ghosts' ghosts o log k n at);
+    named = λ n has k at. claims.named n has k (named_as ghosts' ghosts log k n at);
     caller = claims.caller;
     lives = claims.lives;
   }
 
-module _ {K : Type 0} (tells : K → Option (List ℕ)) (faulted : K → ℕ) (IsSettled : K → Type 0) where
+module _ {K : Type 0} (ghosts : Ghosts K) where
   -- who has seen more claims the same
   claims_seen : (o : Opening) (log : List Entry) (whose : ℕ) (names : List Name) (own : List ℕ) (seen : List Entry) → IsPrefix seen log
-      → Claims (way_of tells faulted IsSettled) o log whose names own seen
-      → Claims (way_of tells faulted IsSettled) o log whose names own log
+      → Claims (way_of ghosts) o log whose names own seen
+      → Claims (way_of ghosts) o log whose names own log
   claims_seen o log whose names own seen longer claims = record {
     within = λ k mine. let low = claims.within k mine in let up = prefix_length seen log longer in omega arith;
     made = claims.made;
@@ -73,13 +72,12 @@ module _ {K : Type 0} (tells : K → Option (List ℕ)) (faulted : K → ℕ) (I
     lives = claims.lives;
   }
 
-  pub claims_in : (o : Opening) (log : List Entry) (table : TableId) (v : View) → ClaimsOf (way_of tells faulted IsSettled) o log v
+  pub claims_in : (o : Opening) (log : List Entry) (table : TableId) (v : View) → ClaimsOf (way_of ghosts) o log v
       → ClaimsIn o log (knows table v)
-  claims_in o log table v claims = claims_as tells faulted IsSettled (λ (k : Unit {0}). None)
-      (λ (k : Unit {0}). 0) (λ (k : Unit {0}). Unit {0}) o log v.caller v.names v.own v.seen claims
+  claims_in o log table v claims = claims_as ghosts nothing_seen o log v.caller v.names v.own v.seen claims
 
   module _ (b : Identity) (s s1 : Seat (Option (Box (Held K) Global)) View) (h : Box (Held K) Global)
-      (enters : Enters (way_of tells faulted IsSettled) b s s1 h) where
+      (enters : Enters (way_of ghosts) b s s1 h) where
     sees : s1.me.0 ≡ having_seen s.me.0 enters.log
     sees = ap (λ m. m.0) enters.me
 
@@ -90,8 +88,8 @@ module _ {K : Type 0} (tells : K → Option (List ℕ)) (faulted : K → ℕ) (I
       out = ap (λ m. m.1) enters.me;
     }
 
-    entered_holds : Holds tells faulted IsSettled b.opening s1.me.0.seen (box_value h)
-    entered_holds = subst (λ (v : View). Holds tells faulted IsSettled b.opening v.seen (box_value h)) (sym sees) enters.learns.fits
+    entered_holds : Holds ghosts b.opening s1.me.0.seen (box_value h)
+    entered_holds = subst (λ (v : View). Holds ghosts b.opening v.seen (box_value h)) (sym sees) enters.learns.fits
 
     entered_runs : Runs b.opening s1.me.0.seen
     entered_runs = subst (λ (v : View). Runs b.opening v.seen) (sym sees) enters.learns.run
@@ -99,7 +97,7 @@ module _ {K : Type 0} (tells : K → Option (List ℕ)) (faulted : K → ℕ) (I
     pub entered_flat : (box_value h).manager.flat ≡ state b.opening.limits b.opening.first s1.me.0.seen
     entered_flat = entered_holds.manager
 
-    pub has_turn : Waits b s → HasTurn tells faulted IsSettled b s1 (box_value h)
+    pub has_turn : Waits b s → HasTurn ghosts b s1 (box_value h)
     has_turn waits = record { seat = holding waits; holds = entered_holds; runs = entered_runs }
 
     -- what always may come may come now
@@ -115,12 +113,12 @@ module _ {K : Type 0} (tells : K → Option (List ℕ)) (faulted : K → ℕ) (I
         (there enters.log enters.learns.longer enters.learns.run (claims_in b.opening enters.log s.table_id s.me.0 enters.learns.claims))
 
     pub did_made : (s2 : Seat (Option (Box (Held K) Global)) View) (moment : ℕ) (step : Step) (told : Answer)
-        → Did (way_of tells faulted IsSettled) b s1 s2 moment step told → Made b.opening (known s) moment step told (known s2)
+        → Did (way_of ghosts) b s1 s2 moment step told → Made b.opening (known s) moment step told (known s2)
     did_made s2 moment step told did =
         let log : List Entry = enters.log in
         let e : Entry = (moment, step) in
-        let now : s2.me.0 ≡ having_left (having_made (way_of tells faulted IsSettled) b.opening (having_seen s.me.0 log) e) =
-        ap (λ m. m.0) did.me ∙ ap (λ (v : View). having_left (having_made (way_of tells faulted IsSettled) b.opening v e)) sees in
+        let now : s2.me.0 ≡ having_left (having_made (way_of ghosts) b.opening (having_seen s.me.0 log) e) =
+        ap (λ m. m.0) did.me ∙ ap (λ (v : View). having_left (having_made (way_of ghosts) b.opening v e)) sees in
         let seen : s2.me.0.seen ≡ log ++ e ∷ [] = ap (λ (v : View). v.seen) now in record {
           before = log;
           longer = enters.learns.longer;
@@ -144,7 +142,7 @@ module _ {K : Type 0} (tells : K → Option (List ℕ)) (faulted : K → ℕ) (I
         }
 
     pub did_so : (s2 : Seat (Option (Box (Held K) Global)) View) (moment : ℕ) (step : Step) (told : Answer)
-        → DidSo (way_of tells faulted IsSettled) b s1 s2 moment step told → MadeSo b.opening (known s) moment step told (known s2)
+        → DidSo (way_of ghosts) b s1 s2 moment step told → MadeSo b.opening (known s) moment step told (known s2)
     unfolding did_made
     did_so s2 moment step told did = record {
       append = did.append;
@@ -154,7 +152,7 @@ module _ {K : Type 0} (tells : K → Option (List ℕ)) (faulted : K → ℕ) (I
 
     -- it stands right after all that the seat saw as it entered
     pub so_behind : (s2 : Seat (Option (Box (Held K) Global)) View) (moment : ℕ) (step : Step) (told : Answer)
-        → (did : DidSo (way_of tells faulted IsSettled) b s1 s2 moment step told)
+        → (did : DidSo (way_of ghosts) b s1 s2 moment step told)
         → (did_so s2 moment step told did).made.before ≡ enters.log
     unfolding did_made did_so
     so_behind s2 moment step told did = λ i. enters.log
@@ -171,7 +169,7 @@ module _ {K : Type 0} (tells : K → Option (List ℕ)) (faulted : K → ℕ) (I
           until = subst (λ (l : List Entry). ClaimsIn b.opening l (known s)) (sym seen)
               (claims_in b.opening enters.log s.table_id s.me.0 enters.learns.claims);
           claims = claims_in b.opening s2.me.0.seen s2.table_id s2.me.0
-              (subst (λ (v : View). ClaimsOf (way_of tells faulted IsSettled) b.opening v.seen v) (sym now)
+              (subst (λ (v : View). ClaimsOf (way_of ghosts) b.opening v.seen v) (sym now)
               (claims_seen b.opening enters.log s.me.0.caller s.me.0.names s.me.0.own s.me.0.seen enters.learns.longer
               enters.learns.claims));
           alone = λ is. seen ∙ (enters.learns.alone is).seen;
@@ -187,7 +185,7 @@ module _ {K : Type 0} (tells : K → Option (List ℕ)) (faulted : K → ℕ) (I
     left_seen s2 left = ap (λ m. m.0.seen) (sym left.me)
 
     pub did_step : (s2 : Seat (Option (Box (Held K) Global)) View) (moment : ℕ) (step : Step) (r : Result Answer StepFault)
-        → DidStep tells faulted IsSettled b s1 s2 moment step r → StepEnds b.opening (known s) moment step r (known s2)
+        → DidStep ghosts b s1 s2 moment step r → StepEnds b.opening (known s) moment step r (known s2)
     unfolding did_so left_learnt
     did_step s2 moment step (Ok told) did = did_so s2 moment step told did
     did_step s2 moment step (Err fault) did = (
@@ -197,7 +195,7 @@ module _ {K : Type 0} (tells : K → Option (List ℕ)) (faulted : K → ℕ) (I
     )
 
     pub did_call : (s2 : Seat (Option (Box (Held K) Global)) View) (moment caller : ℕ) (call : Step) (r : Result (Option Answer) MakeFault)
-        → DidCall tells faulted IsSettled b s1 s2 moment caller call r
+        → DidCall ghosts b s1 s2 moment caller call r
         → CallEnds b.opening (known s) moment caller call r (known s2)
     unfolding did_made did_so left_learnt
     did_call s2 moment caller call (Ok (Some told)) did = did_so s2 moment call told did
@@ -209,7 +207,7 @@ module _ {K : Type 0} (tells : K → Option (List ℕ)) (faulted : K → ℕ) (I
     )
 
     pub did_end : (s2 : Seat (Option (Box (Held K) Global)) View) (moment caller plan : ℕ) (r : Option Answer)
-        → DidEnd tells faulted IsSettled b s1 s2 moment caller plan r → Ends b.opening (known s) moment caller plan (known s2) r
+        → DidEnd ghosts b s1 s2 moment caller plan r → Ends b.opening (known s) moment caller plan (known s2) r
     unfolding did_made left_learnt
     did_end s2 moment caller plan (Some told) did = did_made s2 moment (EndStart caller plan) told did
     did_end s2 moment caller plan None did = (
@@ -235,7 +233,7 @@ module _ {K : Type 0} (tells : K → Option (List ℕ)) (faulted : K → ℕ) (I
     }
 
     pub did_waits : (s2 : Seat (Option (Box (Held K) Global)) View) (moment : ℕ) (step : Step) (told : Answer) → Waits b s
-        → Did (way_of tells faulted IsSettled) b s1 s2 moment step told → Waits b s2
+        → Did (way_of ghosts) b s1 s2 moment step told → Waits b s2
     did_waits s2 moment step told waits did = record {
       of = record {
         table = did.table ∙ (enters.table ∙ waits.of.table);

@@ -32,6 +32,7 @@ use Rattle.scm_rules.specs.Steps.{finished, step_of}
 use Rattle.book_rule.specs.declared.view.Opening.{Opening}
 use Rattle.book_rule.specs.declared.view.View.{View}
 use Rattle.book_rule.specs.Seats.{Enters, Identity}
+use Rattle.scm_book.specs.Ghosts.{Ghosts}
 use Rattle.scm_book.specs.declared.controlling.ControlLook.{ControlLook}
 use Rattle.scm_book.specs.declared.controlling.ControlLook.TheVariants as controls
 use Rattle.scm_book.specs.declared.controlling.ControlRoom.{ControlRoom}
@@ -199,12 +200,12 @@ order_answer l f moment process order is = ap (λ (found : Option Order).
     (control_sent found)).answer) is
 
 -- what is handed over in what the holder has is so at the end of the history
-pub hands_same : {K : Type 0} (tells : K → Option (List ℕ)) (faulted : K → ℕ) (IsSettled : K → Type 0) (o : Opening) (log : List Entry)
+pub hands_same : {K : Type 0} (ghosts : Ghosts K) (o : Opening) (log : List Entry)
     (h : Held K)
-    → Holds tells faulted IsSettled o log h → (process : ℕ) (name name' : TextWithRoom) (handed : HandedOrder)
+    → Holds ghosts o log h → (process : ℕ) (name name' : TextWithRoom) (handed : HandedOrder)
     → HandsOver h.manager.flat process name name' handed
     → HandsOver (state o.limits o.first log) process name name' handed
-hands_same tells faulted IsSettled o log h holds process name name' handed =
+hands_same ghosts o log h holds process name name' handed =
     subst (λ (f : Flat). HandsOver f process name name' handed) holds.manager
 
 -- something is sent next to a process for which a control may come
@@ -212,15 +213,15 @@ pub next_there : (f f' : Flat) (process : ℕ) → f' ≡ f → is_some (next_or
 next_there f f' process same some none =
     never (is_some (next_order f process)) some (ap (λ (g : Flat). is_some (next_order g process)) (sym same) ∙ ap is_some none)
 
-module _ {K : Type 0} (tells : K → Option (List ℕ)) (faulted : K → ℕ) (IsSettled : K → Type 0) (b : Identity)
+module _ {K : Type 0} (ghosts : Ghosts K) (b : Identity)
     (s s1 : Seat (Option (Box (Held K) Global)) View)
-    (h : Box (Held K) Global) (enters : Enters (way_of tells faulted IsSettled) b s s1 h) where
+    (h : Box (Held K) Global) (enters : Enters (way_of ghosts) b s s1 h) where
   -- what a turn comes to, as a pass sees it
   pub did_control : (s2 : Seat (Option (Box (Held K) Global)) View) (moment process : ℕ) (name name' : TextWithRoom)
-      (r : Result HandedOrder StepFault) → DidControl tells faulted IsSettled b s1 s2 moment process name name' r
+      (r : Result HandedOrder StepFault) → DidControl ghosts b s1 s2 moment process name name' r
       → OrderEnds b.opening (known s) moment process name name' r (known s2)
   did_control s2 moment process name name' (Ok handed) did =
-      let so = did_so tells faulted IsSettled b s s1 h enters s2 moment (ControlTaken process) (answers.Control handed.order) did.0 in
+      let so = did_so ghosts b s s1 h enters s2 moment (ControlTaken process) (answers.Control handed.order) did.0 in
       let e : Entry = (moment, with_kept (ControlTaken process) did.0.append) in
       let now : s2.me.0.seen ≡ s1.me.0.seen ++ e ∷ [] = ap (λ m. m.0.seen) did.0.did.me in
       let same : so.made.before ≡ s1.me.0.seen = append_cancel_right so.made.before s1.me.0.seen (e ∷ []) (sym so.made.seen ∙ now) in
@@ -229,22 +230,22 @@ module _ {K : Type 0} (tells : K → Option (List ℕ)) (faulted : K → ℕ) (I
         hands = subst (λ (l : List Entry). HandsOver (state b.opening.limits b.opening.first l) process name name' handed) (sym same) did.1;
       }
   did_control s2 moment process name name' (Err fault) did =
-      let ends = did_step tells faulted IsSettled b s s1 h enters s2 moment (ControlTaken process) (Err fault) (did.0, did.1) in
+      let ends = did_step ghosts b s s1 h enters s2 moment (ControlTaken process) (Err fault) (did.0, did.1) in
       (ends.0, ends.1, did.2)
 
   left_at : (s2 : Seat (Option (Box (Held K) Global)) View) (moment process : ℕ) (name name' : TextWithRoom)
       (r : Result HandedOrder StepFault)
-      → DidControl tells faulted IsSettled b s1 s2 moment process name name' r → r ≡ Err faults.NotNow → s1.me.0.seen ≡ s2.me.0.seen
+      → DidControl ghosts b s1 s2 moment process name name' r → r ≡ Err faults.NotNow → s1.me.0.seen ≡ s2.me.0.seen
   left_at s2 moment process name name' (Ok handed) did is = absurd cc
   left_at s2 moment process name name' (Err fault) did is = ap (λ m. m.0.seen) (sym did.0.me)
 
   pub looks_for : (s2 : Seat (Option (Box (Held K) Global)) View) (moment process : ℕ) (name name' : TextWithRoom) (looked : Looked)
       → looked.waiting ≡ waiting (box_value h).manager.flat process
-      → DidControl tells faulted IsSettled b s1 s2 moment process name name' looked.ended
+      → DidControl ghosts b s1 s2 moment process name name' looked.ended
       → LooksFor b.opening (known s) moment process name name' (known s2) looked
   looks_for s2 moment process name name' looked count did = record {
     ends = did_control s2 moment process name name' looked.ended did;
-    waiting = λ missed. count ∙ (ap (λ (f : Flat). waiting f process) (entered_flat tells faulted IsSettled b s s1 h enters)
+    waiting = λ missed. count ∙ (ap (λ (f : Flat). waiting f process) (entered_flat ghosts b s s1 h enters)
         ∙ ap (λ (log : List Entry). waiting_behind b.opening log process) (left_at s2 moment process name name' looked.ended did missed));
   }
 

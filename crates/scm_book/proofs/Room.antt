@@ -19,7 +19,7 @@ use Rattle.scm_core.specs.Managed.{WasMadeFor}
 use Rattle.scm_trail.specs.Notes.{is_brief}
 use Rattle.scm_book.specs.declared.held.Owed.{Owed}
 use Rattle.scm_book.specs.declared.held.Owed.TheVariants as owes
-use Rattle.scm_history.specs.Kept.{kept_change}
+use Rattle.scm_history.specs.Outcomes.{no_outcome, outcome_in}
 use Rattle.scm_book.specs.Holds.{one_failed}
 use Rattle.scm_book.specs.Naming.{all_names}
 use Rattle.scm_book.specs.Steps.{owed_step}
@@ -136,7 +136,7 @@ owed_faults (owes.LaunchFailed process code) = refl
 owed_faults (owes.Ended process) = refl
 owed_faults (owes.Gone caller) = refl
 
-pub owed_changes : (l : Limits) (f : Flat) (o : Owed) → kept_change l f (owed_step o) ≡ None
+pub owed_changes : (l : Limits) (f : Flat) (o : Owed) → outcome_in l f (owed_step o) ≡ no_outcome
 owed_changes l f (owes.EndStart caller plan) = refl
 owed_changes l f owes.LaunchTaken = refl
 owed_changes l f (owes.Launched process pid) = refl

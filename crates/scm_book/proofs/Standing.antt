@@ -14,6 +14,7 @@ use Rattle.scm_core.specs.Managed.{AreSmall}
 use Rattle.scm_runs.proofs.Histories.{told as last_told}
 use Rattle.scm_owed.proofs.Effects.{debt_owed}
 use Rattle.book_rule.specs.declared.view.Opening.{Opening}
+use Rattle.scm_book.specs.Ghosts.{Ghosts}
 use Rattle.scm_book.specs.declared.held.Held.{Held}
 use Rattle.scm_book.specs.declared.held.Owed.{Owed}
 use Rattle.scm_book.specs.Holds.{Holds, Runs}
@@ -29,8 +30,8 @@ last_answer : (l : Limits) (f : Flat) (log : List Entry) (moment : ℕ) (step : 
     → answer l f (log ++ (moment, step) ∷ []) (length log) ≡ answer l (state l f log) ((moment, step) ∷ []) 0
 last_answer l f log moment step = last_told l f log (moment, step) [] ∙ sym (answer_one l (state l f log) moment step)
 
-module _ {K : Type 0} (tells : K → Option (List ℕ)) (faulted : K → ℕ) (IsSettled : K → Type 0) (o : Opening) (log : List Entry) (h : Held K)
-    (holds : Holds tells faulted IsSettled o log h) where
+module _ {K : Type 0} (ghosts : Ghosts K) (o : Opening) (log : List Entry) (h : Held K)
+    (holds : Holds ghosts o log h) where
   pub room_same : (step : Step) → has_room_in h step ≡ has_room o.limits (state o.limits o.first log) (length log) (text_in log) step
   room_same step = λ i. has_room (holds.limits i) (holds.manager i) (holds.steps i) (holds.text i) step
 
@@ -47,32 +48,32 @@ module _ {K : Type 0} (tells : K → Option (List ℕ)) (faulted : K → ℕ) (I
         ((moment, step) ∷ []) 0) ∙ grows.answer)
 
   module _ (h' : Held K) (moment : ℕ) (step : Step) (told : Answer) (runs : Runs o log)
-      (made : Makes tells faulted IsSettled h h' moment step told) where
+      (made : Makes ghosts h h' moment step told) where
     pub made_free : IsTrue (has_room o.limits (state o.limits o.first log) (length log) (text_in log) (with_kept step made.append))
     made_free = has_kept o.limits (state o.limits o.first log) (length log) (text_in log) step made.append
         ∙ (sym (room_same step) ∙ made.free)
 
     pub made_runs : Runs o (log ++ (moment, with_kept step made.append) ∷ [])
-    made_runs = runs_on tells faulted IsSettled o log (moment, with_kept step made.append) runs
+    made_runs = runs_on ghosts o log (moment, with_kept step made.append) runs
         (may_then h' moment (with_kept step made.append) told made.grows) (inr made_free)
 
-    pub made_holds : Holds tells faulted IsSettled o (log ++ (moment, with_kept step made.append) ∷ []) h'
-    made_holds = holds_made tells faulted IsSettled o log h h' holds moment step told made made_runs
+    pub made_holds : Holds ghosts o (log ++ (moment, with_kept step made.append) ∷ []) h'
+    made_holds = holds_made ghosts o log h h' holds moment step told made made_runs
 
   module _ (h' : Held K) (moment : ℕ) (owed : Owed) (told : Answer) (runs : Runs o log)
       (adds : Adds h h' moment (owed_step owed) told) where
     pub added_runs : Runs o (log ++ (moment, owed_step owed) ∷ [])
-    added_runs = runs_on tells faulted IsSettled o log (moment, owed_step owed) runs (may_then h' moment (owed_step owed) told adds.grows)
+    added_runs = runs_on ghosts o log (moment, owed_step owed) runs (may_then h' moment (owed_step owed) told adds.grows)
         (inl (owed_is owed))
 
-    pub added_holds : Holds tells faulted IsSettled o (log ++ (moment, owed_step owed) ∷ []) h'
-    added_holds = holds_added tells faulted IsSettled o log h h' holds moment (owed_step owed) told adds (owed_is owed) (owed_text owed)
+    pub added_holds : Holds ghosts o (log ++ (moment, owed_step owed) ∷ []) h'
+    added_holds = holds_added ghosts o log h h' holds moment (owed_step owed) told adds (owed_is owed) (owed_text owed)
         (owed_faults owed) (owed_changes h.manager.limits h.manager.flat owed) added_runs
 
 -- ## What a step asks before
 
-module _ {K : Type 0} (tells : K → Option (List ℕ)) (faulted : K → ℕ) (IsSettled : K → Type 0) (o : Opening) (log : List Entry) (h : Held K)
-    (holds : Holds tells faulted IsSettled o log h) where
+module _ {K : Type 0} (ghosts : Ghosts K) (o : Opening) (log : List Entry) (h : Held K)
+    (holds : Holds ghosts o log h) where
   pub come_same : (moment : ℕ) (step : Step) → may_come h.manager.limits h.manager.flat moment step ≡ may_come o.limits
       (state o.limits o.first log) moment step
   come_same moment step = λ i. may_come (holds.limits i) (holds.manager i) moment step
@@ -95,7 +96,7 @@ module _ {K : Type 0} (tells : K → Option (List ℕ)) (faulted : K → ℕ) (I
       let ok = and_both (may_come o.limits (state o.limits o.first log) moment (owed_step owed))
       (keeps_right o.limits (state o.limits o.first log) (owed_step owed)) may
       (owed_right o.limits (state o.limits o.first log) owed) in
-      let then = runs_on tells faulted IsSettled o log e runs ok (inl (owed_is owed)) in
+      let then = runs_on ghosts o log e runs ok (inl (owed_is owed)) in
       let pays = leaves_owed o.limits o.first runs.opens.begins log e then.legal in
       let none = debt_owed (state o.limits o.first log) (owed_step owed) (owed_is owed) in
       let same = ap owed_in holds.manager in

@@ -1,6 +1,7 @@
 -- What one step more makes of what the holder of the turn has.
 use Rattle.std.proofs.Common.{ℕ, ◌≡◌, ◌∙◌, ◌+◌, ◌≤◌, true, IsTrue, List, [], ◌∷◌, Option, None, Some, refl, ap, sym, subst, arith}
-use Rattle.std.proofs.Common.{inl, inr}
+use Rattle.std.proofs.Common.{false, inl, inr}
+use Rattle.std.specs.Prelude.{option_map}
 use Rattle.outside.specs.Causes.{Rose}
 use Rattle.scm_model.specs.declared.flat.Flat.{Flat}
 use Rattle.scm_model.specs.declared.flat.Limits.{Limits}
@@ -12,7 +13,8 @@ use Rattle.scm_model.specs.declared.steps.Step.{Step}
 use Rattle.scm_model.specs.declared.steps.Step.TheVariants.{Call}
 use Rattle.scm_model.specs.Entries.{with_kept}
 use Rattle.scm_model.specs.Texts.{text_of}
-use Rattle.record_journal.specs.Bearing.{Bears, BearsMore, BearsSame, Stood, and_changes}
+use Rattle.record_journal.specs.Bearing.{Bears, BearsLost, BearsMore, MovesOn, Stands, Stood}
+use Rattle.record_journal.specs.Crashes.{Crashes}
 use Rattle.record_journal.specs.Keepers.{SettledSince}
 use Rattle.scm_rules.specs.Histories.{answer, state}
 use Rattle.scm_rules.specs.Owed.{owed}
@@ -23,11 +25,14 @@ use Rattle.scm_trail.specs.Trailed.{Extends, Trailed}
 use Rattle.scm_trail.proofs.Histories.{stays_extended, stays_on, stays_self}
 use Rattle.record_journal.specs.declared.journal.Journal.{Journal}
 use Rattle.scm_rules.specs.Verdicts.{change_of}
-use Rattle.scm_history.specs.Kept.{kept_change, one_or_none}
-use Rattle.scm_history.proofs.Kept.{law_of_kept}
+use Rattle.scm_history.specs.Outcomes.{Outcome, no_outcome, outcome_in}
+use Rattle.scm_history.proofs.Outcomes.{law_of_outcomes}
+use Rattle.journal_lasting.specs.Lasting.{TurnLeaves, with_outcome}
+use Rattle.journal_lasting.proofs.Turning.{bears_lost, bears_more, same_bears, turn_kept, turn_lost, turn_none}
+use Rattle.scm_book.specs.Ghosts.{Ghosts}
 use Rattle.scm_book.specs.declared.held.Held.{Held}
 use Rattle.scm_book.specs.Holds.{RoseBy, one_failed}
-use Rattle.scm_book.specs.Steps.{Grows, IsAsItWas, IsPrepared, Keeps, Makes, MakesNone, has_room_in}
+use Rattle.scm_book.specs.Steps.{Grows, IsAsItWas, IsPrepared, Keeps, Makes, MakesNone, has_room_in, outcome_at}
 use Rattle.scm_book.proofs.Room.{and_both, come_kept}
 
 -- ## The manager
@@ -80,42 +85,62 @@ rose_none n a b none le = omega arith
 rose_once : (n a b : ℕ) → n ≤ 1 → Rose a b → RoseBy n a b
 rose_once n a b once rose = omega arith
 
-module _ {K : Type 0} (tells : K → Option (List ℕ)) (faulted : K → ℕ) (IsSettled : K → Type 0) (h h' : Held K) (step : Step) where
-  -- with no change
-  bears_none : (change : Option Change) → change ≡ None → (good : Option Stood) → Bears good h.journal (tells h.keeper)
-      → Bears (and_changes good (one_or_none change)) h.journal (tells h.keeper)
-  bears_none change none good bears = subst (λ (c : Option Change). Bears (and_changes good (one_or_none c)) h.journal (tells h.keeper))
-      (sym none) bears
+-- a step that isn't asked to keep a change makes none
+bears_none : (o : Outcome) → o ≡ no_outcome → (j : Journal) (told : Option (List ℕ)) (good : Option Stood) → Bears good j told
+    → Bears (option_map (λ s. with_outcome s o) good) j told
+bears_none o none j told good bears = subst (λ (o : Outcome). Bears (option_map (λ s. with_outcome s o) good) j told) (sym none)
+    (same_bears good false j told bears)
 
-  pub keeps_none : h' ≡ h → Keeps tells faulted IsSettled h h' (with_kept step appended.NotAsked)
-  keeps_none same = subst (λ (g : Held K). Keeps tells faulted IsSettled h g (with_kept step appended.NotAsked)) (sym same) (record {
-    bears = bears_none (kept_change h.manager.limits h.manager.flat (with_kept step appended.NotAsked))
-        ((law_of_kept h.manager.limits h.manager.flat).unasked h.manager.flat step);
-    faults = rose_none (one_failed (with_kept step appended.NotAsked)) (faulted h.keeper) (faulted h.keeper) (none_failed step)
-        (omega arith);
-    settled = λ settled. inr settled;
-  })
+leaves_none : (o : Outcome) → o ≡ no_outcome → (c : Crashes) (s : Stood) → Stands s c → TurnLeaves s o c c
+leaves_none o none c s stands = subst (λ (o : Outcome). TurnLeaves s o c c) (sym none) (turn_none s false c stands)
 
-  pub keeps_kept : (change : Change) → change_of h.manager.limits h.manager.flat step ≡ Some change
-      → BearsMore change h.journal (tells h.keeper) h'.journal (tells h'.keeper)
-      → faulted h.keeper ≤ faulted h'.keeper → IsSettled h'.keeper → Keeps tells faulted IsSettled h h' (with_kept step appended.Kept)
-  unfolding BearsMore
-  keeps_kept change is more grows settled = record {
-    bears = λ good bears. subst (λ (c : Option Change). Bears (and_changes good (one_or_none c)) h'.journal (tells h'.keeper))
-        (sym ((law_of_kept h.manager.limits h.manager.flat).kept h.manager.flat step ∙ is)) (more good bears);
-    faults = rose_none (one_failed (with_kept step appended.Kept)) (faulted h.keeper) (faulted h'.keeper) (kept_failed step) grows;
-    settled = λ before. inr settled;
-  }
+module _ {K : Type 0} (ghosts : Ghosts K) (h h' : Held K) (step : Step) where
+  pub keeps_none : h' ≡ h → Keeps ghosts h h' (with_kept step appended.NotAsked)
+  keeps_none same =
+      let unasked = (law_of_outcomes h.manager.limits h.manager.flat).unasked h.manager.flat step in
+      subst (λ (g : Held K). Keeps ghosts h g (with_kept step appended.NotAsked)) (sym same) (record {
+        bears = bears_none (outcome_at h (with_kept step appended.NotAsked)) unasked h.journal (ghosts.held h.keeper);
+        turn = λ s bears stands. leaves_none (outcome_at h (with_kept step appended.NotAsked)) unasked (ghosts.crashes h.keeper) s stands;
+        faults = rose_none (one_failed (with_kept step appended.NotAsked)) (ghosts.faults h.keeper) (ghosts.faults h.keeper)
+            (none_failed step) (omega arith);
+        settled = λ settled. inr settled;
+        asked = refl;
+      })
 
-  pub keeps_failed : BearsSame h.journal (tells h.keeper) h'.journal (tells h'.keeper) → Rose (faulted h.keeper) (faulted h'.keeper)
-      → Keeps tells faulted IsSettled h h' (with_kept step appended.Failed)
-  unfolding BearsSame
-  keeps_failed stays rose = record {
-    bears = λ good bears. subst (λ (c : Option Change). Bears (and_changes good (one_or_none c)) h'.journal (tells h'.keeper))
-        (sym ((law_of_kept h.manager.limits h.manager.flat).failed h.manager.flat step)) (stays good bears);
-    faults = rose_once (one_failed (with_kept step appended.Failed)) (faulted h.keeper) (faulted h'.keeper) (failed_once step) rose;
-    settled = λ before. inl rose;
-  }
+  module _ (change : Change) (is : change_of h.manager.limits h.manager.flat step ≡ Some change)
+      (moves : MovesOn change h.journal (ghosts.held h.keeper) (ghosts.crashes h.keeper) (ghosts.crashes h'.keeper))
+      (asked : ghosts.asked h'.keeper ≡ ghosts.asked h.keeper) where
+    pub keeps_kept : BearsMore change h.journal (ghosts.held h.keeper) h'.journal (ghosts.held h'.keeper)
+        → ghosts.faults h.keeper ≤ ghosts.faults h'.keeper → ghosts.settled h'.keeper → Keeps ghosts h h' (with_kept step appended.Kept)
+    keeps_kept more grows settled =
+        let kept = (law_of_outcomes h.manager.limits h.manager.flat).kept h.manager.flat step change is in
+        let told = ghosts.held h.keeper in let told' = ghosts.held h'.keeper in record {
+          bears = λ good bears. subst (λ (o : Outcome). Bears (option_map (λ s. with_outcome s o) good) h'.journal (ghosts.held h'.keeper))
+              (sym kept) (bears_more change h.journal h'.journal told told' more good bears);
+          turn = λ s bears stands. subst (λ (o : Outcome). TurnLeaves s o (ghosts.crashes h.keeper) (ghosts.crashes h'.keeper)) (sym kept)
+              (turn_kept change h.journal h'.journal told told' (ghosts.settled h'.keeper) (ghosts.crashes h.keeper)
+              (ghosts.crashes h'.keeper) moves (ghosts.are_crashes h'.keeper) settled more s bears stands);
+          faults = rose_none (one_failed (with_kept step appended.Kept)) (ghosts.faults h.keeper) (ghosts.faults h'.keeper)
+              (kept_failed step) grows;
+          settled = λ before. inr settled;
+          asked = asked;
+        }
+
+    pub keeps_failed : BearsLost change h.journal (ghosts.held h.keeper) h'.journal (ghosts.held h'.keeper)
+        → Rose (ghosts.faults h.keeper) (ghosts.faults h'.keeper) → Keeps ghosts h h' (with_kept step appended.Failed)
+    keeps_failed lost rose =
+        let failed = (law_of_outcomes h.manager.limits h.manager.flat).failed h.manager.flat step change is in
+        let told = ghosts.held h.keeper in let told' = ghosts.held h'.keeper in record {
+          bears = λ good bears. subst (λ (o : Outcome). Bears (option_map (λ s. with_outcome s o) good) h'.journal (ghosts.held h'.keeper))
+              (sym failed) (bears_lost change h.journal h'.journal told told' lost good bears);
+          turn = λ s bears stands. subst (λ (o : Outcome). TurnLeaves s o (ghosts.crashes h.keeper) (ghosts.crashes h'.keeper)) (sym failed)
+              (turn_lost change h.journal h'.journal told told' (ghosts.settled h'.keeper) (ghosts.crashes h.keeper)
+              (ghosts.crashes h'.keeper) moves s bears stands);
+          faults = rose_once (one_failed (with_kept step appended.Failed)) (ghosts.faults h.keeper) (ghosts.faults h'.keeper)
+              (failed_once step) rose;
+          settled = λ before. inl rose;
+          asked = asked;
+        }
 
 -- ## One after another
 
@@ -151,25 +176,32 @@ module _ {K : Type 0} (h mid h' : Held K) where
     text = grows.text ∙ ap (λ (n : ℕ). n + text_of step) none.text;
   }
 
-  module _ (tells : K → Option (List ℕ)) (faulted : K → ℕ) (IsSettled : K → Type 0) (step : Step) (append : Kept) where
-    keeps_from : IsAsItWas h mid → Keeps tells faulted IsSettled mid h' (with_kept step append)
-        → Keeps tells faulted IsSettled h h' (with_kept step append)
-    keeps_from was keeps = record {
-      bears = λ good bears. subst (λ (c : Option Change). Bears (and_changes good (one_or_none c)) h'.journal (tells h'.keeper))
-          (λ i. kept_change (was.none.limits i) (was.none.flat i) (with_kept step append))
-          (keeps.bears good (subst (λ (j : Journal). Bears good j (tells mid.keeper)) (sym was.journal)
-          (subst (λ (k : K). Bears good h.journal (tells k)) (sym was.keeper) bears)));
-      faults = let f = ap faulted was.keeper in let k = keeps.faults in omega arith;
-      settled = subst (λ (k : K). IsSettled k → SettledSince (faulted k) (faulted h'.keeper) (IsSettled h'.keeper)) was.keeper
-          keeps.settled;
-    }
+  module _ (ghosts : Ghosts K) (step : Step) (append : Kept) where
+    keeps_from : IsAsItWas h mid → Keeps ghosts mid h' (with_kept step append)
+        → Keeps ghosts h h' (with_kept step append)
+    keeps_from was keeps =
+        let now : Step = with_kept step append in
+        let same : outcome_at mid now ≡ outcome_at h now = λ i. outcome_in (was.none.limits i) (was.none.flat i) now in
+        let there = λ (good : Option Stood) (bears : Bears good h.journal (ghosts.held h.keeper)).
+        subst (λ (j : Journal). Bears good j (ghosts.held mid.keeper)) (sym was.journal)
+        (subst (λ (k : K). Bears good h.journal (ghosts.held k)) (sym was.keeper) bears) in record {
+          bears = λ good bears. subst (λ (o : Outcome). Bears (option_map (λ s. with_outcome s o) good) h'.journal (ghosts.held h'.keeper))
+              same (keeps.bears good (there good bears));
+          turn = λ s bears stands. subst (λ (o : Outcome). TurnLeaves s o (ghosts.crashes h.keeper) (ghosts.crashes h'.keeper)) same
+              (subst (λ (k : K). TurnLeaves s (outcome_at mid now) (ghosts.crashes k) (ghosts.crashes h'.keeper)) was.keeper
+              (keeps.turn s (there (Some s) bears) (subst (λ (k : K). Stands s (ghosts.crashes k)) (sym was.keeper) stands)));
+          faults = let f = ap ghosts.faults was.keeper in let k = keeps.faults in omega arith;
+          settled = subst (λ (k : K). ghosts.settled k
+              → SettledSince (ghosts.faults k) (ghosts.faults h'.keeper) (ghosts.settled h'.keeper)) was.keeper keeps.settled;
+          asked = keeps.asked ∙ ap ghosts.asked was.keeper;
+        }
 
     pub prepared : has_room_in h step ≡ true → IsAsItWas h mid → WasMadeFor mid.manager.room step → owed h.manager.flat
         + debt h.manager.flat step ≤ mid.trail.room → 1 ≤ mid.trail.room
         → text_of step ≤ mid.trail.text_room → h'.manager ≡ mid.manager → h'.trail ≡ mid.trail
-        → Keeps tells faulted IsSettled mid h' (with_kept step append)
+        → Keeps ghosts mid h' (with_kept step append)
         → IsTrue (keeps_right mid.manager.limits mid.manager.flat (with_kept step append))
-        → IsPrepared tells faulted IsSettled h h' step append
+        → IsPrepared ghosts h h' step append
     prepared free was made room one text manager trail keeps right = record {
       free = free;
       none = none_as was.none manager trail;
@@ -181,28 +213,31 @@ module _ {K : Type 0} (h mid h' : Held K) where
       text_room = subst (λ (t : Trailed). text_of step ≤ t.text_room) (sym trail) text;
     }
 
-    pub made : (moment : ℕ) (told : Answer) → IsPrepared tells faulted IsSettled h mid step append
+    pub made : (moment : ℕ) (told : Answer) → IsPrepared ghosts h mid step append
         → Grows mid h' moment (with_kept step append) told
         → h'.journal ≡ mid.journal → h'.keeper ≡ mid.keeper
-        → mid.trail.room ≤ h'.trail.room + 1 → Makes tells faulted IsSettled h h' moment step told
+        → mid.trail.room ≤ h'.trail.room + 1 → Makes ghosts h h' moment step told
     made moment told p grows journal keeper room = record {
       append = append;
       free = p.free;
       grows = grown_from moment (with_kept step append) told p.none grows;
       keeps = record {
-        bears = λ good bears. subst (λ (j : Journal). Bears (and_changes good
-            (one_or_none (kept_change h.manager.limits h.manager.flat (with_kept step append)))) j (tells h'.keeper)) (sym journal)
-            (subst (λ (k : K). Bears (and_changes good (one_or_none (kept_change h.manager.limits h.manager.flat (with_kept step append))))
-            mid.journal (tells k)) (sym keeper) (p.keeps.bears good bears));
-        faults = let f = ap faulted keeper in let k = p.keeps.faults in omega arith;
-        settled = subst (λ (k : K). IsSettled h.keeper → SettledSince (faulted h.keeper) (faulted k) (IsSettled k)) (sym keeper)
-            p.keeps.settled;
+        bears = λ good bears. subst (λ (j : Journal). Bears (option_map (λ s. with_outcome s (outcome_at h (with_kept step append))) good) j
+            (ghosts.held h'.keeper)) (sym journal)
+            (subst (λ (k : K). Bears (option_map (λ s. with_outcome s (outcome_at h (with_kept step append))) good) mid.journal
+            (ghosts.held k)) (sym keeper) (p.keeps.bears good bears));
+        turn = λ s bears stands. subst (λ (k : K). TurnLeaves s (outcome_at h (with_kept step append)) (ghosts.crashes h.keeper)
+            (ghosts.crashes k)) (sym keeper) (p.keeps.turn s bears stands);
+        faults = let f = ap ghosts.faults keeper in let k = p.keeps.faults in omega arith;
+        settled = subst (λ (k : K). ghosts.settled h.keeper
+            → SettledSince (ghosts.faults h.keeper) (ghosts.faults k) (ghosts.settled k)) (sym keeper) p.keeps.settled;
+        asked = ap ghosts.asked keeper ∙ p.keeps.asked;
       };
       room = let r = p.room in omega arith;
     }
 
     -- what the step asks then
-    pub may_finish : (moment : ℕ) → IsPrepared tells faulted IsSettled h mid step append
+    pub may_finish : (moment : ℕ) → IsPrepared ghosts h mid step append
         → IsTrue (may_come h.manager.limits h.manager.flat moment step)
         → IsTrue (may mid.manager.limits mid.manager.flat moment (with_kept step append))
     may_finish moment p come = (λ i. may (p.none.limits i) (p.none.flat i) moment (with_kept step append))

@@ -13,6 +13,7 @@ use Rattle.book_rule.specs.declared.view.Opening.{Opening}
 use Rattle.book_rule.specs.declared.view.View.{View}
 use Rattle.book_rule.specs.Ways.{Follows, Has, NamesOwn, Protocol}
 use Rattle.book_rule.specs.Seats.{Identity, Commits}
+use Rattle.scm_book.specs.Ghosts.{Ghosts}
 use Rattle.scm_book.specs.declared.held.Held.{Held}
 use Rattle.scm_book.specs.declared.held.Owed.{Owed}
 use Rattle.scm_book.specs.Naming.{all_names}
@@ -35,59 +36,59 @@ pub record Stands {K : Type 0} (w : Protocol (Held K)) (b : Identity) (v : View)
   pub follows : Follows w b.opening v.seen entry
   pub fits : w.fits b.opening (v.seen ++ entry ∷ []) h
 
-module _ {K : Type 0} (tells : K → Option (List ℕ)) (faulted : K → ℕ) (IsSettled : K → Type 0) (b : Identity) (v : View) (h h' : Held K)
-    (holds : Holds tells faulted IsSettled b.opening v.seen h) (runs : Runs b.opening v.seen) (moment : ℕ) where
+module _ {K : Type 0} (ghosts : Ghosts K) (b : Identity) (v : View) (h h' : Held K)
+    (holds : Holds ghosts b.opening v.seen h) (runs : Runs b.opening v.seen) (moment : ℕ) where
   module _ (owed : Owed) (told : Answer) (adds : Adds h h' moment (owed_step owed) told) where
     pub end_added : last_or None h'.trail.entries ≡ Some (moment, owed_step owed)
     end_added = extended_last h.trail h'.trail (moment, owed_step owed) adds.grows.trail
 
-    pub stands_added : ((n : Name) → Has n (all_names (owed_step owed)) → Has n v.names) → Stands (way_of tells faulted IsSettled) b v h'
+    pub stands_added : ((n : Name) → Has n (all_names (owed_step owed)) → Has n v.names) → Stands (way_of ghosts) b v h'
     stands_added own =
-        let there : Holds tells faulted IsSettled b.opening (v.seen ++ (moment, owed_step owed) ∷ []) h' =
-        added_holds tells faulted IsSettled b.opening v.seen h holds h' moment owed told runs adds in record {
+        let there : Holds ghosts b.opening (v.seen ++ (moment, owed_step owed) ∷ []) h' =
+        added_holds ghosts b.opening v.seen h holds h' moment owed told runs adds in record {
           entry = (moment, owed_step owed);
           last = end_added;
           names = own;
-          follows = follows tells faulted IsSettled b.opening v.seen (moment, owed_step owed) runs
-              (may_then tells faulted IsSettled b.opening v.seen h holds h' moment (owed_step owed) told adds.grows) (inl (owed_is owed));
+          follows = follows ghosts b.opening v.seen (moment, owed_step owed) runs
+              (may_then ghosts b.opening v.seen h holds h' moment (owed_step owed) told adds.grows) (inl (owed_is owed));
           fits = there;
         }
 
     pub did_add : (s s' : Seat (Option (Box (Held K) Global)) View) → s.me.0 ≡ v → s'.table_id ≡ s.table_id
-        → Commits (way_of tells faulted IsSettled) b s s' (moment, owed_step owed)
-        → Did (way_of tells faulted IsSettled) b s s' moment (owed_step owed) told
+        → Commits (way_of ghosts) b s s' (moment, owed_step owed)
+        → Did (way_of ghosts) b s s' moment (owed_step owed) told
     did_add s s' is table commits = record {
       table = table;
       me = commits.me;
       run = subst (λ (x : View). Runs b.opening (x.seen ++ (moment, owed_step owed) ∷ [])) (sym is)
-          (added_runs tells faulted IsSettled b.opening v.seen h holds h' moment owed told runs adds);
+          (added_runs ghosts b.opening v.seen h holds h' moment owed told runs adds);
       answer = subst (λ (x : View). answer b.opening.limits b.opening.first (x.seen ++ (moment, owed_step owed) ∷ [])
           (length x.seen) ≡ Some told) (sym is)
-          (told_then tells faulted IsSettled b.opening v.seen h holds h' moment (owed_step owed) told adds.grows);
+          (told_then ghosts b.opening v.seen h holds h' moment (owed_step owed) told adds.grows);
       claims = commits.claims;
     }
 
-  module _ (step : Step) (told : Answer) (made : Makes tells faulted IsSettled h h' moment step told) where
+  module _ (step : Step) (told : Answer) (made : Makes ghosts h h' moment step told) where
     pub end_made : last_or None h'.trail.entries ≡ Some (moment, with_kept step made.append)
     end_made = extended_last h.trail h'.trail (moment, with_kept step made.append) made.grows.trail
 
-    pub stands_made : ((n : Name) → Has n (all_names step) → Has n v.names) → Stands (way_of tells faulted IsSettled) b v h'
+    pub stands_made : ((n : Name) → Has n (all_names step) → Has n v.names) → Stands (way_of ghosts) b v h'
     stands_made own =
         let now : Step = with_kept step made.append in
-        let there : Holds tells faulted IsSettled b.opening (v.seen ++ (moment, now) ∷ []) h' =
-        made_holds tells faulted IsSettled b.opening v.seen h holds h' moment step told runs made in record {
+        let there : Holds ghosts b.opening (v.seen ++ (moment, now) ∷ []) h' =
+        made_holds ghosts b.opening v.seen h holds h' moment step told runs made in record {
           entry = (moment, now);
           last = end_made;
           names = λ n has. own n (subst (λ (ns : List Name). Has n ns) (named_kept step made.append) has);
-          follows = follows tells faulted IsSettled b.opening v.seen (moment, now) runs
-              (may_then tells faulted IsSettled b.opening v.seen h holds h' moment now told made.grows)
-              (inr (made_free tells faulted IsSettled b.opening v.seen h holds h' moment step told runs made));
+          follows = follows ghosts b.opening v.seen (moment, now) runs
+              (may_then ghosts b.opening v.seen h holds h' moment now told made.grows)
+              (inr (made_free ghosts b.opening v.seen h holds h' moment step told runs made));
           fits = there;
         }
 
     pub did_make : (s s' : Seat (Option (Box (Held K) Global)) View) → s.me.0 ≡ v → s'.table_id ≡ s.table_id
-        → Commits (way_of tells faulted IsSettled) b s s' (moment, with_kept step made.append)
-        → DidSo (way_of tells faulted IsSettled) b s s' moment step told
+        → Commits (way_of ghosts) b s s' (moment, with_kept step made.append)
+        → DidSo (way_of ghosts) b s s' moment step told
     did_make s s' is table commits =
         let now : Step = with_kept step made.append in record {
           append = made.append;
@@ -95,20 +96,20 @@ module _ {K : Type 0} (tells : K → Option (List ℕ)) (faulted : K → ℕ) (I
             table = table;
             me = commits.me;
             run = subst (λ (x : View). Runs b.opening (x.seen ++ (moment, now) ∷ [])) (sym is)
-                (made_runs tells faulted IsSettled b.opening v.seen h holds h' moment step told runs made);
+                (made_runs ghosts b.opening v.seen h holds h' moment step told runs made);
             answer = subst (λ (x : View). answer b.opening.limits b.opening.first (x.seen ++ (moment, now) ∷ [])
                 (length x.seen) ≡ Some told) (sym is)
-                (told_then tells faulted IsSettled b.opening v.seen h holds h' moment now told made.grows);
+                (told_then ghosts b.opening v.seen h holds h' moment now told made.grows);
             claims = commits.claims;
           };
           free = subst (λ (x : View). room_behind b.opening x.seen step ≡ true) (sym is)
-              (sym (room_same tells faulted IsSettled b.opening v.seen h holds step) ∙ made.free);
+              (sym (room_same ghosts b.opening v.seen h holds step) ∙ made.free);
         }
 
 -- why a step wasn't made
-pub why_same : {K : Type 0} (tells : K → Option (List ℕ)) (faulted : K → ℕ) (IsSettled : K → Type 0) (o : Opening) (log : List Entry)
+pub why_same : {K : Type 0} (ghosts : Ghosts K) (o : Opening) (log : List Entry)
     (h : Held K)
-    (holds : Holds tells faulted IsSettled o log h) (step : Step) (fault : MakeFault)
+    (holds : Holds ghosts o log h) (step : Step) (fault : MakeFault)
     → NotMade h step fault → MakeCause o log step fault
-why_same tells faulted IsSettled o log h holds step makes.Full is = sym (room_same tells faulted IsSettled o log h holds step) ∙ is
-why_same tells faulted IsSettled o log h holds step makes.OutOfMemory is = sym (room_same tells faulted IsSettled o log h holds step) ∙ is
+why_same ghosts o log h holds step makes.Full is = sym (room_same ghosts o log h holds step) ∙ is
+why_same ghosts o log h holds step makes.OutOfMemory is = sym (room_same ghosts o log h holds step) ∙ is

@@ -1,6 +1,8 @@
 -- What the holder of the turn has at the end of a history.
-use Rattle.std.specs.Prelude.{ℕ, ◌≡◌, ◌≤◌, ◌+◌, ◌-◌, ◌^◌, min, IsTrue, List, [], ◌∷◌, length, Option, None}
+use Rattle.std.specs.Prelude.{ℕ, ◌≡◌, ◌≤◌, ◌+◌, ◌-◌, ◌^◌, min, IfSome, IsTrue, List, [], ◌∷◌, length, Option, None, option_map}
 use Rattle.std.specs.List.{last_or}
+use Rattle.scm_model.specs.declared.flat.Flat.{Flat}
+use Rattle.scm_model.specs.declared.flat.Limits.{Limits}
 use Rattle.scm_model.specs.declared.steps.Kept.TheVariants as appended
 use Rattle.scm_model.specs.declared.steps.Step.{Step}
 use Rattle.scm_model.specs.declared.steps.Step.TheVariants.{Call}
@@ -8,14 +10,18 @@ use Rattle.scm_model.specs.Entries.{Entry, text_in}
 use Rattle.scm_model.specs.Rows.{is_caller}
 use Rattle.book_rule.specs.declared.view.Opening.{Opening}
 use Rattle.book_rule.specs.Ways.{Protocol}
-use Rattle.record_journal.specs.Bearing.{Bears, Stood, and_changes, stood_in}
+use Rattle.record_journal.specs.Bearing.{Bears, Stood, stood_in}
+use Rattle.record_journal.specs.Crashes.{Crashes}
 use Rattle.record_journal.specs.Keepers.{SettledSince}
+use Rattle.record_journal.specs.declared.journal.Journal.{Journal}
 use Rattle.scm_trail.specs.Trailed.{Ends}
 use Rattle.scm_rules.specs.Histories.{Legal, state}
 use Rattle.scm_rules.specs.Opening.{IsOpening}
 use Rattle.scm_rules.specs.Owed.{owed}
 use Rattle.scm_core.specs.Managed.{AreSmall}
-use Rattle.scm_history.specs.Kept.{kept_changes}
+use Rattle.scm_history.specs.Outcomes.{outcomes}
+use Rattle.journal_lasting.specs.Lasting.{HasLasted, stood_after}
+use Rattle.scm_book.specs.Ghosts.{Ghosts}
 use Rattle.scm_book.specs.declared.held.Held.{Held}
 use Rattle.scm_book.specs.Naming.{names_made, all_names, whose_after}
 
@@ -50,11 +56,31 @@ pub record Runs (o : Opening) (log : List Entry) : Type 0 where
 abbrev pub stood_at : Opening → Option Stood
 stood_at o = stood_in o.form o.bytes
 
+-- what is kept of it after a history
+abbrev pub kept_after : Opening → List Entry → Option Stood
+kept_after o log = option_map (λ s. stood_after s (outcomes o.limits o.first log)) (stood_at o)
+
+-- what a crash may have left at each moment since the opening, step by step
+abbrev pub Lasts : Opening → List Entry → Crashes → Type 0
+Lasts o log now = IfSome (stood_at o) (λ s. HasLasted s o.moment (outcomes o.limits o.first log) now)
+
 -- the caller has joined, and hasn't gone
 abbrev pub Lives : Opening → List Entry → ℕ → Type 0
 Lives o log caller = IsTrue (is_caller (state o.limits o.first log) caller)
 
-module _ {K : Type 0} (tells : K → Option (List ℕ)) (faulted : K → ℕ) (IsSettled : K → Type 0) where
+module _ {K : Type 0} (ghosts : Ghosts K) where
+  -- how a history begins, by its limits, its first state, its journal and its keeper
+  abbrev pub begun_with : Limits → Flat → Journal → K → Opening
+  begun_with l f j keeper = record {
+    limits = l;
+    first = f;
+    bytes = ghosts.held keeper;
+    form = j.form;
+    faults = ghosts.faults keeper;
+    moment = (ghosts.crashes keeper).moment;
+    asked = ghosts.asked keeper;
+  }
+
   pub record Holds (o : Opening) (log : List Entry) (h : Held K) : Type 0 where
     -- the trail holds the history's end, and all of it
     pub ends : Ends h.trail log
@@ -63,12 +89,16 @@ module _ {K : Type 0} (tells : K → Option (List ℕ)) (faulted : K → ℕ) (I
     pub steps : h.manager.steps ≡ length log
     pub text : h.manager.text ≡ text_in log
     pub manager : h.manager.flat ≡ state o.limits o.first log
-    -- the keeper holds what stood before and the kept changes in order, and perhaps a part of one more
-    pub journal : Bears (and_changes (stood_at o) (kept_changes o.limits o.first log)) h.journal (tells h.keeper)
+    -- the keeper holds what stood before and the kept changes in order, and perhaps a part of one whose append failed since
+    pub journal : Bears (kept_after o log) h.journal (ghosts.held h.keeper)
+    -- and so it was with what a crash might have left
+    pub lasts : Lasts o log (ghosts.crashes h.keeper)
     -- each change that was not kept has a fault of the keeper
-    pub faults : RoseBy (failures_in log) o.faults (faulted h.keeper)
+    pub faults : RoseBy (failures_in log) o.faults (ghosts.faults h.keeper)
     -- a crash now leaves what the keeper holds, unless it failed
-    pub settled : SettledSince o.faults (faulted h.keeper) (IsSettled h.keeper)
+    pub settled : SettledSince o.faults (ghosts.faults h.keeper) (ghosts.settled h.keeper)
+    -- it wasn't opened anew
+    pub asked : ghosts.asked h.keeper ≡ o.asked
     -- memory for the entries that are owed
     pub room : owed h.manager.flat ≤ h.trail.room
     -- the text is within its limit
@@ -76,13 +106,7 @@ module _ {K : Type 0} (tells : K → Option (List ℕ)) (faulted : K → ℕ) (I
 
   abbrev pub way_of : Protocol (Held K)
   way_of = record {
-    opening = λ h. record {
-      limits = h.manager.limits;
-      first = h.manager.flat;
-      bytes = tells h.keeper;
-      form = h.journal.form;
-      faults = faulted h.keeper;
-    };
+    opening = λ h. begun_with h.manager.limits h.manager.flat h.journal h.keeper;
     last = λ h. last_or None h.trail.entries;
     fits = Holds;
     run = Runs;

@@ -14,6 +14,7 @@ use Rattle.book_rule.specs.declared.view.Opening.{Opening}
 use Rattle.book_rule.specs.declared.view.View.{View}
 use Rattle.book_rule.specs.Seats.{HandsOver, Identity}
 use Rattle.book_rule.specs.Views.{longer}
+use Rattle.scm_book.specs.Ghosts.{Ghosts}
 use Rattle.scm_book.specs.declared.answers.JoinFault.{JoinFault}
 use Rattle.scm_book.specs.declared.answers.JoinFault.TheVariants as joins
 use Rattle.scm_book.specs.declared.fault.StepFault.{StepFault}
@@ -99,13 +100,13 @@ JoinsBy o by moment principal by' p = Joins o (of_badge by) moment principal (of
 abbrev pub LearntBy : Opening → Badge View → Badge View → Type 0
 LearntBy o by by' = Learnt o (of_badge by) (of_badge by')
 
-module _ {K : Type 0} (tells : K → Option (List ℕ)) (faulted : K → ℕ) (IsSettled : K → Type 0) (b : Identity)
+module _ {K : Type 0} (ghosts : Ghosts K) (b : Identity)
     (s s' : Seat (Option (Box (Held K) Global)) View) (moment : ℕ) (step : Step) where
   -- the seat, which had the turn, handed it over to a new seat, which made this step and has given the turn up
   pub record DidBeside (made : MadeBeside K) : Type 0 where
     pub holder : Seat (Option (Box (Held K) Global)) View
     pub hands : HandsOver s s' holder
-    pub did : DidSoBy tells faulted IsSettled b holder made.seat moment step made.told
+    pub did : DidSoBy ghosts b holder made.seat moment step made.told
 
   -- it did, or no step was made, and it has given the turn up
   abbrev pub DidStepBeside : Result (MadeBeside K) StepFault → Type 0

@@ -1,3 +1,4 @@
+pub mod Ghosts
 pub mod Naming
 pub mod Holds
 pub mod Steps

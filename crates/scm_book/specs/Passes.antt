@@ -21,6 +21,7 @@ use Rattle.book_rule.specs.declared.view.Stage.TheVariants.{Away}
 use Rattle.book_rule.specs.Ways.{Claims, Has}
 use Rattle.book_rule.specs.Views.{nobody}
 use Rattle.book_rule.specs.Seats.{Identity}
+use Rattle.scm_book.specs.Ghosts.{nothing_seen}
 use Rattle.scm_book.specs.declared.fault.MakeFault.{MakeFault}
 use Rattle.scm_book.specs.declared.fault.MakeFault.TheVariants as makes
 use Rattle.scm_book.specs.Naming.{names_made, whose_after}
@@ -76,7 +77,7 @@ pub record IsSame (k k' : Known) : Type 0 where
 
 -- what a pass claims of a history; what a keeper tells plays no part in it
 abbrev pub ClaimsIn : Opening → List Entry → Known → Type 0
-ClaimsIn o log k = Claims (way_of {K = Unit {0}} (λ keeper. None) (λ keeper. 0) (λ keeper. Unit {0})) o log k.caller k.names k.own k.seen
+ClaimsIn o log k = Claims (way_of nothing_seen) o log k.caller k.names k.own k.seen
 
 -- the state of the history that a pass has seen
 abbrev pub seen_state : Opening → Known → Flat

@@ -16,6 +16,7 @@ use Rattle.scm_history.specs.Shapes.{has_current}
 use Rattle.book_rule.specs.declared.view.Opening.{Opening}
 use Rattle.book_rule.specs.declared.view.View.{View}
 use Rattle.book_rule.specs.Seats.{Identity}
+use Rattle.scm_book.specs.Ghosts.{Ghosts}
 use Rattle.scm_book.specs.declared.held.Held.{Held}
 use Rattle.scm_book.specs.declared.processes.LaunchRoom.{LaunchRoom}
 use Rattle.scm_book.specs.declared.processes.TakenLaunch.{TakenLaunch}
@@ -51,12 +52,12 @@ module _ {K : Type 0} where
       (first_line h.manager.flat h.manager.flat.wanted) path path' taken.words
 
   -- so it is with a seat that had the turn, and has given it up
-  module _ (tells : K → Option (List ℕ)) (faulted : K → ℕ) (IsSettled : K → Type 0) (b : Identity)
+  module _ (ghosts : Ghosts K) (b : Identity)
       (s s' : Seat (Option (Box (Held K) Global)) View) where
     abbrev pub DidLaunch : ℕ → TextWithRoom → TextWithRoom → Option TakenLaunch → Type 0
     DidLaunch moment path path' None = LeftIt s s' × (is_wanted_behind b.opening s.me.0.seen ≡ false) × (path' ≡ path)
     DidLaunch moment path path' (Some taken) =
-        DidBy tells faulted IsSettled b s s' moment LaunchTaken (answers.Launch taken.process)
+        DidBy ghosts b s s' moment LaunchTaken (answers.Launch taken.process)
         × HandsOut (line_behind b.opening s.me.0.seen) path path' taken.words
 
 -- the pass has taken the launch of a process, and its line is that of the state before

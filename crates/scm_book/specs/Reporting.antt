@@ -24,6 +24,7 @@ use Rattle.scm_rules.specs.Reports.{reporting}
 use Rattle.book_rule.specs.declared.view.Opening.{Opening}
 use Rattle.book_rule.specs.declared.view.View.{View}
 use Rattle.book_rule.specs.Seats.{Identity}
+use Rattle.scm_book.specs.Ghosts.{Ghosts}
 use Rattle.scm_book.specs.declared.controlling.ControlLook.{ControlLook}
 use Rattle.scm_book.specs.declared.controlling.ControlLook.TheVariants as controls
 use Rattle.scm_book.specs.declared.controlling.ControlRoom.{ControlRoom}
@@ -92,18 +93,18 @@ pub record HandsOver (f : Flat) (process : ℕ) (text text' : TextWithRoom) (han
   pub shared : handed.shared ≡ is_shared (process_of f process)
   pub name : text' ≡ with_name_for handed.order (name_in (service_of f handed.order.service)) text
 
-module _ {K : Type 0} (tells : K → Option (List ℕ)) (faulted : K → ℕ) (IsSettled : K → Type 0) where
+module _ {K : Type 0} (ghosts : Ghosts K) where
   -- the order that is sent next was taken and handed over
   abbrev pub HoldsControl : Held K → Held K → ℕ → ℕ → TextWithRoom → TextWithRoom → HandedOrder → Type 0
   HoldsControl h h' moment process name name' handed =
-      Makes tells faulted IsSettled h h' moment (ControlTaken process) (answers.Control handed.order)
+      Makes ghosts h h' moment (ControlTaken process) (answers.Control handed.order)
       × HandsOver h.manager.flat process name name' handed
 
   -- so it is with a seat that had the turn, and has given it up
   module _ (b : Identity) (s s' : Seat (Option (Box (Held K) Global)) View) where
     abbrev pub DidHand : ℕ → ℕ → TextWithRoom → TextWithRoom → HandedOrder → Type 0
     DidHand moment process name name' handed =
-        DidSoBy tells faulted IsSettled b s s' moment (ControlTaken process) (answers.Control handed.order)
+        DidSoBy ghosts b s s' moment (ControlTaken process) (answers.Control handed.order)
         × HandsOver (state b.opening.limits b.opening.first s.me.0.seen) process name name' handed
 
     -- or no step was made, and the room for a name is as it was

@@ -17,6 +17,7 @@ use Rattle.book_rule.specs.declared.view.Opening.{Opening}
 use Rattle.book_rule.specs.declared.view.View.{View}
 use Rattle.book_rule.specs.Ways.{Has}
 use Rattle.book_rule.specs.Seats.{Identity}
+use Rattle.scm_book.specs.Ghosts.{Ghosts}
 use Rattle.scm_book.specs.declared.answers.EndLook.{EndLook}
 use Rattle.scm_book.specs.declared.answers.EndLook.TheVariants as looks
 use Rattle.scm_book.specs.declared.held.Held.{Held}
@@ -46,10 +47,10 @@ Ends o k moment caller plan k' None = Learnt o k k' × IsUndecided o k'.seen pla
 abbrev pub IsEndBy : Opening → Badge View → ℕ → ℕ → ℕ → Badge View → Option Answer → Type 0
 IsEndBy o badge moment caller plan badge' r = Ends o (of_badge badge) moment caller plan (of_badge badge') r
 
-module _ {K : Type 0} (tells : K → Option (List ℕ)) (faulted : K → ℕ) (IsSettled : K → Type 0) (b : Identity)
+module _ {K : Type 0} (ghosts : Ghosts K) (b : Identity)
     (s s' : Seat (Option (Box (Held K) Global)) View) where
   abbrev pub DidEnd : ℕ → ℕ → ℕ → Option Answer → Type 0
-  DidEnd moment caller plan (Some told) = DidBy tells faulted IsSettled b s s' moment (EndStart caller plan) told
+  DidEnd moment caller plan (Some told) = DidBy ghosts b s s' moment (EndStart caller plan) told
   DidEnd moment caller plan None = LeftIt s s' × IsUndecided b.opening s.me.0.seen plan
 
 -- ## end_start

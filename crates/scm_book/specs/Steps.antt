@@ -1,5 +1,5 @@
 -- What one step more makes of what the holder of the turn has.
-use Rattle.std.specs.Prelude.{ℕ, ◌≡◌, ◌≤◌, ◌+◌, Bool, true, false, IsTrue, List, [], ◌∷◌, Option, Some}
+use Rattle.std.specs.Prelude.{ℕ, ◌≡◌, ◌≤◌, ◌+◌, Bool, true, false, IsTrue, List, [], ◌∷◌, Option, Some, option_map}
 use Rattle.scm_model.specs.declared.steps.Answer.{Answer}
 use Rattle.scm_model.specs.declared.steps.Kept.{Kept}
 use Rattle.scm_model.specs.declared.steps.Step.{Step}
@@ -7,14 +7,16 @@ use Rattle.scm_model.specs.declared.steps.Step.TheVariants.{EndStart, LaunchTake
 use Rattle.scm_model.specs.Entries.{with_kept}
 use Rattle.scm_model.specs.Texts.{text_of}
 use Rattle.scm_trail.specs.Trailed.{Extends, Stays}
-use Rattle.record_journal.specs.Bearing.{Bears, Stood, and_changes}
+use Rattle.record_journal.specs.Bearing.{Bears, Stands, Stood}
 use Rattle.record_journal.specs.Keepers.{SettledSince}
 use Rattle.scm_rules.specs.Histories.{answer, state}
 use Rattle.scm_rules.specs.Owed.{owed}
 use Rattle.scm_rules.specs.Room.{debt, has_room}
 use Rattle.scm_rules.specs.Steps.{keeps_right, may, may_come}
 use Rattle.scm_core.specs.Managed.{WasMadeFor}
-use Rattle.scm_history.specs.Kept.{kept_change, one_or_none}
+use Rattle.scm_history.specs.Outcomes.{Outcome, outcome_in}
+use Rattle.journal_lasting.specs.Lasting.{TurnLeaves, with_outcome}
+use Rattle.scm_book.specs.Ghosts.{Ghosts}
 use Rattle.scm_book.specs.declared.fault.MakeFault.{MakeFault}
 use Rattle.scm_book.specs.declared.fault.MakeFault.TheVariants.{Full, OutOfMemory}
 use Rattle.scm_book.specs.declared.held.Held.{Held}
@@ -50,6 +52,10 @@ module _ {K : Type 0} where
   -- there is memory for what was owed, and for what a step may add and leave owed
   abbrev pub HasMemory : Held K → Step → Held K → Type 0
   HasMemory h step h' = owed h.manager.flat + debt h.manager.flat step ≤ h'.trail.room
+
+  -- what became of the change of a step that tells it
+  abbrev pub outcome_at : Held K → Step → Outcome
+  outcome_at h step = outcome_in h.manager.limits h.manager.flat step
 
   -- the manager made the step at this moment, and was told this, and the trail has it as its last entry
   pub record Grows (h h' : Held K) (moment : ℕ) (step : Step) (told : Answer) : Type 0 where
@@ -89,14 +95,18 @@ module _ {K : Type 0} where
   Why h step Full = has_room_in h step ≡ false
   Why h step OutOfMemory = has_room_in h step ≡ true
 
-  module _ (tells : K → Option (List ℕ)) (faulted : K → ℕ) (IsSettled : K → Type 0) where
-    -- what the keeper bore it bears with the step's change, if that was kept; if it wasn't, the keeper failed
+  module _ (ghosts : Ghosts K) where
+    -- what the keeper bore it bears with what became of the step's change; if that wasn't kept, the keeper failed
     pub record Keeps (h h' : Held K) (step : Step) : Type 0 where
-      pub bears : (good : Option Stood) → Bears good h.journal (tells h.keeper)
-          → Bears (and_changes good (one_or_none (kept_change h.manager.limits h.manager.flat step))) h'.journal (tells h'.keeper)
-      pub faults : RoseBy (one_failed step) (faulted h.keeper) (faulted h'.keeper)
+      pub bears : (good : Option Stood) → Bears good h.journal (ghosts.held h.keeper)
+          → Bears (option_map (λ s. with_outcome s (outcome_at h step)) good) h'.journal (ghosts.held h'.keeper)
+      -- so it is with what a crash leaves, at each moment of the append
+      pub turn : (s : Stood) → Bears (Some s) h.journal (ghosts.held h.keeper) → Stands s (ghosts.crashes h.keeper)
+          → TurnLeaves s (outcome_at h step) (ghosts.crashes h.keeper) (ghosts.crashes h'.keeper)
+      pub faults : RoseBy (one_failed step) (ghosts.faults h.keeper) (ghosts.faults h'.keeper)
       -- it is settled if it was, unless it failed
-      pub settled : IsSettled h.keeper → SettledSince (faulted h.keeper) (faulted h'.keeper) (IsSettled h'.keeper)
+      pub settled : ghosts.settled h.keeper → SettledSince (ghosts.faults h.keeper) (ghosts.faults h'.keeper) (ghosts.settled h'.keeper)
+      pub asked : ghosts.asked h'.keeper ≡ ghosts.asked h.keeper
 
     -- the same of a step with what became of its change
     abbrev pub KeepsAs : Held K → Held K → Step → Kept → Type 0

@@ -17,6 +17,7 @@ use Rattle.book_rule.specs.Ways.{Has, Protocol}
 use Rattle.book_rule.specs.Rule.{ClaimsOf}
 use Rattle.book_rule.specs.Seats.{Holding, Identity}
 use Rattle.book_rule.specs.Views.{having_left, having_made}
+use Rattle.scm_book.specs.Ghosts.{Ghosts}
 use Rattle.scm_book.specs.declared.turning.Recorded.{Recorded}
 use Rattle.scm_book.specs.declared.turning.Recorded.TheVariants as recorded
 use Rattle.scm_book.specs.declared.fault.MakeFault.{MakeFault}
@@ -99,11 +100,11 @@ CallEndsBy o badge moment caller call badge' r = CallEnds o (of_badge badge) mom
 
 -- ## Within a turn
 
-module _ {K : Type 0} (tells : K → Option (List ℕ)) (faulted : K → ℕ) (IsSettled : K → Type 0) where
+module _ {K : Type 0} (ghosts : Ghosts K) where
   -- a seat that has the turn has seen a legal history, and what it holds stands at the end of that history
   pub record HasTurn (b : Identity) (s : Seat (Option (Box (Held K) Global)) View) (h : Held K) : Type 0 where
     pub seat : Holding b s
-    pub holds : Holds tells faulted IsSettled b.opening s.me.0.seen h
+    pub holds : Holds ghosts b.opening s.me.0.seen h
     pub runs : Runs b.opening s.me.0.seen
 
 module _ {K : Type 0} where
@@ -128,34 +129,34 @@ module _ {K : Type 0} where
       pub did : Did moment (with_kept step append) told
       pub free : room_behind b.opening s.me.0.seen step ≡ true
 
-  abbrev pub DidBy : (K → Option (List ℕ)) → (K → ℕ) → (K → Type 0) → Identity → Seat (Option (Box (Held K) Global)) View
+  abbrev pub DidBy : Ghosts K → Identity → Seat (Option (Box (Held K) Global)) View
       → Seat (Option (Box (Held K) Global)) View → ℕ → Step → Answer → Type 0
-  DidBy tells faulted IsSettled b s s' moment step told = Did (way_of tells faulted IsSettled) b s s' moment step told
+  DidBy ghosts b s s' moment step told = Did (way_of ghosts) b s s' moment step told
 
-  abbrev pub DidSoBy : (K → Option (List ℕ)) → (K → ℕ) → (K → Type 0) → Identity → Seat (Option (Box (Held K) Global)) View
+  abbrev pub DidSoBy : Ghosts K → Identity → Seat (Option (Box (Held K) Global)) View
       → Seat (Option (Box (Held K) Global)) View → ℕ → Step → Answer → Type 0
-  DidSoBy tells faulted IsSettled b s s' moment step told = DidSo (way_of tells faulted IsSettled) b s s' moment step told
+  DidSoBy ghosts b s s' moment step told = DidSo (way_of ghosts) b s s' moment step told
 
   -- it made no step, and has given the turn up
   pub record LeftIt (s s' : Seat (Option (Box (Held K) Global)) View) : Type 0 where
     pub table : s'.table_id ≡ s.table_id
     pub me : s'.me ≡ (having_left s.me.0, [])
 
-  module _ (tells : K → Option (List ℕ)) (faulted : K → ℕ) (IsSettled : K → Type 0) (b : Identity)
+  module _ (ghosts : Ghosts K) (b : Identity)
       (s s' : Seat (Option (Box (Held K) Global)) View) where
     abbrev pub DidStep : ℕ → Step → Result Answer StepFault → Type 0
-    DidStep moment step (Ok told) = DidSo (way_of tells faulted IsSettled) b s s' moment step told
+    DidStep moment step (Ok told) = DidSo (way_of ghosts) b s s' moment step told
     DidStep moment step (Err fault) = LeftIt s s' × StepCause b.opening s.me.0.seen moment step fault
 
     -- there was no memory for a call, and that stands in its place; or there was none for that either, and the seat has given the turn up
     abbrev pub DidNone : ℕ → ℕ → Result Recorded MakeFault → Type 0
-    DidNone moment caller (Ok recorded.NoMemory) = (told : Answer) × DidSo (way_of tells faulted IsSettled) b s s' moment
+    DidNone moment caller (Ok recorded.NoMemory) = (told : Answer) × DidSo (way_of ghosts) b s s' moment
         (NoMemory caller) told
     DidNone moment caller (Err makes.OutOfMemory) = LeftIt s s'
     DidNone moment caller ended = ⊥
 
     abbrev pub DidCall : ℕ → ℕ → Step → Result (Option Answer) MakeFault → Type 0
-    DidCall moment caller call (Ok (Some told)) = DidSo (way_of tells faulted IsSettled) b s s' moment call told
-    DidCall moment caller call (Ok None) = (told : Answer) × DidSo (way_of tells faulted IsSettled) b s s' moment (NoMemory caller) told
+    DidCall moment caller call (Ok (Some told)) = DidSo (way_of ghosts) b s s' moment call told
+    DidCall moment caller call (Ok None) = (told : Answer) × DidSo (way_of ghosts) b s s' moment (NoMemory caller) told
         × (room_behind b.opening s.me.0.seen call ≡ true)
     DidCall moment caller call (Err fault) = LeftIt s s' × MakeCause b.opening s.me.0.seen call fault

@@ -4,6 +4,7 @@ ghost use Rattle.scm_model.specs.Ranges.{in_range};
 ghost use Rattle.scm_rules.specs.Opening.{IsOpening};
 ghost use Rattle.scm_core.specs.Managed.{AreSmall};
 ghost use Rattle.record_journal.specs.Bearing.{Bears, stood_in};
+ghost use Rattle.scm_book.specs.Ghosts.{ghosts_of};
 ghost use Rattle.scm_book.specs.declared.turning.Recorded.TheVariants.{NoMemory};
 ghost use Rattle.scm_book.specs.Called.{Calls, CallsInto, LeavesWhose, Raises, StartsAs, is_start};
 ghost use Rattle.scm_book.specs.Calls.{BeginsWith, Closes, Goes};
@@ -72,7 +73,9 @@ impl<K: Keeper> Book<K> {
         requires text { manager.text ≡ 0 }
         requires journal { Bears (stood_in journal.form (K.held keeper)) journal (K.held keeper) }
         requires settled { K.settled keeper }
-        ensures ok { IfOk result (BeginsWith K.held K.faults manager journal keeper) }
+        ensures ok { IfOk result (BeginsWith
+            (ghosts_of K.held K.faults K.settled K.crashes K.are_crashes K.asked)
+            manager journal keeper) }
         ensures err { IfErr result (λ back. back ≡ keeper) }
     {
         let held = Held::new(alloc, manager, journal, keeper);
@@ -114,7 +117,8 @@ impl<K: Keeper> Book<K> {
     /// Ends the book, and hands out the whole history.
     pub fn close<R: Wait>(self, rt: &R, last: Spent) -> Closed<K>
         requires { IsOf self last }
-        ensures { Closes K.held K.faults K.settled self.opening last result }
+        ensures { Closes (ghosts_of K.held K.faults K.settled K.crashes K.are_crashes K.asked)
+            self.opening last result }
     {
         let Spent { badge } = last;
         let Book { shared } = self;
@@ -130,6 +134,7 @@ impl<K: Keeper> Book<K> {
             keeper,
             alloc: _,
         } = turn.close(rt, badge.into_seat());
+        let _entries = trail.entries();
         let services = manager.services();
         manager.close();
         Closed {

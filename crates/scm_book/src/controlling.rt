@@ -4,6 +4,7 @@ ghost use Rattle.scm_model.specs.declared.steps.Step.TheVariants.{ControlTaken};
 ghost use Rattle.scm_model.specs.Rows.{service_of};
 ghost use Rattle.scm_core.specs.Managed.{AreSmall};
 ghost use Rattle.book_rule.specs.Seats.{Waits};
+ghost use Rattle.scm_book.specs.Ghosts.{ghosts_of};
 ghost use Rattle.scm_book.specs.Passes.{IsOf, KeepsAll};
 ghost use Rattle.scm_book.specs.Reporting.{ControlEnds, DidControl, DidHand, HoldsControl};
 ghost use Rattle.scm_book.specs.Reporting.{LooksForBy, look_of, name_in, with_name_for};
@@ -105,7 +106,9 @@ impl<K: Keeper> Held<K> {
         requires may { IsTrue (may_come_in self.old moment (ControlTaken process)) }
         requires small { AreSmall self.old.manager.limits }
         requires name { 256 ≤ name.old.room }
-        ensures ok { IfOk result (HoldsControl K.held K.faults K.settled self.old self.new moment
+        ensures ok { IfOk result (HoldsControl
+            (ghosts_of K.held K.faults K.settled K.crashes K.are_crashes K.asked)
+            self.old self.new moment
             process name.old name.new) }
         ensures err { OnErr result (IsAsItWas self.old self.new) }
         ensures why { IfErr result (Why self.old (ControlTaken process)) }
@@ -136,11 +139,15 @@ impl<K: Keeper> Shared<K> {
         mut held: Box<Held<K>>,
         seat: &mut TurnSeat<Held<K>>,
     ) -> Result<HandedOrder, MakeFault>
-        requires turn { HasTurn K.held K.faults K.settled self.now.turn seat.old held.value }
+        requires turn { HasTurn
+            (ghosts_of K.held K.faults K.settled K.crashes K.are_crashes K.asked)
+            self.now.turn seat.old held.value }
         requires may { MayMakeBy self.now.turn.opening seat.old.me.0 moment (ControlTaken process) }
         requires step { control.old.step ≡ ControlTaken process }
         requires name { 256 ≤ name.old.room }
-        ensures ok { IfOk result (DidHand K.held K.faults K.settled self.now.turn seat.old seat.new
+        ensures ok { IfOk result (DidHand
+            (ghosts_of K.held K.faults K.settled K.crashes K.are_crashes K.asked)
+            self.now.turn seat.old seat.new
             moment process name.old name.new) }
         ensures err { OnErr result (LeftIt seat.old seat.new) }
         ensures why { IfErr result (MakeCause self.now.turn.opening seat.old.me.0.seen
@@ -173,10 +180,14 @@ impl<K: Keeper> Shared<K> {
         held: Box<Held<K>>,
         seat: &mut TurnSeat<Held<K>>,
     ) -> Result<HandedOrder, StepFault>
-        requires turn { HasTurn K.held K.faults K.settled self.now.turn seat.old held.value }
+        requires turn { HasTurn
+            (ghosts_of K.held K.faults K.settled K.crashes K.are_crashes K.asked)
+            self.now.turn seat.old held.value }
         requires step { control.old.step ≡ ControlTaken process }
         requires name { 256 ≤ name.old.room }
-        ensures did { DidControl K.held K.faults K.settled self.now.turn seat.old seat.new moment
+        ensures did { DidControl
+            (ghosts_of K.held K.faults K.settled K.crashes K.are_crashes K.asked)
+            self.now.turn seat.old seat.new moment
             process name.old name.new result }
         ensures waits { Waits self.now.turn seat.new }
     {

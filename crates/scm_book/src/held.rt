@@ -4,6 +4,7 @@ ghost use Rattle.std.specs.Prelude.{IfErr, IfOk, OnErr, OnOk};
 ghost use Rattle.std.specs.Option.{ForSome};
 ghost use Rattle.scm_trail.specs.Notes.{is_brief};
 ghost use Rattle.scm_trail.specs.Trailed.{no_entries};
+ghost use Rattle.scm_book.specs.Ghosts.{ghosts_of};
 ghost use Rattle.scm_book.specs.Steps.{owed_step, Adds, Grows, HasMemory, IsAsItWas, IsPrepared};
 ghost use Rattle.scm_book.specs.Steps.{KeepsAs, Makes, TellsRight, Why, has_room_in, may_come_in};
 ghost use Rattle.scm_book.specs.Steps.{may_in};
@@ -148,7 +149,7 @@ fn tell(step: &mut Step, now: Kept)
 impl<K: Keeper> Guarded for Held<K> {
     ghost use Rattle.scm_book.specs.Holds.{way_of};
 
-    ghost way = { way_of K.held K.faults K.settled };
+    ghost way = { way_of (ghosts_of K.held K.faults K.settled K.crashes K.are_crashes K.asked) };
 }
 
 impl<K: Keeper> Held<K> {
@@ -223,7 +224,9 @@ impl<K: Keeper> Held<K> {
         requires { WasMadeFor self.old.manager.room step.now }
         ensures manager { self.new.manager ≡ self.old.manager }
         ensures trail { self.new.trail ≡ self.old.trail }
-        ensures keeps { IfOk result (KeepsAs K.held K.faults K.settled self.old self.new step.now) }
+        ensures keeps { IfOk result (KeepsAs
+            (ghosts_of K.held K.faults K.settled K.crashes K.are_crashes K.asked)
+            self.old self.new step.now) }
         ensures told { IfOk result (TellsRight self.old step.now) }
         ensures journal { OnErr result (self.new.journal ≡ self.old.journal) }
         ensures keeper { OnErr result (self.new.keeper ≡ self.old.keeper) }
@@ -263,7 +266,9 @@ impl<K: Keeper> Held<K> {
     #[inline(always)]
     pub(crate) fn prepare(&mut self, doubled: &PendingEntry) -> Result<Kept, MakeFault>
         requires small { AreSmall self.old.manager.limits }
-        ensures ok { IfOk result (IsPrepared K.held K.faults K.settled self.old self.new
+        ensures ok { IfOk result (IsPrepared
+            (ghosts_of K.held K.faults K.settled K.crashes K.are_crashes K.asked)
+            self.old self.new
             doubled.now.step) }
         ensures noted { OnOk result (IsSome doubled.now.note) }
         ensures err { OnErr result (IsAsItWas self.old self.new) }
@@ -296,7 +301,9 @@ impl<K: Keeper> Held<K> {
     ) -> Result<Answer, MakeFault>
         requires may { IsTrue (may_come_in self.old moment doubled.old.step) }
         requires small { AreSmall self.old.manager.limits }
-        ensures ok { IfOk result (Makes K.held K.faults K.settled self.old self.new moment
+        ensures ok { IfOk result (Makes
+            (ghosts_of K.held K.faults K.settled K.crashes K.are_crashes K.asked)
+            self.old self.new moment
             doubled.old.step) }
         ensures err { OnErr result (IsAsItWas self.old self.new) }
         ensures why { IfErr result (λ fault. Why self.old doubled.old.step fault) }
@@ -323,7 +330,9 @@ impl<K: Keeper> Held<K> {
     ) -> Result<(), MakeFault>
         requires may { IsTrue (may_come_in self.old moment doubled.old.step) }
         requires small { AreSmall self.old.manager.limits }
-        ensures ok { OnOk result (Makes K.held K.faults K.settled self.old self.new moment
+        ensures ok { OnOk result (Makes
+            (ghosts_of K.held K.faults K.settled K.crashes K.are_crashes K.asked)
+            self.old self.new moment
             doubled.old.step answer.new) }
         ensures err { OnErr result (IsAsItWas self.old self.new) }
         ensures why { IfErr result (λ fault. Why self.old doubled.old.step fault) }
@@ -369,7 +378,9 @@ impl<K: Keeper> Held<K> {
     pub fn make(&mut self, moment: u64, step: Step) -> Result<Answer, MakeFault>
         requires may { IsTrue (may_come_in self.old moment step) }
         requires small { AreSmall self.old.manager.limits }
-        ensures ok { IfOk result (Makes K.held K.faults K.settled self.old self.new moment step) }
+        ensures ok { IfOk result (Makes
+            (ghosts_of K.held K.faults K.settled K.crashes K.are_crashes K.asked)
+            self.old self.new moment step) }
         ensures err { OnErr result (IsAsItWas self.old self.new) }
         ensures why { IfErr result (λ fault. Why self.old step fault) }
     {

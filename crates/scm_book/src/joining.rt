@@ -2,6 +2,7 @@
 ghost use Rattle.std.specs.Prelude.{◌≡◌, ℕ, [], IfOk, IfErr, IfSome, OnErr};
 ghost use Rattle.scm_model.specs.declared.steps.Answer.TheVariants as answers;
 ghost use Rattle.book_rule.specs.Seats.{Waits};
+ghost use Rattle.scm_book.specs.Ghosts.{ghosts_of};
 ghost use Rattle.scm_book.specs.Holds.{Opens};
 ghost use Rattle.scm_book.specs.Joins.{JoinCause, JoinEndsAt, JoinEndsBy, JoinsBy, TakesIn};
 ghost use Rattle.scm_book.specs.Joins.{DidBeside, DidStepBeside, LearntBy, WatchesBy, join_told};
@@ -104,9 +105,13 @@ impl<K: Keeper> Shared<K> {
         mut held: Box<Held<K>>,
         seat: &mut TurnSeat<Held<K>>,
     ) -> Result<MadeBeside<K>, MakeFault>
-        requires turn { HasTurn K.held K.faults K.settled self.now.turn seat.old held.value }
+        requires turn { HasTurn
+            (ghosts_of K.held K.faults K.settled K.crashes K.are_crashes K.asked)
+            self.now.turn seat.old held.value }
         requires may { MayMake self.now.turn.opening seat.old.me.0.seen [] moment step.old.step }
-        ensures ok { IfOk result (DidBeside K.held K.faults K.settled self.now.turn seat.old
+        ensures ok { IfOk result (DidBeside
+            (ghosts_of K.held K.faults K.settled K.crashes K.are_crashes K.asked)
+            self.now.turn seat.old
             seat.new moment step.old.step) }
         ensures err { OnErr result (LeftIt seat.old seat.new) }
         ensures why { IfErr result (MakeCause self.now.turn.opening seat.old.me.0.seen
@@ -139,9 +144,13 @@ impl<K: Keeper> Shared<K> {
         held: Box<Held<K>>,
         seat: &mut TurnSeat<Held<K>>,
     ) -> Result<MadeBeside<K>, StepFault>
-        requires turn { HasTurn K.held K.faults K.settled self.now.turn seat.old held.value }
+        requires turn { HasTurn
+            (ghosts_of K.held K.faults K.settled K.crashes K.are_crashes K.asked)
+            self.now.turn seat.old held.value }
         requires own { NamesNoOther [] step.old.step }
-        ensures did { DidStepBeside K.held K.faults K.settled self.now.turn seat.old seat.new moment
+        ensures did { DidStepBeside
+            (ghosts_of K.held K.faults K.settled K.crashes K.are_crashes K.asked)
+            self.now.turn seat.old seat.new moment
             step.old.step result }
         ensures waits { Waits self.now.turn seat.new }
         ensures new { IfOk result (λ made. Waits self.now.turn made.seat) }
@@ -235,10 +244,13 @@ impl<K: Keeper> Shared<K> {
         held: Box<Held<K>>,
         seat: &mut TurnSeat<Held<K>>,
     ) -> Option<Answer>
-        requires turn { HasTurn K.held K.faults K.settled self.now.turn seat.old held.value }
+        requires turn { HasTurn
+            (ghosts_of K.held K.faults K.settled K.crashes K.are_crashes K.asked)
+            self.now.turn seat.old held.value }
         requires there { IsThere self.now.turn.opening seat.old.me.0.seen seat.old.me.0.names by
             plan }
-        ensures did { DidEnd K.held K.faults K.settled self.now.turn seat.old seat.new moment by
+        ensures did { DidEnd (ghosts_of K.held K.faults K.settled K.crashes K.are_crashes K.asked)
+            self.now.turn seat.old seat.new moment by
             plan result }
         ensures waits { Waits self.now.turn seat.new }
     {

@@ -2,6 +2,7 @@
 ghost use Rattle.std.specs.Prelude.{◌≡◌, ◌≤◌, ◌<◌, ◌+◌, ◌^◌, [], IfOk, IsTrue, ◌≢◌};
 ghost use Rattle.scm_rules.specs.Steps.{wants_launch};
 ghost use Rattle.book_rule.specs.Seats.{Waits};
+ghost use Rattle.scm_book.specs.Ghosts.{ghosts_of};
 ghost use Rattle.scm_book.specs.Processes.{DidLaunch, HoldsLaunch, TakesBy, EndedSo, IsEnd};
 ghost use Rattle.scm_book.specs.Processes.{KeepsAllBut, LaunchEnds, told_of_end};
 ghost use Rattle.scm_book.specs.Turns.{HasTurn, IsSeated, of_badge};
@@ -96,9 +97,13 @@ impl<K: Keeper> Shared<K> {
         mut held: Box<Held<K>>,
         seat: &mut TurnSeat<Held<K>>,
     ) -> Option<TakenLaunch>
-        requires turn { HasTurn K.held K.faults K.settled self.now.turn seat.old held.value }
+        requires turn { HasTurn
+            (ghosts_of K.held K.faults K.settled K.crashes K.are_crashes K.asked)
+            self.now.turn seat.old held.value }
         requires path { 2048 ≤ path.old.room }
-        ensures did { DidLaunch K.held K.faults K.settled self.now.turn seat.old seat.new moment
+        ensures did { DidLaunch
+            (ghosts_of K.held K.faults K.settled K.crashes K.are_crashes K.asked)
+            self.now.turn seat.old seat.new moment
             path.old path.new result }
         ensures waits { Waits self.now.turn seat.new }
     {

@@ -1,6 +1,7 @@
 // What all who make steps share, and the steps that are made with the turn held.
 ghost use Rattle.std.specs.Prelude.{◌≡◌, IfErr, IfOk, OnErr, Ok};
 ghost use Rattle.book_rule.specs.Seats.{Waits};
+ghost use Rattle.scm_book.specs.Ghosts.{ghosts_of};
 ghost use Rattle.scm_book.specs.Turns.{IsSeated, known, of_badge, AlwaysMay, DidBy, DidSoBy};
 ghost use Rattle.scm_book.specs.Turns.{DidStep, HasTurn, LeftIt, MadeBy, MakeCause, MayMakeBy};
 ghost use Rattle.scm_book.specs.Turns.{NamesNoOther, StepEndsAt, StepEndsBy, CallEndsBy, DidCall};
@@ -63,9 +64,12 @@ impl<K: Keeper> Shared<K> {
         mut held: Box<Held<K>>,
         seat: &mut TurnSeat<Held<K>>,
     ) -> Answer
-        requires turn { HasTurn K.held K.faults K.settled self.now.turn seat.old held.value }
+        requires turn { HasTurn
+            (ghosts_of K.held K.faults K.settled K.crashes K.are_crashes K.asked)
+            self.now.turn seat.old held.value }
         requires may { MayMakeBy self.now.turn.opening seat.old.me.0 moment (owed_step owed) }
-        ensures did { DidBy K.held K.faults K.settled self.now.turn seat.old seat.new moment
+        ensures did { DidBy (ghosts_of K.held K.faults K.settled K.crashes K.are_crashes K.asked)
+            self.now.turn seat.old seat.new moment
             (owed_step owed) result }
         ensures waits { Waits self.now.turn seat.new }
     {
@@ -107,9 +111,13 @@ impl<K: Keeper> Shared<K> {
         mut held: Box<Held<K>>,
         seat: &mut TurnSeat<Held<K>>,
     ) -> Result<Answer, MakeFault>
-        requires turn { HasTurn K.held K.faults K.settled self.now.turn seat.old held.value }
+        requires turn { HasTurn
+            (ghosts_of K.held K.faults K.settled K.crashes K.are_crashes K.asked)
+            self.now.turn seat.old held.value }
         requires may { MayMakeBy self.now.turn.opening seat.old.me.0 moment step.old.step }
-        ensures ok { IfOk result (DidSoBy K.held K.faults K.settled self.now.turn seat.old seat.new
+        ensures ok { IfOk result (DidSoBy
+            (ghosts_of K.held K.faults K.settled K.crashes K.are_crashes K.asked)
+            self.now.turn seat.old seat.new
             moment step.old.step) }
         ensures err { OnErr result (LeftIt seat.old seat.new) }
         ensures why { IfErr result (MakeCause self.now.turn.opening seat.old.me.0.seen
@@ -139,9 +147,12 @@ impl<K: Keeper> Shared<K> {
         held: Box<Held<K>>,
         seat: &mut TurnSeat<Held<K>>,
     ) -> Result<Answer, StepFault>
-        requires turn { HasTurn K.held K.faults K.settled self.now.turn seat.old held.value }
+        requires turn { HasTurn
+            (ghosts_of K.held K.faults K.settled K.crashes K.are_crashes K.asked)
+            self.now.turn seat.old held.value }
         requires own { NamesNoOther seat.old.me.0.names step.old.step }
-        ensures did { DidStep K.held K.faults K.settled self.now.turn seat.old seat.new moment
+        ensures did { DidStep (ghosts_of K.held K.faults K.settled K.crashes K.are_crashes K.asked)
+            self.now.turn seat.old seat.new moment
             step.old.step result }
         ensures waits { Waits self.now.turn seat.new }
     {
@@ -213,10 +224,13 @@ impl<K: Keeper> Shared<K> {
         held: Box<Held<K>>,
         seat: &mut TurnSeat<Held<K>>,
     ) -> Result<Recorded, MakeFault>
-        requires turn { HasTurn K.held K.faults K.settled self.now.turn seat.old held.value }
+        requires turn { HasTurn
+            (ghosts_of K.held K.faults K.settled K.crashes K.are_crashes K.asked)
+            self.now.turn seat.old held.value }
         requires may { MayMakeBy self.now.turn.opening seat.old.me.0 moment
             (steps.NoMemory caller) }
-        ensures did { DidNone K.held K.faults K.settled self.now.turn seat.old seat.new moment
+        ensures did { DidNone (ghosts_of K.held K.faults K.settled K.crashes K.are_crashes K.asked)
+            self.now.turn seat.old seat.new moment
             caller result }
         ensures waits { Waits self.now.turn seat.new }
     {
@@ -239,10 +253,13 @@ impl<K: Keeper> Shared<K> {
         mut held: Box<Held<K>>,
         seat: &mut TurnSeat<Held<K>>,
     ) -> Result<Recorded, MakeFault>
-        requires turn { HasTurn K.held K.faults K.settled self.now.turn seat.old held.value }
+        requires turn { HasTurn
+            (ghosts_of K.held K.faults K.settled K.crashes K.are_crashes K.asked)
+            self.now.turn seat.old held.value }
         requires may { MayMakeBy self.now.turn.opening seat.old.me.0 moment call.old.step }
         requires none { MayMakeBy self.now.turn.opening seat.old.me.0 moment (steps.NoMemory by) }
-        ensures did { DidCall K.held K.faults K.settled self.now.turn seat.old seat.new moment by
+        ensures did { DidCall (ghosts_of K.held K.faults K.settled K.crashes K.are_crashes K.asked)
+            self.now.turn seat.old seat.new moment by
             call.old.step (call_told result answer.new) }
         ensures waits { Waits self.now.turn seat.new }
         ensures same { result ≡ Ok NoMemory → call.new ≡ call.old }

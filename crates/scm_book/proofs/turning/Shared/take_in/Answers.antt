@@ -1,4 +1,5 @@
 use Rattle.std.proofs.Common.{sym, subst}
+use Rattle.scm_book.specs.Ghosts.{ghosts_of}
 use Rattle.scm_book.specs.Joins.{TakesIn}
 use Rattle.scm_book.specs.Passes.{KeepsAll, Known}
 use Rattle.scm_book.specs.Turns.{known, of_badge}
@@ -12,8 +13,10 @@ stand-requires g c = merged_waits c.args.self.now.turn c.sit-mine.result c.merge
 
 pub returns-clause-keeps : goal.returns-clause-keeps
 returns-clause-keeps g c =
+    let ghosts = ghosts_of g.K.Keeper.held g.K.Keeper.faults g.K.Keeper.settled g.K.Keeper.crashes
+    g.K.Keeper.are_crashes g.K.Keeper.asked in
     as_tokens (λ (k k' : Known). KeepsAll c.args.self.now.turn.opening k k') c.sit-mine.ensures.knows c.stand.ensures.knows
-    (merged_keeps g.K.Keeper.held g.K.Keeper.faults g.K.Keeper.settled c.args.self.now.turn c.requires.opens c.sit-mine.result
+    (merged_keeps ghosts c.args.self.now.turn c.requires.opens c.sit-mine.result
     c.merge.new.seat
     c.sit-other.result c.merge.ensures.seat c.merge.ensures.claims)
 
