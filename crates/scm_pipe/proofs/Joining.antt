@@ -44,11 +44,11 @@ has_room_at l f principal opens some =
     subst (λ (g : Flat). has_room l g 0 (text_in []) (Joined principal) ≡ true) (sym (state_none l f ∙ opens.is))
     (room_in l opens.groups opens.configs opens.moment principal some)
 
-pub can_join : (o : Opening) (l : Limits) (f : Flat) (bytes : Option (List ℕ)) (form : Form) (faults : ℕ)
-    (principal : Principal)
-    → o ≡ record { limits = l; first = f; bytes = bytes; form = form; faults = faults }
+pub can_join : (o : Opening) (l : Limits) (f : Flat) (bytes : Option (List ℕ)) (form : Form) (faults moment : ℕ)
+    (asked : Option (List (Option (List ℕ)))) (principal : Principal)
+    → o ≡ record { limits = l; first = f; bytes = bytes; form = form; faults = faults; moment = moment; asked = asked }
     → IsOpening l f → 1 ≤ l.callers → 2 ≤ l.steps → CanJoin o principal
-can_join o l f bytes form faults principal is opens places steps =
+can_join o l f bytes form faults moment asked principal is opens places steps =
     subst (λ (x : Opening). CanJoin x principal) (sym is)
     (record { opens = opens; place = has_place_at l f opens places; room = has_room_at l f principal opens steps })
 

@@ -16,15 +16,14 @@ use Rattle.scm_rules.specs.Histories.{Legal, state}
 use Rattle.scm_rules.specs.Room.{has_room}
 use Rattle.scm_rules.specs.Runs.{run_state}
 use Rattle.scm_runs.proofs.Histories.{state_is}
-use Rattle.scm_history.specs.Kept.{kept_changes}
 use Rattle.scm_owed.proofs.Histories.{legal_front}
-use Rattle.record_journal.specs.Bearing.{Bears, and_changes}
 use Rattle.record_journal.specs.declared.journal.Journal.{Journal}
 use Rattle.rpc_session.specs.declared.state.Incoming.{Incoming}
 use Rattle.book_rule.specs.declared.view.Opening.{Opening}
 use Rattle.scm_book.specs.declared.book.Closed.{Closed}
 use Rattle.scm_book.specs.Calls.{Closes}
-use Rattle.scm_book.specs.Holds.{RoseBy, failures_in, stood_at}
+use Rattle.scm_book.specs.Ghosts.{Ghosts}
+use Rattle.scm_book.specs.Holds.{begun_with}
 use Rattle.scm_book.specs.Passes.{Known, Learnt}
 use Rattle.conn_desk.specs.declared.asked.DecodedRequest.{DecodedRequest}
 use Rattle.conn_desk.specs.declared.served.Served.{Served}
@@ -42,7 +41,7 @@ use Rattle.conn_worker.proofs.Fronts.{front_of_all}
 use Rattle.conn_worker.proofs.Reaching.{reached_as}
 use Rattle.scm_pipe.specs.declared.alone.Piped.{Piped}
 use Rattle.scm_pipe.specs.Histories.{AreServed, replies, the_caller}
-use Rattle.scm_pipe.specs.Piping.{HasNoRoomAfter, HasRoomForAll, IsEnd, IsEndAt, IsJoined, IsKept, IsPiped, IsRoot, IsUnjoined, begun_with}
+use Rattle.scm_pipe.specs.Piping.{HasNoRoomAfter, HasRoomForAll, IsEnd, IsEndAt, IsJoined, IsKept, IsPiped, IsRoot, IsUnjoined}
 use Rattle.scm_pipe.proofs.Histories.{replies_append}
 use Rattle.scm_pipe.proofs.Joining.{HasJoined}
 use Rattle.scm_pipe.proofs.Walking.{RunsTo, runs}
@@ -176,31 +175,26 @@ module _ (tells : ℕ → Type 0) (principal : Principal) (o : Opening) (k k' : 
 
 -- ## At its end
 
-module _ {K : Type 0} (told : K → Option (List ℕ)) (faulted : K → ℕ) (IsSettled : K → Type 0) where
+module _ {K : Type 0} (ghosts : Ghosts K) where
   -- what a book that is closed leaves
-  pub kept_by : (o : Opening) (last : Known) (c : Closed K) → last.alone ≡ true → Closes told faulted IsSettled o last c
-      → IsKept told faulted IsSettled o last.seen c.keeper
-  kept_by o last c alone closes = record {
-    journal = closes.journal;
-    bears = subst (λ (es : List Entry). Bears (and_changes (stood_at o) (kept_changes o.limits o.first es)) closes.journal (told c.keeper))
-        (closes.alone alone) closes.bears;
-    faults = subst (λ (es : List Entry). RoseBy (failures_in es) o.faults (faulted c.keeper)) (closes.alone alone) closes.faults;
-    settled = closes.settled;
-  }
+  pub kept_by : (o : Opening) (last : Known) (c : Closed K) → last.alone ≡ true → Closes ghosts o last c
+      → IsKept ghosts o last.seen c.keeper
+  kept_by o last c alone closes = subst (λ (es : List Entry). IsKept ghosts o es c.keeper) (closes.alone alone)
+      (record { coded = closes.coded; keeps = closes.keeps })
 
   -- a connection that was served
   pub joined_end : (tells : ℕ → Type 0) (principal : Principal) (o : Opening) (k k' : Known) (left left_now held held_now : Option (List ℕ))
       (how : Served) (end : Piped K)
       → HasJoined tells principal k → Connects false tells o k k' left left_now held held_now how → end.how ≡ how
-      → (k'.alone ≡ true → IsKept told faulted IsSettled o k'.seen end.keeper)
-      → IsJoined told faulted IsSettled tells principal o left left_now held held_now
+      → (k'.alone ≡ true → IsKept ghosts o k'.seen end.keeper)
+      → IsJoined ghosts tells principal o left left_now held held_now
       end
   joined_end tells principal o k k' left left_now held held_now how end joined c same kept = record {
     history = history tells principal o k k' left left_now held held_now how joined c;
     piped = subst (λ (h : Served). IsPiped tells principal o.limits o.first left left_now held held_now h
         (history tells principal o k k' left left_now held held_now how joined c)) (sym same)
         (piped tells principal o k k' left left_now held held_now how joined c);
-    kept = subst (λ (es : List Entry). IsKept told faulted IsSettled o es end.keeper)
+    kept = subst (λ (es : List Entry). IsKept ghosts o es end.keeper)
         (seen_is tells principal o k k' left left_now held held_now how joined c)
         (kept (c.adds.same.alone ∙ joined.alone));
   }
@@ -208,11 +202,11 @@ module _ {K : Type 0} (told : K → Option (List ℕ)) (faulted : K → ℕ) (Is
   -- one whose caller didn't join
   pub unjoined_end : (o : Opening) (root k k' : Known) (left held : Option (List ℕ)) (how : Served) (end : Piped K)
       → IsRoot root → Learnt o root k → k' ≡ k → how ≡ served.OutOfMemory → end.how ≡ how
-      → (k'.alone ≡ true → IsKept told faulted IsSettled o k'.seen end.keeper) → IsUnjoined left left held held end.how
-      × IsKept told faulted IsSettled o [] end.keeper
+      → (k'.alone ≡ true → IsKept ghosts o k'.seen end.keeper) → IsUnjoined left left held held end.how
+      × IsKept ghosts o [] end.keeper
   unjoined_end o root k k' left held how end is learnt same lacks ends kept = (
     record { lacks = ends ∙ lacks; unread = refl; unwritten = refl },
-    subst (λ (es : List Entry). IsKept told faulted IsSettled o es end.keeper) (ap (λ (x : Known). x.seen) same
+    subst (λ (es : List Entry). IsKept ghosts o es end.keeper) (ap (λ (x : Known). x.seen) same
         ∙ (learnt.alone is.alone ∙ is.seen))
         (kept (ap (λ (x : Known). x.alone) same ∙ (learnt.same.alone ∙ is.alone))),
   )
@@ -238,31 +232,31 @@ module _ (principal : Principal) (l : Limits) (f : Flat) (bytes : List ℕ) (lef
   room_unjoined : (how : Served) → IsUnjoined (Some bytes) left_now held held_now how → how ≢ served.Full
   room_unjoined how none = λ is. lacks_no_room (sym none.lacks ∙ is)
 
-  room_ends : {K : Type 0} (told : K → Option (List ℕ)) (faulted : K → ℕ) (IsSettled : K → Type 0) (tells : ℕ → Type 0) (j : Journal)
+  room_ends : {K : Type 0} (ghosts : Ghosts K) (tells : ℕ → Type 0) (j : Journal)
       (keeper : K) (end : Piped K)
-      → IsEnd told faulted IsSettled tells principal l f j (Some bytes) left_now held held_now keeper end → end.how ≢ served.Full
-  room_ends told faulted IsSettled tells j keeper end (inl (inl joined)) = room_piped tells end.how joined.history joined.piped
-  room_ends told faulted IsSettled tells j keeper end (inl (inr none)) = room_unjoined end.how none.0
-  room_ends told faulted IsSettled tells j keeper end (inr none) = room_unjoined end.how none.0
+      → IsEnd ghosts tells principal l f j (Some bytes) left_now held held_now keeper end → end.how ≢ served.Full
+  room_ends ghosts tells j keeper end (inl (inl joined)) = room_piped tells end.how joined.history joined.piped
+  room_ends ghosts tells j keeper end (inl (inr none)) = room_unjoined end.how none.0
+  room_ends ghosts tells j keeper end (inr none) = room_unjoined end.how none.0
 
-finds_room : {K : Type 0} (told : K → Option (List ℕ)) (faulted : K → ℕ) (IsSettled : K → Type 0) (tells : ℕ → Type 0)
+finds_room : {K : Type 0} (ghosts : Ghosts K) (tells : ℕ → Type 0)
     (principal : Principal) (l : Limits)
     (f : Flat) (j : Journal) (left left_now held held_now : Option (List ℕ)) (keeper : K) (end : Piped K)
-    → IsEnd told faulted IsSettled tells principal l f j left left_now held held_now keeper end
+    → IsEnd ghosts tells principal l f j left left_now held held_now keeper end
     → FindsRoom (HasRoomForAll principal l f) left end.how
-finds_room told faulted IsSettled tells principal l f j None left_now held held_now keeper end is = tt
-finds_room told faulted IsSettled tells principal l f j (Some bytes) left_now held held_now keeper end is =
-    λ room. room_ends principal l f bytes left_now held held_now room told faulted IsSettled tells j keeper end is
+finds_room ghosts tells principal l f j None left_now held held_now keeper end is = tt
+finds_room ghosts tells principal l f j (Some bytes) left_now held held_now keeper end is =
+    λ room. room_ends principal l f bytes left_now held held_now room ghosts tells j keeper end is
 
 -- at a book that opened so
-pub finds_room_at : {K : Type 0} (told : K → Option (List ℕ)) (faulted : K → ℕ) (IsSettled : K → Type 0) (tells : ℕ → Type 0)
+pub finds_room_at : {K : Type 0} (ghosts : Ghosts K) (tells : ℕ → Type 0)
     (principal : Principal) (l : Limits)
     (f : Flat) (j : Journal) (left left_now held held_now : Option (List ℕ)) (keeper : K) (end : Piped K) (o : Opening)
-    → o ≡ begun_with told faulted l f j keeper → IsEndAt told faulted IsSettled tells principal o left left_now held held_now end
+    → o ≡ begun_with ghosts l f j keeper → IsEndAt ghosts tells principal o left left_now held held_now end
     → FindsRoom (HasRoomForAll principal l f) left end.how
-finds_room_at told faulted IsSettled tells principal l f j left left_now held held_now keeper end o opens is =
-    finds_room told faulted IsSettled tells principal l f j left left_now held held_now keeper end
-    (inl (subst (λ (x : Opening). IsEndAt told faulted IsSettled tells principal x left left_now held held_now end) opens is))
+finds_room_at ghosts tells principal l f j left left_now held held_now keeper end o opens is =
+    finds_room ghosts tells principal l f j left left_now held held_now keeper end
+    (inl (subst (λ (x : Opening). IsEndAt ghosts tells principal x left left_now held held_now end) opens is))
 
 -- ## Completeness
 
@@ -278,36 +272,36 @@ module _ (principal : Principal) (l : Limits) (f : Flat) (bytes : List ℕ) (lef
   ends_unjoined : (how : Served) → IsUnjoined (Some bytes) left_now held held_now how → EndsAs bytes how
   ends_unjoined how none = subst (EndsAs bytes) (sym none.lacks) (lacks bytes)
 
-  ends : {K : Type 0} (told : K → Option (List ℕ)) (faulted : K → ℕ) (IsSettled : K → Type 0) (tells : ℕ → Type 0) (j : Journal)
+  ends : {K : Type 0} (ghosts : Ghosts K) (tells : ℕ → Type 0) (j : Journal)
       (keeper : K) (end : Piped K)
-      → IsEnd told faulted IsSettled tells principal l f j (Some bytes) left_now held held_now keeper end
+      → IsEnd ghosts tells principal l f j (Some bytes) left_now held held_now keeper end
       → IsServedFor end.how source source_now sink sink_now → end.how ≢ served.Full → EndsAs bytes end.how
-  ends told faulted IsSettled tells j keeper end (inl (inl joined)) cause unfilled =
+  ends ghosts tells j keeper end (inl (inl joined)) cause unfilled =
       ends_piped tells end.how joined.history joined.piped cause unfilled
-  ends told faulted IsSettled tells j keeper end (inl (inr none)) cause unfilled = ends_unjoined end.how none.0
-  ends told faulted IsSettled tells j keeper end (inr none) cause unfilled = ends_unjoined end.how none.0
+  ends ghosts tells j keeper end (inl (inr none)) cause unfilled = ends_unjoined end.how none.0
+  ends ghosts tells j keeper end (inr none) cause unfilled = ends_unjoined end.how none.0
 
-complete : {K : Type 0} (told : K → Option (List ℕ)) (faulted : K → ℕ) (IsSettled : K → Type 0) (tells : ℕ → Type 0) (principal : Principal)
+complete : {K : Type 0} (ghosts : Ghosts K) (tells : ℕ → Type 0) (principal : Principal)
     (l : Limits) (f : Flat)
     (j : Journal) (left left_now held held_now : Option (List ℕ)) (source source_now sink sink_now : ℕ) (keeper : K) (end : Piped K)
-    → IsEnd told faulted IsSettled tells principal l f j left left_now held held_now keeper end
+    → IsEnd ghosts tells principal l f j left left_now held held_now keeper end
     → IsServedFor end.how source source_now sink sink_now
     → IsComplete left source source_now sink sink_now end.how
-complete told faulted IsSettled tells principal l f j None left_now held held_now source source_now sink sink_now keeper end is cause = tt
-complete told faulted IsSettled tells principal l f j (Some bytes) left_now held held_now source source_now sink sink_now keeper end is
+complete ghosts tells principal l f j None left_now held held_now source source_now sink sink_now keeper end is cause = tt
+complete ghosts tells principal l f j (Some bytes) left_now held held_now source source_now sink sink_now keeper end is
     cause =
-    λ no_read no_write unfilled. ends principal l f bytes left_now held held_now source source_now sink sink_now no_read no_write told
-    faulted IsSettled tells j keeper end is cause unfilled
+    λ no_read no_write unfilled. ends principal l f bytes left_now held held_now source source_now sink sink_now no_read no_write ghosts
+    tells j keeper end is cause unfilled
 
 -- at a book that opened so
-pub complete_at : {K : Type 0} (told : K → Option (List ℕ)) (faulted : K → ℕ) (IsSettled : K → Type 0) (tells : ℕ → Type 0)
+pub complete_at : {K : Type 0} (ghosts : Ghosts K) (tells : ℕ → Type 0)
     (principal : Principal) (l : Limits)
     (f : Flat) (j : Journal)
     (left left_now held held_now : Option (List ℕ)) (source source_now sink sink_now : ℕ) (keeper : K) (end : Piped K) (o : Opening)
-    → o ≡ begun_with told faulted l f j keeper → IsEndAt told faulted IsSettled tells principal o left left_now held held_now end
+    → o ≡ begun_with ghosts l f j keeper → IsEndAt ghosts tells principal o left left_now held held_now end
     → IsServedFor end.how source source_now sink sink_now
     → IsComplete left source source_now sink sink_now end.how
-complete_at told faulted IsSettled tells principal l f j left left_now held held_now source source_now sink sink_now keeper end o opens is
+complete_at ghosts tells principal l f j left left_now held held_now source source_now sink sink_now keeper end o opens is
     cause =
-    complete told faulted IsSettled tells principal l f j left left_now held held_now source source_now sink sink_now keeper end
-    (inl (subst (λ (x : Opening). IsEndAt told faulted IsSettled tells principal x left left_now held held_now end) opens is)) cause
+    complete ghosts tells principal l f j left left_now held held_now source source_now sink sink_now keeper end
+    (inl (subst (λ (x : Opening). IsEndAt ghosts tells principal x left left_now held held_now end) opens is)) cause

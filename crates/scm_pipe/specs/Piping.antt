@@ -9,14 +9,14 @@ use Rattle.scm_model.specs.declared.steps.Step.TheVariants.{Joined}
 use Rattle.scm_model.specs.Entries.{Entry}
 use Rattle.scm_rules.specs.Histories.{Legal}
 use Rattle.scm_rules.specs.Opening.{IsOpening}
-use Rattle.scm_history.specs.Kept.{kept_changes}
-use Rattle.record_journal.specs.Bearing.{Bears, and_changes}
-use Rattle.record_journal.specs.Keepers.{SettledSince}
+use Rattle.scm_trail.specs.Segments.{IsCoded}
 use Rattle.record_journal.specs.declared.journal.Journal.{Journal}
 use Rattle.rpc_session.specs.declared.state.Incoming.{Incoming}
 use Rattle.rpc_session.specs.Items.{items}
 use Rattle.book_rule.specs.declared.view.Opening.{Opening}
-use Rattle.scm_book.specs.Holds.{RoseBy, failures_in, stood_at}
+use Rattle.scm_book.specs.Calls.{HasKept}
+use Rattle.scm_book.specs.Ghosts.{Ghosts}
+use Rattle.scm_book.specs.Holds.{begun_with}
 use Rattle.scm_book.specs.Joins.{has_place}
 use Rattle.scm_book.specs.Passes.{Known, room_behind}
 use Rattle.conn_desk.specs.declared.asked.DecodedRequest.{DecodedRequest}
@@ -84,19 +84,11 @@ pub record CanJoin (o : Opening) (principal : Principal) : Type 0 where
 
 -- ## The keeper
 
-module _ {K : Type 0} (told : K → Option (List ℕ)) (faulted : K → ℕ) where
-  -- how a book begins, by its limits, its first state, its journal and its keeper
-  abbrev pub begun_with : Limits → Flat → Journal → K → Opening
-  begun_with l f j keeper = record { limits = l; first = f; bytes = told keeper; form = j.form; faults = faulted keeper }
-
-module _ {K : Type 0} (told : K → Option (List ℕ)) (faulted : K → ℕ) (IsSettled : K → Type 0) where
-  -- a keeper bears what stood before and a history's kept changes in order, and each change that was not kept has a fault of it. A crash
-  -- leaves what it holds, unless it failed.
+module _ {K : Type 0} (ghosts : Ghosts K) where
+  -- each entry of a history has a code, and the keeper has the changes that were kept
   pub record IsKept (o : Opening) (history : List Entry) (keeper : K) : Type 0 where
-    pub journal : Journal
-    pub bears : Bears (and_changes (stood_at o) (kept_changes o.limits o.first history)) journal (told keeper)
-    pub faults : RoseBy (failures_in history) o.faults (faulted keeper)
-    pub settled : SettledSince o.faults (faulted keeper) (IsSettled keeper)
+    pub coded : All IsCoded history
+    pub keeps : HasKept ghosts o history keeper
 
   -- a connection was served, and the keeper has the kept changes of its history
   pub record IsJoined (tells : ℕ → Type 0) (principal : Principal) (o : Opening) (left left_now held held_now : Option (List ℕ))
@@ -114,5 +106,5 @@ module _ {K : Type 0} (told : K → Option (List ℕ)) (faulted : K → ℕ) (Is
   abbrev pub IsEnd : (tells : ℕ → Type 0) → Principal → Limits → Flat → Journal → (left left_now held held_now : Option (List ℕ)) → K
       → Piped K → Type 0
   IsEnd tells principal l f j left left_now held held_now keeper end =
-      IsEndAt tells principal (begun_with told faulted l f j keeper) left left_now held held_now end
+      IsEndAt tells principal (begun_with ghosts l f j keeper) left left_now held held_now end
       ⊎ (IsUnjoined left left_now held held_now end.how × (end.keeper ≡ keeper))

@@ -8,6 +8,7 @@ ghost use Rattle.conn_desk.specs.declared.served.Served.TheVariants as served;
 ghost use Rattle.conn_worker.specs.Complete.{FindsRoom, IsComplete};
 ghost use Rattle.scm_book.specs.declared.answers.JoinFault.TheVariants as joins;
 ghost use Rattle.scm_book.specs.declared.fault.MakeFault.TheVariants as makes;
+ghost use Rattle.scm_book.specs.Ghosts.{ghosts_of};
 ghost use Rattle.scm_book.specs.Passes.{IsOf};
 ghost use Rattle.scm_pipe.specs.Piping.{CanJoin, HasRoomForAll, IsEnd, IsEndAt, IsKept, IsRoot};
 
@@ -44,7 +45,8 @@ fn finished<R: Wait, K: Keeper>(rt: &R, book: Book<K>, last: Spent, how: Served)
     requires { IsOf book last }
     ensures how { result.how ≡ how }
     ensures kept { last.alone ≡ true →
-        IsKept K.held K.faults K.settled book.opening last.seen result.keeper }
+        IsKept (ghosts_of K.held K.faults K.settled K.crashes K.are_crashes K.asked)
+        book.opening last.seen result.keeper }
 {
     let Closed {
         trail,
@@ -69,7 +71,8 @@ fn serve_root<R: Wait, K: Keeper, I: Source, O: Sink, C: Clock>(
     requires book { IsOf opened.book opened.pass }
     requires root { IsRoot opened.pass }
     requires can { CanJoin opened.book.opening principal }
-    ensures ended { IsEndAt K.held K.faults K.settled
+    ensures ended { IsEndAt
+        (ghosts_of K.held K.faults K.settled K.crashes K.are_crashes K.asked)
         (C.tells clock.now) principal opened.book.opening
         (I.left input.old) (I.left input.new) (O.held output.old) (O.held output.new) result }
     ensures input { I.faults input.old ≤ I.faults input.new }
@@ -112,7 +115,7 @@ pub fn serve_alone<R: Wait, K: Keeper, I: Source, O: Sink, C: Clock>(
     requires room { 2 ≤ manager.limits.steps }
     requires journal { Bears (stood_in journal.form (K.held keeper)) journal (K.held keeper) }
     requires settled { K.settled keeper }
-    ensures ended { IsEnd K.held K.faults K.settled
+    ensures ended { IsEnd (ghosts_of K.held K.faults K.settled K.crashes K.are_crashes K.asked)
         (C.tells clock.now) principal manager.limits manager.flat
         journal (I.left input.old) (I.left input.new) (O.held output.old) (O.held output.new) keeper
         result }

@@ -7,6 +7,7 @@ use Rattle.scm_rules.specs.Histories.{Legal, state}
 use Rattle.scm_rules.specs.Opening.{IsOpening}
 use Rattle.book_rule.specs.declared.view.Opening.{Opening}
 use Rattle.scm_book.specs.Calls.{Closes, Goes}
+use Rattle.scm_book.specs.Ghosts.{Ghosts}
 use Rattle.scm_book.specs.Passes.{Known}
 use Rattle.scm_book.specs.declared.book.Closed.{Closed}
 use Rattle.scm_server.specs.All.{EndsAll, ServedIn}
@@ -29,7 +30,7 @@ short_where history services ends.OutOfMemory end t enough = absurd (false≢tru
 ends_as : (o : Opening) (history : List Entry) (a a' u u' : Told) (how : ServeEnd) (end : BookEnd)
     → IsTold history (length (state o.limits o.first history).services) how end
     → EndsAll how a a' u u' → EndsAs o history a a' u u' end
-ends_as o history a a' u u' ends.Ended (Ended text trail) t e = (t.0, t.1, e)
+ends_as o history a a' u u' ends.Ended (Ended text trail) t e = (t.0, t.1, t.2, e)
 ends_as o history a a' u u' ends.Ended ListenFault t e = absurd cc
 ends_as o history a a' u u' ends.Ended OutOfMemory t e = (inl e.0, inl e.1)
 ends_as o history a a' u u' ends.ListenFault end t e = subst (EndsAs o history a a' u u') (sym t) e
@@ -51,23 +52,23 @@ said_where tells o log a a' u u' is_short now so s = record {
 
 -- ## The book
 
-module _ {K : Type 0} (told : K → Option (List ℕ)) (faulted : K → ℕ) (IsSettled : K → Type 0) where
-  pub closed_so : (o : Opening) (last : Known) (c : Closed K) (how : ServeEnd) (end : BookEnd) → Closes told faulted IsSettled o last c
+module _ {K : Type 0} (ghosts : Ghosts K) where
+  pub closed_so : (o : Opening) (last : Known) (c : Closed K) (how : ServeEnd) (end : BookEnd) → Closes ghosts o last c
       → IsTold c.trail.entries c.services how end
-      → HasClosed told faulted IsSettled o last.seen how end c.keeper
+      → HasClosed ghosts o last.seen how end c.keeper
   closed_so o last c how end cl t = record {
     history = c.trail.entries;
     longer = cl.longer;
     legal = cl.legal;
-    kept = record { journal = cl.journal; bears = cl.bears; faults = cl.faults; settled = cl.settled };
+    kept = record { coded = cl.coded; keeps = cl.keeps };
     told_is = subst (λ (n : ℕ). IsTold c.trail.entries n how end) cl.services t;
   }
 
   served_so : (tells : ℕ → Type 0) (o : Opening) (by last : Known) (moment : ℕ) (a a' u u' : Told) (how : ServeEnd) (end : BookEnd)
       (keeper : K) → IsOpening o.limits o.first
       → by.caller ≡ 0 → Goes o by moment last → ServedIn tells o by.seen a a' u u' (was_short how) → EndsAll how a a' u u'
-      → HasClosed told faulted IsSettled o last.seen how end keeper
-      → IsServed told faulted IsSettled tells o a a' u u' keeper end
+      → HasClosed ghosts o last.seen how end keeper
+      → IsServed ghosts tells o a a' u u' keeper end
   served_so tells o by last moment a a' u u' how end keeper begins nobody goes served over c =
       let longer : IsPrefix by.seen c.history = subst (λ (es : List Entry). IsPrefix es c.history)
       (ap (λ (k : Known). k.seen) (goes.nobody nobody)) c.longer in record {
@@ -83,9 +84,9 @@ module _ {K : Type 0} (told : K → Option (List ℕ)) (faulted : K → ℕ) (Is
   pub served_from : (tells : ℕ → Type 0) (o begun : Opening) → o ≡ begun → (by last : Known) (moment : ℕ) (a a' u u' : Told)
       (how : ServeEnd) (end : BookEnd) (keeper : K) → IsOpening begun.limits begun.first
       → by.caller ≡ 0 → Goes o by moment last → ServedIn tells o by.seen a a' u u' (was_short how) → EndsAll how a a' u u'
-      → HasClosed told faulted IsSettled o last.seen how end keeper
-      → IsServed told faulted IsSettled tells begun a a' u u' keeper end
+      → HasClosed ghosts o last.seen how end keeper
+      → IsServed ghosts tells begun a a' u u' keeper end
   served_from tells o begun is by last moment a a' u u' how end keeper begins nobody goes served over c =
-      subst (λ (x : Opening). IsServed told faulted IsSettled tells x a a' u u' keeper end) is
+      subst (λ (x : Opening). IsServed ghosts tells x a a' u u' keeper end) is
       (served_so tells o by last moment a a' u u' how end keeper
       (subst (λ (x : Opening). IsOpening x.limits x.first) (sym is) begins) nobody goes served over c)

@@ -3,6 +3,7 @@ ghost use Rattle.std.specs.Prelude.{◌≡◌};
 ghost use Rattle.scm_core.specs.Managed.{AreSmall};
 ghost use Rattle.scm_rules.specs.Opening.{IsOpening};
 ghost use Rattle.record_journal.specs.Bearing.{Bears, stood_in};
+ghost use Rattle.scm_book.specs.Ghosts.{ghosts_of};
 ghost use Rattle.scm_book.specs.Passes.{IsOf};
 ghost use Rattle.scm_serving.specs.Listening.{told_by};
 ghost use Rattle.scm_serving.specs.Serving.{HasClosed, IsTold, ServesBook};
@@ -46,6 +47,7 @@ pub struct BookServed<K: Keeper, N, P> {
 
 /// How a server ended over a book with this history, which left so many services.
 fn book_end(alloc: Global, end: ServeEnd, history: Trail, services: u64) -> BookEnd
+    requires { history.past ≡ 0 }
     ensures { IsTold history.entries services end result }
 {
     let fault = match end {
@@ -69,8 +71,8 @@ fn closed<R: Wait, K: Keeper, N, P>(
     served: ServedAll<N, P>,
 ) -> BookServed<K, N, P>
     requires { IsOf book last }
-    ensures closes { HasClosed K.held K.faults K.settled book.opening last.seen served.end
-        result.end result.keeper }
+    ensures closes { HasClosed (ghosts_of K.held K.faults K.settled K.crashes K.are_crashes K.asked)
+        book.opening last.seen served.end result.end result.keeper }
     ensures admin { result.admin ≡ served.admin }
     ensures user { result.user ≡ served.user }
 {
@@ -126,8 +128,9 @@ where
     requires text { manager.text ≡ 0 }
     requires journal { Bears (stood_in journal.form (K.held keeper)) journal (K.held keeper) }
     requires settled { K.settled keeper }
-    ensures { ServesBook K.held K.faults K.settled (C.tells clock.now) manager.limits manager.flat
-        journal (told_by N.left N.accepted N.noted N.listened N.faults admin)
+    ensures { ServesBook (ghosts_of K.held K.faults K.settled K.crashes K.are_crashes K.asked)
+        (C.tells clock.now) manager.limits manager.flat journal
+        (told_by N.left N.accepted N.noted N.listened N.faults admin)
         (told_by N.left N.accepted N.noted N.listened N.faults result.admin)
         (told_by N.left N.accepted N.noted N.listened N.faults user)
         (told_by N.left N.accepted N.noted N.listened N.faults result.user)

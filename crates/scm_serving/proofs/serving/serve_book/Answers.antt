@@ -1,14 +1,17 @@
 use Rattle.std.proofs.Common.{ap, inl, ◌∙◌}
 use Rattle.scm_book.specs.Passes.{Known}
+use Rattle.scm_book.specs.Ghosts.{ghosts_of}
 use Rattle.scm_serving.proofs.Closing.{served_from}
 use Rattle.scm_serving.proofs.serving.serve_book.Goals as goal
 
 pub returns-in-Ok : goal.returns-in-Ok
 returns-in-Ok g c =
+    let ghosts = ghosts_of g.K.Keeper.held g.K.Keeper.faults g.K.Keeper.settled g.K.Keeper.crashes
+    g.K.Keeper.are_crashes g.K.Keeper.asked in
     let made = c.in-Ok.ensures.ok in
     let served = c.serve_all-served in
     rw c.closed.ensures.admin (rw c.closed.ensures.user
-    (inl (served_from g.K.Keeper.held g.K.Keeper.faults g.K.Keeper.settled
+    (inl (served_from ghosts
     (g.C.Clock.tells c.args.clock.now) c.in-Ok.field-0.book.opening _ made.0
     served.new.root c.gone-last.result c.now.result
     _ _ _ _ served.result.end c.closed.result.end c.closed.result.keeper c.requires.begins
