@@ -21,6 +21,13 @@ pub const LIMITS: Limits = Limits {
 /// Six steps may be made.
 pub const SIX_STEPS: Limits = Limits { steps: 6, ..LIMITS };
 
+/// The greatest numbers of steps and of text that a manager's limits may have.
+pub const GREATEST: Limits = Limits {
+    steps: 1_125_899_906_842_623,
+    text: 4_611_686_018_427_387_904,
+    ..LIMITS
+};
+
 /// A manager without services and callers, at moment 0.
 pub fn new_manager(alloc: Global, limits: Limits) -> Result<Manager, OutOfMemory>
     requires { AreSmall limits }

@@ -2,7 +2,7 @@
 ghost use Rattle.scm_core.specs.Managed.{AreSmall};
 ghost use Rattle.scm_replay.specs.Replay.{IsFresh};
 
-use crate::limits::{LIMITS, SIX_STEPS, new_manager};
+use crate::limits::{GREATEST, LIMITS, SIX_STEPS, new_manager};
 use outside::{MemorySink, MemorySource};
 use scm_core::Manager;
 use scm_model::Limits;
@@ -167,6 +167,7 @@ fn talks(alloc: Global, limits: Limits, rows: &[Row]) -> Result<(), Fail>
 fn lines_have_their_answers(rt: HostRuntime) -> Result<(), Fail> {
     talks(rt.alloc(), LIMITS, CALLERS.as_slice())?;
     talks(rt.alloc(), LIMITS, RAISES.as_slice())?;
+    talks(rt.alloc(), GREATEST, CALLERS.as_slice())?;
     talks(rt.alloc(), SIX_STEPS, FULL.as_slice())
 }
 

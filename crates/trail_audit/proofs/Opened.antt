@@ -5,7 +5,6 @@ use Rattle.std.specs.Prelude.{IfOk, option_map}
 use Rattle.std.specs.Option.{option_or}
 use Rattle.scm_model.specs.declared.flat.Config.{Config}
 use Rattle.scm_model.specs.declared.flat.Limits.{Limits}
-use Rattle.scm_core.specs.Managed.{AreSmall}
 use Rattle.scm_lines.specs.Words.{◌>>=◌}
 use Rattle.scm_rules.specs.Opening.{CanOpen}
 use Rattle.scm_text.specs.declared.OutOfMemory.{OutOfMemory}
@@ -14,6 +13,7 @@ use Rattle.opening_lines.specs.declared.opening.Opening.{Opening}
 use Rattle.opening_lines.specs.Heads.{config_at, group_at, limits_at, moment_at}
 use Rattle.trail_text.specs.Audits.{At, BeforeLimits, BeforeMoment, InConfigs, InGroups, are_small, can_add, config_next, from_moment}
 use Rattle.trail_text.specs.Audits.{group_next, if_added, if_small, next, with_config, with_group}
+use Rattle.trail_text.specs.Histories.{AreAuditable}
 use Rattle.trail_text.proofs.Leading.{can_begin_empty, is_small}
 use Rattle.trail_text.proofs.Openings.{begins, one_more}
 use Rattle.trail_text.proofs.Reading.{some_if}
@@ -45,14 +45,14 @@ begun_at start lists unlisted = λ i. record {
   configs = sym unlisted.configs i;
 }
 
-pub starts_empty : (l : Limits) (lists : Lists) → AreSmall l → IsUnlisted lists → CanStart l lists
+pub starts_empty : (l : Limits) (lists : Lists) → AreAuditable l → IsUnlisted lists → CanStart l lists
 starts_empty l lists small unlisted = record {
   small = small;
   can = subst (CanOpen l) (sym unlisted.configs) (can_begin_empty l);
   services = unlisted.services ∙ ap length (sym unlisted.configs);
 }
 
-pub moment_taken : (line : List ℕ) (start : Start) (old new : Head) → AreSmall start.limits → IsUnlisted old.lists
+pub moment_taken : (line : List ℕ) (start : Start) (old new : Head) → AreAuditable start.limits → IsUnlisted old.lists
     → moment_at line ≡ Some start.moment → new.stage ≡ stages.InGroups start → new.lists ≡ old.lists
     → Takes (next (BeforeMoment start.limits) line) old new true
 moment_taken line start old new small unlisted says stage lists =

@@ -21,7 +21,7 @@ use Rattle.trail_audit.specs.declared.entering.Entering.TheInside.{Inside}
 pub record IsCounted (e : Inside) : Type 0 where
   pub entries : e.entries ≡ e.manager.steps
   pub most : e.most ≡ e.manager.limits.steps
-  pub small : e.most ≤ 16777216
+  pub small : e.most ≤ 2 ^ 50
 
 -- a step may be made at once: it may come, room was made for it, and it can be counted
 pub record IsReady (m : Managed) (moment : ℕ) (step : Step) : Type 0 where

@@ -2,12 +2,11 @@
 use Rattle.std.specs.Prelude.{ℕ, ◌≡◌, Bool, true, false, List, [], length, Option, None, Some}
 use Rattle.std.specs.Option.{option_or}
 use Rattle.scm_model.specs.declared.flat.Limits.{Limits}
-use Rattle.scm_core.specs.Managed.{AreSmall}
 use Rattle.scm_lines.specs.Words.{◌>>=◌}
 use Rattle.scm_rules.specs.Opening.{CanOpen}
 use Rattle.opening_lines.specs.declared.opening.Opening.{Opening}
 use Rattle.trail_text.specs.Audits.{At, BeforeLimits, BeforeMoment, InConfigs, InGroups, config_next, group_next, next, step_next}
-use Rattle.trail_text.specs.Histories.{first_of}
+use Rattle.trail_text.specs.Histories.{AreAuditable, first_of}
 use Rattle.trail_audit.specs.declared.head.Head.{Head}
 use Rattle.trail_audit.specs.declared.head.Lists.{Lists}
 use Rattle.trail_audit.specs.declared.head.Stage.{Stage}
@@ -62,13 +61,13 @@ pub record IsUnlisted (lists : Lists) : Type 0 where
 
 -- a manager can begin with what is listed
 pub record CanStart (limits : Limits) (lists : Lists) : Type 0 where
-  pub small : AreSmall limits
+  pub small : AreAuditable limits
   pub can : CanOpen limits lists.configs
   pub services : lists.services ≡ length lists.configs
 
 abbrev pub IsSoundAt : Stage → Lists → Type 0
 IsSoundAt stages.BeforeLimits lists = IsUnlisted lists
-IsSoundAt (stages.BeforeMoment limits) lists = AreSmall limits × IsUnlisted lists
+IsSoundAt (stages.BeforeMoment limits) lists = AreAuditable limits × IsUnlisted lists
 IsSoundAt (stages.InGroups start) lists = CanStart start.limits lists
 IsSoundAt (stages.InConfigs start) lists = CanStart start.limits lists
 

@@ -1,4 +1,4 @@
-ghost use Rattle.std.specs.Prelude.{◌≡◌, ◌+◌, ◌≤◌, nat_le, IfOk, IsTrue, None, OnOk, Some};
+ghost use Rattle.std.specs.Prelude.{◌≡◌, ◌+◌, ◌≤◌, ◌^◌, nat_le, IfOk, IsTrue, None, OnOk, Some};
 ghost use Rattle.std.specs.Prelude.{bytes_eq, if◌then◌else◌};
 ghost use Rattle.scm_core.specs.Managed.{AreSmall};
 ghost use Rattle.scm_lines.specs.Entries.{line_of};
@@ -128,7 +128,7 @@ fn read_entry(
 
 /// Whether so many entries and all that is owed are no more than so many steps.
 fn has_room(manager: &Manager, entries: u64, most: u64) -> bool
-    requires { most ≤ 16777216 }
+    requires { most ≤ 2 ^ 50 }
     ensures { result ≡ nat_le (entries + owed manager.now.flat) most }
 {
     entries.saturating_add(manager.owed()) <= most

@@ -1,7 +1,6 @@
 //! The lines of an opening, before the first entry.
 ghost use Rattle.std.specs.Prelude.{◌≡◌, ◌&&◌, ◌+◌, ◌<◌, ◌^◌, IfOk, OnErr, OnOk};
 ghost use Rattle.std.specs.Prelude.{length, nat_lt};
-ghost use Rattle.scm_core.specs.Managed.{AreSmall};
 ghost use Rattle.scm_model.specs.declared.steps.Change.TheVariants.{Created};
 ghost use Rattle.record_journal.specs.Entries.{can_replay};
 ghost use Rattle.record_journal.specs.Opening.{CanBegin};
@@ -9,7 +8,7 @@ ghost use Rattle.record_journal.specs.Replay.{after_change};
 ghost use Rattle.trail_text.specs.Audits.{BeforeLimits, BeforeMoment, are_small, config_next};
 ghost use Rattle.trail_text.specs.Audits.{group_next, if_added, next};
 ghost use Rattle.std.specs.Option.{option_or};
-ghost use Rattle.trail_text.specs.Histories.{first_of};
+ghost use Rattle.trail_text.specs.Histories.{AreAuditable, first_of};
 ghost use Rattle.trail_audit.specs.Heads.{CanStart, IsSound, IsUnlisted, Takes, head_at};
 ghost use Rattle.trail_audit.specs.Heads.{head_next, opening_of, start_of};
 ghost use Rattle.trail_audit.specs.declared.head.Stage.TheVariants as stages;
@@ -133,7 +132,7 @@ fn take_moment(
     limits: Limits,
     line: &[u8],
 ) -> Result<bool, OutOfMemory>
-    requires small { AreSmall limits }
+    requires small { AreAuditable limits }
     requires unlisted { IsUnlisted head.old.lists }
     ensures ok { IfOk result (Takes (next (BeforeMoment limits) line.now) head.old head.new) }
     ensures err { OnErr result (head.new ≡ head.old) }

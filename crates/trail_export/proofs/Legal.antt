@@ -17,18 +17,17 @@ use Rattle.scm_rules.specs.Runs.{IsLegal}
 use Rattle.scm_rules.specs.Steps.{keeps_right, may, step_of}
 use Rattle.scm_trail.specs.Segments.{IsCoded}
 use Rattle.service_record.specs.Spelling.{IsUnit}
-use Rattle.scm_core.specs.Managed.{AreSmall}
 use Rattle.scm_lines.specs.Entries.{HasLine}
 use Rattle.opening_lines.specs.declared.opening.Opening.{Opening}
 use Rattle.opening_lines.specs.Heads.{AreInRange, HasRecord, config_at, config_line, group_at, group_line}
 use Rattle.opening_lines.proofs.Again.{config_again, group_again, limits_again, moment_again}
-use Rattle.trail_text.specs.Histories.{TellsLegal, first_of, told}
+use Rattle.trail_text.specs.Histories.{AreAuditable, TellsLegal, first_of, told}
 use Rattle.trail_text.proofs.Right.{exported}
 use Rattle.trail_export.specs.Readable.{IsFitting, IsReadable}
 use Rattle.trail_export.proofs.Parts.{legal_made}
 use Rattle.trail_export.proofs.Said.{IsRanged, line_of_code}
 
-in_range_of : (l : Limits) → AreSmall l → AreInRange l
+in_range_of : (l : Limits) → AreAuditable l → AreInRange l
 in_range_of l small = record {
   services = omega (arith, small.services);
   handles = omega (arith, small.handles);
@@ -51,7 +50,7 @@ configs_again [] records = tt
 configs_again (config ∷ configs) records = (config_again config records.0.0 records.0.1, configs_again configs records.1)
 
 -- the text tells it, if its lines can be read
-pub tells : (o : Opening) (h : List Entry) → AreSmall o.limits → CanOpen o.limits o.configs → Legal o.limits (first_of o) h
+pub tells : (o : Opening) (h : List Entry) → AreAuditable o.limits → CanOpen o.limits o.configs → Legal o.limits (first_of o) h
     → IsReadable o h → TellsLegal o h (told o h)
 tells o h small can legal readable = exported o h
     (record {
@@ -97,6 +96,6 @@ readable o h legal fits small coded = record {
 }
 
 -- and so the text tells it
-pub tells_coded : (o : Opening) (h : List Entry) → AreSmall o.limits → CanOpen o.limits o.configs → Legal o.limits (first_of o) h
+pub tells_coded : (o : Opening) (h : List Entry) → AreAuditable o.limits → CanOpen o.limits o.configs → Legal o.limits (first_of o) h
     → IsFitting o → text_in h < 2 ^ 32 → All IsCoded h → TellsLegal o h (told o h)
 tells_coded o h small can legal fits text coded = tells o h small can legal (readable o h legal fits text coded)

@@ -14,11 +14,11 @@ use Rattle.scm_model.specs.Entries.{Entry, unkept}
 use Rattle.scm_rules.specs.Histories.{Legal}
 use Rattle.scm_rules.specs.Runs.{IsLegal}
 use Rattle.scm_rules.specs.Steps.{may, step_of}
-use Rattle.scm_core.specs.Managed.{AreSmall, Managed, WasMadeFor}
+use Rattle.scm_core.specs.Managed.{Managed, WasMadeFor}
 use Rattle.scm_lines.specs.Entries.{line_of}
 use Rattle.opening_lines.specs.declared.opening.Opening.{Opening}
 use Rattle.opening_lines.specs.Heads.{config_line, group_line, head_lines, limits_line, moment_line}
-use Rattle.trail_text.specs.Histories.{answer_line, ended, entry_lines, first_of, told}
+use Rattle.trail_text.specs.Histories.{AreAuditable, answer_line, ended, entry_lines, first_of, told}
 use Rattle.trail_export.specs.Exports.{HasStepped, entry_text}
 
 both_ended : (lines more : List (List ℕ)) → ended (lines ++ more) ≡ ended lines ++ ended more
@@ -95,7 +95,7 @@ pub legal_made : (l : Limits) (f : Flat) (h : List Entry) → Legal l f h → Is
 unfolding Legal
 legal_made l f h legal = legal.made
 
-pub legal_few : (l : Limits) (f : Flat) (h : List Entry) → AreSmall l → Legal l f h → length h ≤ 2 ^ 24
+pub legal_few : (l : Limits) (f : Flat) (h : List Entry) → AreAuditable l → Legal l f h → length h ≤ 2 ^ 24
 unfolding Legal
 legal_few l f h small legal = omega (arith, legal.fits h [] (sym (append-nil h)), small.steps)
 

@@ -1,6 +1,5 @@
 ghost use Rattle.std.specs.Prelude.{[], All, OnOk, ◌+◌, ◌<◌, ◌≡◌, ◌≤◌, ◌^◌, length};
 ghost use Rattle.outside.specs.Written.{Writes};
-ghost use Rattle.scm_core.specs.Managed.{AreSmall};
 ghost use Rattle.scm_model.specs.Entries.{text_in};
 ghost use Rattle.scm_rules.specs.Histories.{Legal};
 ghost use Rattle.scm_rules.specs.Opening.{CanOpen};
@@ -9,7 +8,7 @@ ghost use Rattle.scm_trail.specs.Segments.{IsCoded};
 ghost use Rattle.trail_export.specs.Exports.{HasExportCause, IsExportCaused};
 ghost use Rattle.trail_export.specs.Gathered.{Gathers, held_size};
 ghost use Rattle.trail_export.specs.Readable.{IsFitting};
-ghost use Rattle.trail_text.specs.Histories.{TellsLegal, first_of, told};
+ghost use Rattle.trail_text.specs.Histories.{AreAuditable, TellsLegal, first_of, told};
 
 use super::beginning::manager_from;
 use super::entries::write_entries;
@@ -124,15 +123,17 @@ fn write_gathered<T: Sink>(
 
 /// Writes a legal history as text: the opening, then for each entry its line and that of its
 /// answer. Beside a manager that makes the steps anew this holds one line, one entry and the piece
-/// of 64 KiB that goes to the sink next. A history with 4 GB of text or more finds no memory.
+/// of 64 KiB that goes to the sink next. No entry of the history was let go. A history with 4 GB of
+/// text or more finds no memory.
 pub fn export<T: Sink>(
     alloc: Global,
     trail: &Trail,
     opening: &Opening,
     sink: &mut T,
 ) -> Result<(), ExportFault>
-    requires small { AreSmall opening.now.limits }
+    requires small { AreAuditable opening.now.limits }
     requires can { CanOpen opening.now.limits opening.now.configs }
+    requires whole { trail.now.past ≡ 0 }
     requires legal { Legal opening.now.limits (first_of opening.now) trail.now.entries }
     ensures written { Writes (T.held sink.old) (T.held sink.new) result
         (told opening.now trail.now.entries) }

@@ -11,7 +11,6 @@ use Rattle.scm_model.specs.declared.flat.Limits.{Limits}
 use Rattle.scm_model.specs.Entries.{Entry}
 use Rattle.scm_rules.specs.Opening.{CanOpen}
 use Rattle.scm_rules.specs.Steps.{step_of}
-use Rattle.scm_core.specs.Managed.{AreSmall}
 use Rattle.scm_lines.specs.declared.line.Line.{Line}
 use Rattle.scm_lines.specs.Entries.{line_of, said}
 use Rattle.scm_lines.specs.Lines.{line_at}
@@ -19,7 +18,7 @@ use Rattle.scm_lines.specs.Words.{◌>>=◌}
 use Rattle.opening_lines.specs.declared.opening.Opening.{Opening}
 use Rattle.opening_lines.specs.Heads.{config_at, config_line, group_at, group_line, head_lines, limits_at, limits_line, moment_at}
 use Rattle.opening_lines.specs.Heads.{moment_line}
-use Rattle.trail_text.specs.Histories.{IsSaid, IsStart, answer_line, entry_lines, first_of}
+use Rattle.trail_text.specs.Histories.{AreAuditable, IsSaid, IsStart, answer_line, entry_lines, first_of}
 use Rattle.trail_text.specs.Audits.{At, BeforeAnswer, BeforeLimits, BeforeMoment, InConfigs, InEntries, InGroups, are_small}
 use Rattle.trail_text.specs.Audits.{can_add, config_next, entries_at, from_moment, if_added, if_small, next}
 use Rattle.trail_text.specs.Audits.{reached_from, step_next, with_config, with_group}
@@ -200,7 +199,7 @@ all_both true true h k = refl
 all_both true false h k = absurd cc
 all_both false b h k = absurd cc
 
-small_is : (l : Limits) → AreSmall l → are_small l ≡ true
+small_is : (l : Limits) → AreAuditable l → are_small l ≡ true
 small_is l small =
     all_both _ _ (all_both _ _ (all_both _ _ (all_both _ _ (all_both _ _ (all_both _ _ (all_both _ _
     (le-leb l.services 1024 small.services) (le-leb l.handles 1024 small.handles)) (le-leb l.registrations 64 small.registrations))

@@ -17,7 +17,7 @@ use Rattle.opening_lines.specs.declared.opening.Opening.{Opening}
 use Rattle.opening_lines.specs.Heads.{AreInRange, config_at, config_line, group_at, group_line, head_lines, limits_at, limits_line}
 use Rattle.opening_lines.specs.Heads.{moment_at, moment_line}
 use Rattle.opening_lines.proofs.Again.{limits_again, moment_again}
-use Rattle.trail_text.specs.Histories.{IsStart, first_of}
+use Rattle.trail_text.specs.Histories.{AreAuditable, IsStart, first_of}
 use Rattle.trail_text.specs.Audits.{At, BeforeAnswer, BeforeLimits, BeforeMoment, InConfigs, InEntries, InGroups, are_small}
 use Rattle.trail_text.specs.Audits.{can_add, config_next, entries_at, from_moment, group_next, if_added, if_small, next}
 use Rattle.trail_text.specs.Audits.{reached_from, step_next, with_config, with_group}
@@ -30,13 +30,13 @@ use Rattle.trail_text.proofs.Reading.{bind_some, bytes_same, config_is, group_is
 
 -- the limits are small, and the limit of steps has room for what is owed after so many steps
 pub record HasRoom (l : Limits) (steps : ℕ) (f : Flat) : Type 0 where
-  pub small : AreSmall l
+  pub small : AreAuditable l
   pub room : steps + owed f ≤ l.steps
 
 -- what is so wherever lines lead
 abbrev pub Fine : At → Type 0
 Fine BeforeLimits = Unit {0}
-Fine (BeforeMoment l) = AreSmall l
+Fine (BeforeMoment l) = AreAuditable l
 Fine (InGroups o) = IsStart o
 Fine (InConfigs o) = IsStart o
 Fine (InEntries l steps f) = HasRoom l steps f
@@ -48,7 +48,7 @@ Led at line now = Fine now × ((n : ℕ) (lines : List (List ℕ)) → Follows n
 
 -- ## Entries
 
-entry_led : (l : Limits) (steps : ℕ) (f : Flat) (line : List ℕ) (now : At) → AreSmall l → step_next l steps f line ≡ Some now
+entry_led : (l : Limits) (steps : ℕ) (f : Flat) (line : List ℕ) (now : At) → AreAuditable l → step_next l steps f line ≡ Some now
     → Led (InEntries l steps f) line now
 entry_led l steps f line now small led =
     let e = led_by_entry l steps f line now led in
@@ -166,7 +166,20 @@ groups_led o line now start led =
           )
     ]
 
-pub is_small : (l : Limits) → are_small l ≡ true → AreSmall l
+-- a manager can have such limits
+pub manageable : (l : Limits) → AreAuditable l → AreSmall l
+manageable l small = record {
+  services = small.services;
+  handles = small.handles;
+  registrations = small.registrations;
+  callers = small.callers;
+  processes = small.processes;
+  controls = small.controls;
+  steps = omega (arith, small.steps);
+  text = omega (arith, small.text);
+}
+
+pub is_small : (l : Limits) → are_small l ≡ true → AreAuditable l
 is_small l passes =
     let g = and_parts _ (nat_le l.text 268435456) passes in
     let f = and_parts _ (nat_le l.steps 16777216) g.0 in
@@ -209,7 +222,7 @@ can_begin_empty l = record {
   acyclic = ends_acyclic [] refl;
 }
 
-in_range : (l : Limits) → AreSmall l → AreInRange l
+in_range : (l : Limits) → AreAuditable l → AreInRange l
 in_range l small = record {
   services = omega (arith, small.services);
   handles = omega (arith, small.handles);
@@ -221,7 +234,7 @@ in_range l small = record {
   text = omega (arith, small.text);
 }
 
-starts_at : (l : Limits) (moment : ℕ) → AreSmall l → moment_at (moment_line moment) ≡ Some moment → IsStart (from_moment l moment)
+starts_at : (l : Limits) (moment : ℕ) → AreAuditable l → moment_at (moment_line moment) ≡ Some moment → IsStart (from_moment l moment)
 starts_at l moment small said = record {
   small = small;
   can = can_begin_empty l;
@@ -231,7 +244,7 @@ starts_at l moment small said = record {
   configs = tt;
 }
 
-moment_led : (l : Limits) (line : List ℕ) (now : At) → AreSmall l → next (BeforeMoment l) line ≡ Some now → Led (BeforeMoment l) line now
+moment_led : (l : Limits) (line : List ℕ) (now : At) → AreAuditable l → next (BeforeMoment l) line ≡ Some now → Led (BeforeMoment l) line now
 moment_led l line now small led =
     let a = mapped (λ moment. InGroups (from_moment l moment)) (moment_at line) now led in
     let is = moment_is line a.0 a.1 in
@@ -274,7 +287,7 @@ whole_start o front start = record { start = start; history = []; count = refl; 
 abbrev least : Limits
 least = record { services = 0; handles = 0; registrations = 0; callers = 0; processes = 0; controls = 0; steps = 0; text = 0 }
 
-least_small : AreSmall least
+least_small : AreAuditable least
 least_small = record {
   services = omega arith;
   handles = omega arith;

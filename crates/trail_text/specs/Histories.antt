@@ -1,5 +1,5 @@
 -- The text of a history, and which line of a text is the first wrong one.
-use Rattle.std.specs.Prelude.{ℕ, ◌≡◌, ◌+◌, Bool, List, [], ◌∷◌, ◌++◌, length, codes, Some}
+use Rattle.std.specs.Prelude.{ℕ, ◌≡◌, ◌≤◌, ◌+◌, Bool, List, [], ◌∷◌, ◌++◌, length, codes, Some}
 use Rattle.std.specs.List.{AllByRecursion, flat_map}
 use Rattle.scm_model.specs.declared.flat.Flat.{Flat}
 use Rattle.scm_model.specs.declared.flat.Limits.{Limits}
@@ -10,7 +10,6 @@ use Rattle.scm_model.specs.Entries.{Entry}
 use Rattle.scm_rules.specs.Histories.{Legal}
 use Rattle.scm_rules.specs.Opening.{CanOpen, opening}
 use Rattle.scm_rules.specs.Steps.{step_of}
-use Rattle.scm_core.specs.Managed.{AreSmall}
 use Rattle.scm_lines.specs.Answers.{order_text, told_text}
 use Rattle.scm_lines.specs.Entries.{line_of, said}
 use Rattle.scm_lines.specs.Lines.{line_at}
@@ -55,9 +54,20 @@ told o h = ended (told_lines o h)
 
 -- ## What a text can tell
 
+-- no limit is greater than those with which the program runs by default
+pub record AreAuditable (limits : Limits) : Type 0 where
+  pub services : limits.services ≤ 1024
+  pub handles : limits.handles ≤ 1024
+  pub registrations : limits.registrations ≤ 64
+  pub callers : limits.callers ≤ 64
+  pub processes : limits.processes ≤ 128
+  pub controls : limits.controls ≤ 16
+  pub steps : limits.steps ≤ 16777216
+  pub text : limits.text ≤ 268435456
+
 -- a manager can begin so, and the lines of the opening say it
 pub record IsStart (o : Opening) : Type 0 where
-  pub small : AreSmall o.limits
+  pub small : AreAuditable o.limits
   pub can : CanOpen o.limits o.configs
   pub limits : limits_at (limits_line o.limits) ≡ Some o.limits
   pub moment : moment_at (moment_line o.moment) ≡ Some o.moment

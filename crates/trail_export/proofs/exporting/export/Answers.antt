@@ -1,6 +1,7 @@
 use Rattle.std.proofs.Common.{arith}
 use Rattle.std.proofs.lemmas.Result.{err_from_is_err_and}
 use Rattle.trail_text.specs.Histories.{first_of, told}
+use Rattle.trail_text.proofs.Leading.{manageable}
 use Rattle.trail_export.proofs.Sinking.{nothing_of, on_ok_both}
 use Rattle.trail_export.proofs.Parts.{legal_few, legal_made}
 use Rattle.trail_export.proofs.Legal.{tells_coded}
@@ -15,6 +16,9 @@ pub returns-in_err-manager-clause-written : goal.returns-in_err-manager-clause-w
 returns-in_err-manager-clause-written g c =
     rw (err_from_is_err_and c.from_residual-in_err-manager.result c.from_residual-in_err-manager.ensures.1).1
     (nothing_of (g.T.Sink.held c.args.sink.now) (told c.args.opening.now c.args.trail.now.entries))
+
+pub manager_from-requires-clause-small : goal.manager_from-requires-clause-small
+manager_from-requires-clause-small g c = manageable c.args.opening.now.limits c.requires.small
 
 pub write_gathered-written-requires-clause-steps : goal.write_gathered-written-requires-clause-steps
 write_gathered-written-requires-clause-steps g c =
