@@ -1,89 +1,129 @@
 -- A connection over a book of its own, behind the opening of its journal.
 use Rattle.std.proofs.Common.{ℕ, ◌≡◌, ◌≢◌, ◌∙◌, ◌⊎◌, Bool, inl, inr, refl, sym, ap, subst, List, [], length, Option, None, Some}
 use Rattle.std.proofs.Common.{arith}
-use Rattle.std.specs.Prelude.{IfSome}
+use Rattle.std.specs.Prelude.{IfSome, option_map}
 use Rattle.outside.specs.Causes.{Rose}
 use Rattle.scm_model.specs.declared.flat.Flat.{Flat}
 use Rattle.scm_model.specs.declared.flat.Limits.{Limits}
 use Rattle.scm_model.specs.declared.flat.Principal.{Principal}
-use Rattle.scm_model.specs.declared.steps.Change.{Change}
 use Rattle.scm_model.specs.declared.steps.Form.{Form}
 use Rattle.scm_model.specs.Entries.{Entry}
-use Rattle.scm_history.specs.Kept.{kept_changes}
-use Rattle.scm_history.proofs.Kept.{law_of_kept}
-use Rattle.record_journal.specs.Bearing.{Bears, Stood, and_changes, stood_in}
+use Rattle.scm_history.specs.Outcomes.{Outcome, outcomes}
+use Rattle.scm_history.proofs.Outcomes.{law_of_outcomes}
+use Rattle.record_journal.proofs.Standing.{closed}
+use Rattle.record_journal.specs.Bearing.{Bears, KeptIn, Stands, StandsIn, Stood, stood_in}
+use Rattle.record_journal.specs.Crashes.{Crashes}
+use Rattle.journal_lasting.specs.Lasting.{HasLasted, stood_after}
 use Rattle.record_journal.specs.Keepers.{SettledSince}
 use Rattle.record_journal.specs.declared.journal.Journal.{Journal}
 use Rattle.record_journal.specs.declared.opening.JournalFault.{JournalFault}
 use Rattle.record_journal.specs.declared.replaying.Replay.{Replay}
-use Rattle.scm_book.specs.Holds.{RoseBy, failures_in}
+use Rattle.scm_book.specs.Calls.{HasKept, IsOnly}
+use Rattle.scm_book.specs.Ghosts.{Ghosts}
+use Rattle.scm_book.specs.Holds.{RoseBy, begun_with, failures_in}
+use Rattle.scm_book.proofs.Leaving.{bears_first, lasts_first, only_kept}
 use Rattle.rpc_session.specs.Items.{StreamEnd, AtRest, Unfinished, BadPdu, TooLong, items}
 use Rattle.conn_desk.specs.declared.served.Served.{Served}
 use Rattle.conn_desk.specs.declared.served.Served.TheVariants as served
 use Rattle.conn_worker.specs.Complete.{IsComplete as EndsAsItsInput, EndsAs as EndsSo, FindsRoom, EndsOrLacks as IsDue, end_as}
 use Rattle.scm_pipe.specs.declared.alone.Piped.{Piped}
-use Rattle.scm_pipe.specs.Piping.{HasRoomForAll, IsEnd, IsKept, begun_with}
+use Rattle.scm_pipe.specs.Piping.{HasRoomForAll, IsEnd}
 use Rattle.scm_restored.specs.declared.Opened.{Opened}
 use Rattle.scmd_top.specs.Opening.{FailsToOpen, HasOpened, IsCut, IsUnopened, kept_front, program_opening, status_of_fault}
 use Rattle.scmd_top.specs.Pipe.{EndsAs, HasCome, HasNotJoined, HasPiped, HasRoomAlways, IsComplete, IsOrFails, KeepsJournal, pipe_status}
 use Rattle.scmd_top.specs.Pipe.{status_of}
 use Rattle.scmd_top.specs.Sides.{IsUntouched, Side, Sides, side}
 use Rattle.scmd_top.specs.Statuses.{program_limits}
-use Rattle.scmd_top.proofs.Again.{no_more, opens_again}
+use Rattle.scmd_top.proofs.Again.{opens_again}
 use Rattle.scmd_top.proofs.Openings.{fails, not_9, openable}
 
 -- ## What is kept
 
--- what is borne after what was cut is borne after the kept front of what stood, which ends in the same form
-behind : (replay : Replay) (form : Form) (old mid now : Option (List ℕ)) (changes : List Change) (j : Journal) → form ≡ replay.form
-    → IsCut replay.kept old mid
-    → Bears (and_changes (stood_in form mid) changes) j now → Bears (and_changes (kept_front replay old) changes) j now
-behind replay form None mid now changes j ends cut h = subst (λ (good : Option Stood). Bears good j now) (sym (no_more changes)) tt
-behind replay form (Some bytes) mid now changes j ends cut h =
-    subst (λ (good : Option Stood). Bears (and_changes good changes) j now)
+-- what a run has of a journal that begins with what stood
+record KeptFrom (first : Option Stood) (outs : List Outcome) (held : Option (List ℕ)) (now : Crashes) : Type 0 where
+  kept : KeptIn (option_map (λ s. stood_after s outs) first) held
+  stands : IfSome first (λ s. Stands (stood_after s outs) now)
+  only : (s : Stood) → option_map (λ s. stood_after s outs) first ≡ Some s → s.lost ≡ [] → IsOnly held now.leaves
+
+stands_now : (first : Option Stood) (outs : List Outcome) (opened : ℕ) (now : Crashes) → IfSome first (λ s. HasLasted s opened outs now)
+    → IfSome first (λ s. Stands (stood_after s outs) now)
+stands_now None outs opened now lasts = tt
+stands_now (Some s) outs opened now lasts = lasts.stands
+
+-- what is kept after what was cut is kept after the kept front of what stood, which ends in the same form
+behind : (replay : Replay) (form : Form) (old mid : Option (List ℕ)) (outs : List Outcome) (held : Option (List ℕ)) (now : Crashes)
+    → form ≡ replay.form → IsCut replay.kept old mid
+    → KeptFrom (stood_in form mid) outs held now → KeptFrom (kept_front replay old) outs held now
+behind replay form None mid outs held now ends cut h = record { kept = tt; stands = tt; only = λ s is none. absurd cc }
+behind replay form (Some bytes) mid outs held now ends cut h =
+    subst (λ (first : Option Stood). KeptFrom first outs held now)
     (ap (λ (f : Form). stood_in f mid) ends ∙ ap (stood_in replay.form) cut) h
 
-module _ {K : Type 0} (told : K → Option (List ℕ)) (faulted : K → ℕ) (IsSettled : K → Type 0) where
-  -- a keeper that was opened has the kept changes of a history
-  pub keeps : (replay : Replay) (l : Limits) (f : Flat) (j : Journal) (history : List Entry) (keeper mid now : K) → j.form ≡ replay.form
-      → IsCut replay.kept (told keeper) (told mid)
-      → faulted mid ≡ faulted keeper
-      → IsKept told faulted IsSettled (begun_with told faulted l f j mid) history now
-      → KeepsJournal replay (kept_changes l f history) (failures_in history) (side told faulted keeper now)
-  keeps replay l f j history keeper mid now ends cut same k = record {
-    journal = k.journal;
-    bears = behind replay j.form (told keeper) (told mid) (told now) (kept_changes l f history) k.journal ends cut k.bears;
-    faults = subst (λ (n : ℕ). RoseBy (failures_in history) n (faulted now)) same k.faults;
-  }
+module _ {K : Type 0} (ghosts : Ghosts K) where
+  -- what a keeper tells, and how often it failed, before a run and after it
+  abbrev told_side : (keeper now : K) → Side
+  told_side keeper now = side ghosts.held ghosts.faults keeper now
 
-  rests_as : (replay : Replay) (j : Journal) (keeper mid : K) → j.form ≡ replay.form → IsCut replay.kept (told keeper) (told mid)
-      → faulted mid ≡ faulted keeper
-      → Bears (stood_in j.form (told mid)) j (told mid)
-      → KeepsJournal replay [] 0 (side told faulted keeper mid)
-  rests_as replay j keeper mid ends cut same b = record {
-    journal = j;
-    bears = behind replay j.form (told keeper) (told mid) (told mid) [] j ends cut b;
-    faults = subst (λ (n : ℕ). RoseBy 0 n (faulted mid)) same (omega arith);
-  }
+  -- a keeper that was opened has the changes of a history that were kept
+  pub keeps : (replay : Replay) (l : Limits) (f : Flat) (j : Journal) (history : List Entry) (keeper mid now : K) → j.form ≡ replay.form
+      → IsCut replay.kept (ghosts.held keeper) (ghosts.held mid) → ghosts.faults mid ≡ ghosts.faults keeper
+      → HasKept ghosts (begun_with ghosts l f j mid) history now
+      → KeepsJournal replay (outcomes l f history) (failures_in history) (told_side keeper now) (ghosts.crashes now)
+  keeps replay l f j history keeper mid now ends cut same k =
+      let first = stood_in j.form (ghosts.held mid) in
+      let stands = stands_now first (outcomes l f history) (ghosts.crashes mid).moment (ghosts.crashes now) k.lasts in
+      let b = behind replay j.form (ghosts.held keeper) (ghosts.held mid) (outcomes l f history) (ghosts.held now) (ghosts.crashes now)
+      ends cut (record { kept = k.holds; stands = stands; only = k.only }) in
+      record {
+        kept = b.kept;
+        stands = b.stands;
+        only = b.only;
+        faults = subst (λ (n : ℕ). RoseBy (failures_in history) n (ghosts.faults now)) same k.faults;
+      }
+
+  rests_as : (replay : Replay) (j : Journal) (keeper mid : K) → j.form ≡ replay.form
+      → IsCut replay.kept (ghosts.held keeper) (ghosts.held mid) → ghosts.faults mid ≡ ghosts.faults keeper
+      → Bears (stood_in j.form (ghosts.held mid)) j (ghosts.held mid)
+      → StandsIn (stood_in j.form (ghosts.held mid)) (ghosts.crashes mid)
+      → KeepsJournal replay [] 0 (told_side keeper mid) (ghosts.crashes mid)
+  rests_as replay j keeper mid ends cut same bears stands =
+      let first = stood_in j.form (ghosts.held mid) in
+      let now = ghosts.crashes mid in
+      let kept = closed (option_map (λ s. stood_after s []) first) j (ghosts.held mid) (bears_first first j (ghosts.held mid) bears) in
+      let lasts = lasts_first first (ghosts.held mid) (ghosts.settled mid) now (ghosts.are_crashes mid) stands in
+      let b = behind replay j.form (ghosts.held keeper) (ghosts.held mid) [] (ghosts.held mid) now ends cut
+      (record {
+        kept = kept;
+        stands = stands_now first [] now.moment now lasts;
+        only = only_kept first [] now.moment (ghosts.held mid) now kept lasts;
+      }) in
+      record {
+        kept = b.kept;
+        stands = b.stands;
+        only = b.only;
+        faults = subst (λ (n : ℕ). RoseBy 0 n (ghosts.faults mid)) same (omega arith);
+      }
 
   -- nothing was asked of it since
-  pub rests : (replay : Replay) (j : Journal) (keeper mid now : K) → j.form ≡ replay.form → IsCut replay.kept (told keeper) (told mid)
-      → faulted mid ≡ faulted keeper
-      → Bears (stood_in j.form (told mid)) j (told mid)
-      → now ≡ mid → KeepsJournal replay [] 0 (side told faulted keeper now)
-  rests replay j keeper mid now ends cut same b e = subst (λ (k : K). KeepsJournal replay [] 0 (side told faulted keeper k)) (sym e)
-      (rests_as replay j keeper mid ends cut same b)
+  pub rests : (replay : Replay) (j : Journal) (keeper mid now : K) → j.form ≡ replay.form
+      → IsCut replay.kept (ghosts.held keeper) (ghosts.held mid) → ghosts.faults mid ≡ ghosts.faults keeper
+      → Bears (stood_in j.form (ghosts.held mid)) j (ghosts.held mid)
+      → StandsIn (stood_in j.form (ghosts.held mid)) (ghosts.crashes mid)
+      → now ≡ mid → KeepsJournal replay [] 0 (told_side keeper now) (ghosts.crashes now)
+  rests replay j keeper mid now ends cut same bears stands e =
+      subst (λ (k : K). KeepsJournal replay [] 0 (told_side keeper k) (ghosts.crashes k)) (sym e)
+      (rests_as replay j keeper mid ends cut same bears stands)
 
   -- ## The connection
 
   -- nobody joined
   not_come : (path : Bool) (moment : ℕ) (o : Opened) (a b : Side) (keeper mid : K) (end : Piped K)
-      (h : HasOpened path [] (side told faulted keeper mid) moment o) → end.how ≡ served.OutOfMemory → a.told_now ≡ a.told
-      → b.told_now ≡ b.told → KeepsJournal h.replay [] 0 (side told faulted keeper end.keeper)
-      → HasNotJoined path end.how (record { input = a; output = b; keeper = side told faulted keeper end.keeper })
+      (h : HasOpened path [] (told_side keeper mid) moment o) → end.how ≡ served.OutOfMemory → a.told_now ≡ a.told
+      → b.told_now ≡ b.told → KeepsJournal h.replay [] 0 (told_side keeper end.keeper) (ghosts.crashes end.keeper)
+      → HasNotJoined path end.how (record { input = a; output = b; keeper = told_side keeper end.keeper }) (ghosts.crashes end.keeper)
   not_come path moment o a b keeper mid end h lacks unread unwritten kept = record {
     replay = h.replay;
-    stood = openable path [] (side told faulted keeper mid) moment o h;
+    stood = openable path [] (told_side keeper mid) moment o h;
     how_is = lacks;
     unread = unread;
     unwritten = unwritten;
@@ -91,60 +131,69 @@ module _ {K : Type 0} (told : K → Option (List ℕ)) (faulted : K → ℕ) (Is
   }
 
   came : (tells : ℕ → Type 0) (path : Bool) (principal : Principal) (moment : ℕ) (o : Opened) (a b : Side) (keeper mid : K) (end : Piped K)
-      → tells moment → (h : HasOpened path [] (side told faulted keeper mid) moment o)
-      → IsEnd told faulted IsSettled tells principal program_limits (program_opening [] h.replay.configs moment) o.journal a.told a.told_now
-      b.told
+      → tells moment → (h : HasOpened path [] (told_side keeper mid) moment o)
+      → StandsIn (stood_in o.journal.form (ghosts.held mid)) (ghosts.crashes mid)
+      → IsEnd ghosts tells principal program_limits (program_opening [] h.replay.configs moment) o.journal a.told a.told_now b.told
       b.told_now mid end
-      → HasCome tells path principal end.how (record { input = a; output = b; keeper = side told faulted keeper end.keeper })
-  came tells path principal moment o a b keeper mid end at h (inl (inl j)) = inl (record {
-    replay = h.replay;
-    stood = openable path [] (side told faulted keeper mid) moment o h;
-    opened = moment;
-    opened_at = at;
-    history = j.history;
-    piped = j.piped;
-    kept = keeps h.replay program_limits (program_opening [] h.replay.configs moment) o.journal j.history keeper mid end.keeper h.form h.cut
-        h.faults j.kept;
-    again = opens_again path [] (side told faulted keeper mid) moment o h j.history (failures_in j.history)
-        (side told faulted keeper end.keeper) refl j.piped.legal
-        (keeps h.replay program_limits (program_opening [] h.replay.configs moment) o.journal j.history keeper mid end.keeper h.form h.cut
-        h.faults j.kept);
-  })
-  came tells path principal moment o a b keeper mid end at h (inl (inr u)) =
+      → HasCome tells path principal end.how (record { input = a; output = b; keeper = told_side keeper end.keeper })
+      (ghosts.crashes end.keeper)
+  came tells path principal moment o a b keeper mid end at h stands (inl (inl j)) =
+      let kept = keeps h.replay program_limits (program_opening [] h.replay.configs moment) o.journal j.history keeper mid end.keeper h.form
+      h.cut h.faults j.kept.keeps in
+      inl (record {
+        replay = h.replay;
+        stood = openable path [] (told_side keeper mid) moment o h;
+        opened = moment;
+        opened_at = at;
+        history = j.history;
+        piped = j.piped;
+        kept = kept;
+        again = opens_again path [] (told_side keeper mid) moment o h j.history (failures_in j.history) (told_side keeper end.keeper)
+            (ghosts.crashes end.keeper) refl j.piped.legal j.kept.coded kept;
+      })
+  came tells path principal moment o a b keeper mid end at h stands (inl (inr u)) =
       inr (not_come path moment o a b keeper mid end h u.0.lacks u.0.unread u.0.unwritten
-      (subst (λ (changes : List Change). KeepsJournal h.replay changes 0 (side told faulted keeper end.keeper))
-      (law_of_kept program_limits (program_opening [] h.replay.configs moment)).none
+      (subst (λ (outs : List Outcome). KeepsJournal h.replay outs 0 (told_side keeper end.keeper) (ghosts.crashes end.keeper))
+      (law_of_outcomes program_limits (program_opening [] h.replay.configs moment)).none
       (keeps h.replay program_limits (program_opening [] h.replay.configs moment) o.journal [] keeper mid end.keeper h.form h.cut h.faults
-      u.1)))
-  came tells path principal moment o a b keeper mid end at h (inr u) =
+      u.1.keeps)))
+  came tells path principal moment o a b keeper mid end at h stands (inr u) =
       inr (not_come path moment o a b keeper mid end h u.0.lacks u.0.unread u.0.unwritten
-      (rests h.replay o.journal keeper mid end.keeper h.form h.cut h.faults h.bears u.1))
+      (rests h.replay o.journal keeper mid end.keeper h.form h.cut h.faults h.bears stands u.1))
 
   pub come : (tells : ℕ → Type 0) (path : Bool) (principal : Principal) (moment : ℕ) (o : Opened) (a b : Side) (keeper mid : K)
       (end : Piped K)
-      → tells moment → HasOpened path [] (side told faulted keeper mid) moment o
-      → IsEnd told faulted IsSettled tells principal o.manager.limits o.manager.flat o.journal a.told a.told_now b.told b.told_now mid end
-      → HasCome tells path principal end.how (record { input = a; output = b; keeper = side told faulted keeper end.keeper })
-  come tells path principal moment o a b keeper mid end at h e =
-      came tells path principal moment o a b keeper mid end at h
-      (subst (λ (l : Limits). IsEnd told faulted IsSettled tells principal l
-      (program_opening [] h.replay.configs moment) o.journal a.told a.told_now
+      → tells moment → HasOpened path [] (told_side keeper mid) moment o
+      → StandsIn (stood_in o.journal.form (ghosts.held mid)) (ghosts.crashes mid)
+      → IsEnd ghosts tells principal o.manager.limits o.manager.flat o.journal a.told a.told_now b.told b.told_now mid end
+      → HasCome tells path principal end.how (record { input = a; output = b; keeper = told_side keeper end.keeper })
+      (ghosts.crashes end.keeper)
+  come tells path principal moment o a b keeper mid end at h stands e =
+      came tells path principal moment o a b keeper mid end at h stands
+      (subst (λ (l : Limits). IsEnd ghosts tells principal l (program_opening [] h.replay.configs moment) o.journal a.told a.told_now
       b.told b.told_now mid end) h.new.limits
-      (subst (λ (f : Flat). IsEnd told faulted IsSettled tells principal o.manager.limits f o.journal a.told a.told_now b.told b.told_now
-      mid end)
+      (subst (λ (f : Flat). IsEnd ghosts tells principal o.manager.limits f o.journal a.told a.told_now b.told b.told_now mid end)
       h.new.flat e))
 
   -- a keeper that was settled when its book began is settled after it, unless it failed
   pub end_settled : (tells : ℕ → Type 0) (principal : Principal) (l : Limits) (f : Flat) (j : Journal)
-      (left left_now held held_now : Option (List ℕ)) (keeper mid : K) (end : Piped K) → faulted mid ≡ faulted keeper → IsSettled mid
-      → IsEnd told faulted IsSettled tells principal l f j left left_now held held_now mid end
-      → SettledSince (faulted keeper) (faulted end.keeper) (IsSettled end.keeper)
+      (left left_now held held_now : Option (List ℕ)) (keeper mid : K) (end : Piped K) → ghosts.faults mid ≡ ghosts.faults keeper
+      → ghosts.settled mid → IsEnd ghosts tells principal l f j left left_now held held_now mid end
+      → SettledSince (ghosts.faults keeper) (ghosts.faults end.keeper) (ghosts.settled end.keeper)
   end_settled tells principal l f j left left_now held held_now keeper mid end same settled (inl (inl joined)) =
-      subst (λ (n : ℕ). SettledSince n (faulted end.keeper) (IsSettled end.keeper)) same joined.kept.settled
+      subst (λ (n : ℕ). SettledSince n (ghosts.faults end.keeper) (ghosts.settled end.keeper)) same joined.kept.keeps.settled
   end_settled tells principal l f j left left_now held held_now keeper mid end same settled (inl (inr none)) =
-      subst (λ (n : ℕ). SettledSince n (faulted end.keeper) (IsSettled end.keeper)) same none.1.settled
+      subst (λ (n : ℕ). SettledSince n (ghosts.faults end.keeper) (ghosts.settled end.keeper)) same none.1.keeps.settled
   end_settled tells principal l f j left left_now held held_now keeper mid end same settled (inr none) =
-      inr (subst IsSettled (sym none.1) settled)
+      inr (subst ghosts.settled (sym none.1) settled)
+
+  -- it wasn't opened anew
+  pub end_asked : (tells : ℕ → Type 0) (principal : Principal) (l : Limits) (f : Flat) (j : Journal)
+      (left left_now held held_now : Option (List ℕ)) (mid : K) (end : Piped K)
+      → IsEnd ghosts tells principal l f j left left_now held held_now mid end → ghosts.asked end.keeper ≡ ghosts.asked mid
+  end_asked tells principal l f j left left_now held held_now mid end (inl (inl joined)) = joined.kept.keeps.asked
+  end_asked tells principal l f j left left_now held held_now mid end (inl (inr none)) = none.1.keeps.asked
+  end_asked tells principal l f j left left_now held held_now mid end (inr none) = ap ghosts.asked none.1
 
 -- ## Completeness
 
@@ -239,10 +288,10 @@ complete_unopened path principal s fault h = record {
   room = unopened_room path principal s.keeper.told s.input.told fault;
 }
 
-pub not_opened : (tells : ℕ → Type 0) (path : Bool) (principal : Principal) (s : Sides) (fault : JournalFault)
+pub not_opened : (tells : ℕ → Type 0) (path : Bool) (principal : Principal) (s : Sides) (now : Crashes) (fault : JournalFault)
     → IsUnopened path s.keeper fault
-    → IsUntouched s.input → IsUntouched s.output → HasPiped tells path principal s (status_of_fault fault)
-not_opened tells path principal s fault h input output = inr (record {
+    → IsUntouched s.input → IsUntouched s.output → HasPiped tells path principal s now (status_of_fault fault)
+not_opened tells path principal s now fault h input output = inr (record {
   fault = fault;
   status_is = refl;
   unopened = h;

@@ -17,6 +17,7 @@ use Rattle.trail_audit.specs.declared.audited.Audited.{Audited}
 use Rattle.trail_audit.specs.declared.audited.Audited.TheVariants as audited
 use Rattle.scm_summary.specs.Lines.{numbered}
 use Rattle.scmd_top.specs.Auditing.{HasVerdict, IsPrinted}
+use Rattle.record_journal.specs.Crashes.{Crashes}
 use Rattle.scmd_top.specs.Jobs.{HasAnswered, HasReplayed, HasRun, status_of_generate, status_of_replay}
 use Rattle.scmd_top.specs.Opening.{HasNotOpened}
 use Rattle.scmd_top.specs.Pipe.{status_of}
@@ -91,16 +92,16 @@ not_replayed false s status h = not_answered false s status h
 not_replayed true s status (inl h) = not_answered true s status h
 not_replayed true s status (inr h) = not_opened true s status h
 
-pub not_5 : (tells : ℕ → Type 0) (path : Bool) (groups : List (List ℕ)) (job : Job) (s : Sides) (p : Ports) (status : ℕ)
-    → HasRun tells path groups job s p status → status ≢ 5
-not_5 tells path groups (Pipe principal) s p status (inl h) = λ e. not_of_pipe h.how (sym h.status_is ∙ e)
-not_5 tells path groups (Pipe principal) s p status (inr h) = not_opened path s status h
-not_5 tells path groups Replay s p status h = not_replayed path s status h
-not_5 tells path groups (Generate services) s p status h = λ e. not_of_generate h.0.how (sym h.0.status_is ∙ e)
-not_5 tells path groups Audit s p status h = not_of_audit h.0.how s.output status h.0.verdict
-not_5 tells path groups (Serve admin user export) s p status (inl h, untouched) = not_of_serve h.begun h.end s.output status h.written
-not_5 tells path groups (Serve admin user export) s p status (inr (inl h), untouched) = not_10 status h.status_is
-not_5 tells path groups (Serve admin user export) s p status (inr (inr h), untouched) = not_opened path s status h.0
+pub not_5 : (tells : ℕ → Type 0) (path : Bool) (groups : List (List ℕ)) (job : Job) (s : Sides) (now : Crashes) (p : Ports) (status : ℕ)
+    → HasRun tells path groups job s now p status → status ≢ 5
+not_5 tells path groups (Pipe principal) s now p status (inl h) = λ e. not_of_pipe h.how (sym h.status_is ∙ e)
+not_5 tells path groups (Pipe principal) s now p status (inr h) = not_opened path s status h
+not_5 tells path groups Replay s now p status h = not_replayed path s status h
+not_5 tells path groups (Generate services) s now p status h = λ e. not_of_generate h.0.how (sym h.0.status_is ∙ e)
+not_5 tells path groups Audit s now p status h = not_of_audit h.0.how s.output status h.0.verdict
+not_5 tells path groups (Serve admin user export) s now p status (inl h, untouched) = not_of_serve h.begun h.end s.output status h.written
+not_5 tells path groups (Serve admin user export) s now p status (inr (inl h), untouched) = not_10 status h.status_is
+not_5 tells path groups (Serve admin user export) s now p status (inr (inr h), untouched) = not_opened path s status h.0
 
 -- ## Modes
 

@@ -10,3 +10,4 @@ mod Served
 mod Writing
 mod Named
 mod ByStatus
+mod Filed

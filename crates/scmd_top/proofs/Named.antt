@@ -2,6 +2,7 @@
 use Rattle.std.proofs.Common.{ℕ, ◌≡◌, ◌∙◌, List, Option, None, Some, sym, ap, subst}
 use Rattle.std.specs.Prelude.{Bool, IfSome, IsNone, option_and_then, is_some, ◌↔◌}
 use Rattle.std.specs.Borrow.{Bor}
+use Rattle.outside.specs.Asked.{text_of}
 use Rattle.scmd_top.specs.declared.words.Task.{Task}
 use Rattle.scmd_top.specs.Groups.{groups_in}
 use Rattle.scmd_top.specs.Modes.{groups_listed}
@@ -11,6 +12,10 @@ use Rattle.scmd_top.specs.Words.{Mode, listed_groups, mode_by, mode_of, names_fi
 same_name : (name : Option (List ℕ)) (lent : Option (Bor (List ℕ))) → IsText name lent → is_some lent ≡ is_some name
 same_name name None is = ap is_some (sym is)
 same_name name (Some x) is = ap is_some (sym is)
+
+same_text : (name : Option (List ℕ)) (lent : Option (Bor (List ℕ))) → IsText name lent → text_of lent ≡ name
+same_text name None is = sym is
+same_text name (Some x) is = sym is
 
 same_groups : (words : List (List ℕ)) (names : Option (Bor (List ℕ))) → IsText (listed_groups words) names
     → groups_in (lent names) ≡ groups_listed words
@@ -47,6 +52,16 @@ module _ (words : List (List ℕ)) (task : Task) (path store names : Option (Bor
         (same_name (path_of words) path named.path_is)
         (subst (λ (gs : List (List ℕ)). IfSome (mode_by task (is_some path) (is_some store)) (λ mode. P (is_some path) gs mode))
         (same_groups words names named.names_are) run))
+
+    pub files_named : (P : Option (List ℕ) → Option (List ℕ) → Mode → Type 0)
+        → IfSome (mode_by task (is_some path) (is_some store)) (λ mode. P (text_of path) (text_of store) mode)
+        → IfSome (mode_of words) (λ mode. P (path_of words) (store_of words) mode)
+    files_named P opens =
+        subst (λ (m : Option Mode). IfSome m (λ mode. P (path_of words) (store_of words) mode)) same_mode
+        (subst (λ (text : Option (List ℕ)). IfSome (mode_by task (is_some path) (is_some store)) (λ mode. P text (store_of words) mode))
+        (same_text (path_of words) path named.path_is)
+        (subst (λ (text : Option (List ℕ)). IfSome (mode_by task (is_some path) (is_some store)) (λ mode. P (text_of path) text mode))
+        (same_text (store_of words) store named.store_is) opens))
 
     pub none_named : (status : ℕ) → (status ≡ 5 ↔ IsNone (mode_by task (is_some path) (is_some store)))
         → (status ≡ 5 ↔ IsNone (mode_of words))

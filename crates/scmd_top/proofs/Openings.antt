@@ -1,6 +1,6 @@
 -- The opening of a run, and what is said where there is none.
-use Rattle.std.proofs.Common.{ℕ, ◌≡◌, ◌≢◌, ◌≤◌, ◌∙◌, ◌⊎◌, Bool, true, false, inl, inr, refl, sym, ap, subst, List, [], ◌∷◌, append-nil}
-use Rattle.std.proofs.Common.{length, take, Option, None, Some, Result, Ok, Err, arith}
+use Rattle.std.proofs.Common.{ℕ, ◌≡◌, ◌≢◌, ◌≤◌, ◌∙◌, ◌⊎◌, Bool, true, false, inl, inr, refl, sym, ap, subst, List, [], ◌∷◌}
+use Rattle.std.proofs.Common.{take, Option, None, Some, Result, Ok, Err, arith}
 use Rattle.std.specs.Prelude.{IfOk, IfSome, IsErrOf, OnOk, is_some}
 use Rattle.std.specs.Io.KnownBytes.{Keeps}
 use Rattle.outside.specs.Causes.{Rose}
@@ -16,6 +16,7 @@ use Rattle.scm_kept.proofs.Opened.{of_opening}
 use Rattle.record_journal.specs.Bearing.{Bears, stood_in}
 use Rattle.record_journal.specs.Keepers.{IsEmptied, Settles}
 use Rattle.record_journal.specs.Opening.{Restores, LeavesAt, LeavesAll}
+use Rattle.record_journal.proofs.Standing.{bears_empty}
 use Rattle.record_journal.specs.declared.journal.Journal.{Journal}
 use Rattle.record_journal.specs.declared.opening.JournalFault.{JournalFault}
 use Rattle.record_journal.specs.declared.opening.JournalFault.TheVariants as faults
@@ -26,6 +27,7 @@ use Rattle.scm_restored.specs.declared.Opened.{Opened}
 use Rattle.opening_lines.specs.declared.opening.Opening.{Opening as Beginning}
 use Rattle.scmd_top.specs.Opening.{FailsToOpen, HasBegun, HasOpened, IsCut, IsDamaged, IsNew, IsOpenable, IsRead, IsUnopened}
 use Rattle.scmd_top.specs.Opening.{LeavesSettled, OpensJournal, OpensSettled, beginning_if, beginning_of, program_opening, status_of_fault}
+use Rattle.trail_text.specs.Histories.{AreAuditable}
 use Rattle.scmd_top.specs.Sides.{Side}
 use Rattle.scmd_top.specs.Statuses.{program_limits}
 
@@ -33,6 +35,9 @@ use Rattle.scmd_top.specs.Statuses.{program_limits}
 
 pub small_limits : AreSmall program_limits
 small_limits = search arith
+
+pub auditable_limits : AreAuditable program_limits
+auditable_limits = search arith
 
 pub small : (m : Managed) → m.limits ≡ program_limits → AreSmall m.limits
 small m e = subst AreSmall (sym e) small_limits
@@ -47,16 +52,6 @@ has_room m e = subst (λ (l : Limits). 2 ≤ l.steps) (sym e) (omega arith)
 
 abbrev empty_journal : Journal
 empty_journal = record { good = 0; dirty = false; form = Second }
-
-emptied_bears : (old now : Option (List ℕ)) → IsEmptied old now → Bears (stood_in Second now) empty_journal now
-emptied_bears old None e = tt
-emptied_bears old (Some bytes) e = record {
-  tail = [];
-  holds = sym (append-nil bytes);
-  part = refl;
-  long = ap length (sym e);
-  form = refl;
-}
 
 nothing_taken : (bytes : List ℕ) → [] ≡ take 0 bytes
 nothing_taken [] = refl
@@ -86,7 +81,7 @@ opens_empty_at keeper groups moment m j copy is e same new copied = record {
   copied = copied;
   form = ap (λ (x : Journal). x.form) is;
   bears = subst (λ (x : Journal). Bears (stood_in x.form keeper.told_now) x keeper.told_now) (sym is)
-      (emptied_bears keeper.told keeper.told_now e);
+      (bears_empty keeper.told keeper.told_now e);
   faults = same;
 }
 

@@ -13,6 +13,7 @@ use Rattle.scm_replay.specs.Replay.{TextEnd, AtRest, Unfinished, BadLine, IsOpen
 use Rattle.scm_replay.specs.declared.replayed.Replayed.{Replayed}
 use Rattle.scm_replay.specs.declared.replayed.Replayed.TheVariants as answered
 use Rattle.scm_model.specs.declared.flat.Config.{Config}
+use Rattle.record_journal.specs.Crashes.{Crashes}
 use Rattle.record_journal.specs.declared.replaying.Replay.{Replay as Restoring}
 use Rattle.scmd_top.specs.Opening.{FailsToOpen, HasNotOpened, IsCut, IsOpenable, LeavesSettled, program_opening}
 use Rattle.scmd_top.specs.declared.words.Job.{Job}
@@ -79,13 +80,15 @@ pub record HasPrinted (services : ℕ) (output : Side) (status : ℕ) : Type 0 w
   pub can : IfMade how (CanBeMade program_limits (program_opening [] [] 0) (generated services))
   pub cause : IsPrintCaused how output.faults output.faults_now
 
-abbrev pub HasRun : (tells : ℕ → Type 0) → (path : Bool) → (groups : List (List ℕ)) → Job → Sides → Ports → (status : ℕ) → Type 0
-HasRun tells path groups (Pipe principal) s p status = HasPiped tells path principal s status
-HasRun tells path groups Replay s p status = HasReplayed path s status
-HasRun tells path groups (Generate services) s p status = HasPrinted services s.output status × IsUntouched s.input × IsUntouched s.keeper
-HasRun tells path groups Audit s p status = HasAudited s status × IsUntouched s.keeper
-HasRun tells path groups (Serve admin user export) s p status =
-    HasServed tells path groups export admin user s p status × IsUntouched s.input
+abbrev pub HasRun : (tells : ℕ → Type 0) → (path : Bool) → (groups : List (List ℕ)) → Job → Sides → (now : Crashes) → Ports
+    → (status : ℕ) → Type 0
+HasRun tells path groups (Pipe principal) s now p status = HasPiped tells path principal s now status
+HasRun tells path groups Replay s now p status = HasReplayed path s status
+HasRun tells path groups (Generate services) s now p status =
+    HasPrinted services s.output status × IsUntouched s.input × IsUntouched s.keeper
+HasRun tells path groups Audit s now p status = HasAudited s status × IsUntouched s.keeper
+HasRun tells path groups (Serve admin user export) s now p status =
+    HasServed tells path groups export admin user s now p status × IsUntouched s.input
 
 -- no other jobs than a pipe and a server touch the keeper, and a replay over what stands under a path
 abbrev pub LeavesKeeper : {K : Type 0} → (path : Bool) → Job → (keeper now : K) → Type 0

@@ -11,3 +11,4 @@ pub mod Auditing
 pub mod Jobs
 pub mod Stores
 pub mod Modes
+pub mod Files

@@ -1,11 +1,18 @@
 -- What the program does by its words: a job over the keeper or over the store, a compaction or a move.
-use Rattle.std.specs.Prelude.{ℕ, ◌≡◌, ◌≢◌, ◌↔◌, Bool, true, List, IfSome, IsNone}
+use Rattle.std.specs.Prelude.{ℕ, ◌≡◌, ◌≢◌, ◌↔◌, ◌≤◌, Bool, true, List, Option, IfSome, IsNone}
+use Rattle.journal_store.specs.Compacting.{IsOnly}
+use Rattle.record_journal.specs.Crashes.{Crashes}
 use Rattle.record_journal.specs.Keepers.{SettledSince}
+use Rattle.scm_book.specs.Ghosts.{Ghosts}
+use Rattle.scm_listener.specs.Connections.{PastConnection}
+use Rattle.scm_listener.specs.declared.listener.Listening.{Listening}
+use Rattle.scmd_top.specs.Files.{OpensFiles}
 use Rattle.scmd_top.specs.Groups.{groups_in}
 use Rattle.scmd_top.specs.Jobs.{HasAllDone, HasRun, LeavesKeeper, LeavesOthers, SettlesKeeper}
-use Rattle.scmd_top.specs.Sides.{Ports, Side, Sides}
+use Rattle.scmd_top.specs.Sides.{Ports, Side, Sides, ports_of, side, sides_of}
 use Rattle.scmd_top.specs.Stores.{HasBeenCompacted, HasBeenMoved}
-use Rattle.scmd_top.specs.Words.{Compacting, Mode, Moving, OverKeeper, OverStore, listed_groups, mode_of, names_file}
+use Rattle.scmd_top.specs.Words.{Compacting, Mode, Moving, OverKeeper, OverStore, listed_groups, mode_of, names_file, path_of}
+use Rattle.scmd_top.specs.Words.{store_of}
 use Rattle.scmd_top.specs.declared.world.JobWorld.{JobWorld}
 use Rattle.scmd_top.specs.declared.world.World.{World}
 
@@ -41,12 +48,13 @@ over_store s store = record s { keeper = store }
 -- ## The outcome of a mode
 
 -- what was read, answered, written and kept, and why the run ended
-abbrev pub HasRunAs : (tells : ℕ → Type 0) → (path : Bool) → (groups : List (List ℕ)) → Mode → Sides → (store : Side) → Ports
-    → (status : ℕ) → Type 0
-HasRunAs tells path groups (OverKeeper job) s store p status = HasRun tells path groups job s p status
-HasRunAs tells path groups (OverStore job) s store p status = HasRun tells true groups job (over_store s store) p status
-HasRunAs tells path groups Compacting s store p status = HasBeenCompacted store status
-HasRunAs tells path groups Moving s store p status = HasBeenMoved s.keeper store status
+abbrev pub HasRunAs : (tells : ℕ → Type 0) → (path : Bool) → (groups : List (List ℕ)) → Mode → Sides → (now : Crashes)
+    → (store : Side) → (store_now : Crashes) → Ports → (status : ℕ) → Type 0
+HasRunAs tells path groups (OverKeeper job) s now store store_now p status = HasRun tells path groups job s now p status
+HasRunAs tells path groups (OverStore job) s now store store_now p status =
+    HasRun tells true groups job (over_store s store) store_now p status
+HasRunAs tells path groups Compacting s now store store_now p status = HasBeenCompacted store status
+HasRunAs tells path groups Moving s now store store_now p status = HasBeenMoved s.keeper store status
 
 -- nothing else ends a job without faults
 abbrev pub HasAllDoneAs : (path : Bool) → Mode → Sides → (store : Side) → Ports → (status : ℕ) → Type 0
@@ -88,18 +96,38 @@ SettlesStoreAs Moving old before now status only settled =
 abbrev pub groups_listed : List (List ℕ) → List (List ℕ)
 groups_listed words = groups_in (listed_groups words)
 
--- what words came to: 5 exactly where they aren't in the set, and else what the mode came to
-pub record HasEnded (tells : ℕ → Type 0) (words : List (List ℕ)) (s : Sides) (store : Side) (p : Ports) (status : ℕ) : Type 0 where
-  pub words_are : status ≡ 5 ↔ IsNone (mode_of words)
-  pub run : IfSome (mode_of words) (λ mode. HasRunAs tells (names_file words) (groups_listed words) mode s store p status)
-  pub complete : IfSome (mode_of words) (λ mode. HasAllDoneAs (names_file words) mode s store p status)
+-- What the program made of its words: 5 exactly if they aren't in the set, and then all is as it was.
+module _ {I O K Q N P C : Type 0} (left : I → Option (List ℕ)) (read : I → ℕ) (held : O → Option (List ℕ)) (written : O → ℕ)
+    (keeper : Ghosts K) (store : Ghosts Q) (peers : N → Option (List (List ℕ))) (accepted : N → ℕ)
+    (noted : N → Option (List PastConnection)) (listened : N → Option (List Listening)) (faults : N → ℕ) (tells : C → ℕ → Type 0) where
+  abbrev pub sides : (w w' : World I O K Q N P C) → Sides
+  sides w w' = sides_of left read held written keeper.held keeper.faults (keeper_world w) (keeper_world w')
 
--- what a crash leaves of the keeper
-abbrev pub SettlesAsWords : (words : List (List ℕ)) → (old : Type 0) → (before now status : ℕ) → (settled : Type 0) → Type 0
-SettlesAsWords words old before now status settled =
-    IfSome (mode_of words) (λ mode. SettlesKeeperAs (names_file words) mode old before now status settled)
+  abbrev pub ports : (w w' : World I O K Q N P C) → Ports
+  ports w w' = ports_of peers accepted noted listened faults (keeper_world w) (keeper_world w')
 
--- and of the store
-abbrev pub SettlesStore : (words : List (List ℕ)) → (old : Type 0) → (before now status : ℕ) → (only settled : Type 0) → Type 0
-SettlesStore words old before now status only settled =
-    IfSome (mode_of words) (λ mode. SettlesStoreAs mode old before now status only settled)
+  pub record HasDone (words : List (List ℕ)) (w w' : World I O K Q N P C) (status : ℕ) : Type 0 where
+    pub words_are : status ≡ 5 ↔ IsNone (mode_of words)
+    pub untouched : status ≡ 5 → w' ≡ w
+    pub clock : w'.clock ≡ w.clock
+    -- Only a pipe, a server and a replay over a file touch the keeper or the store that keeps their journal, only a server the listeners
+    -- and the spawner, and a compaction and a move nothing but the store and the keeper.
+    pub leaves : IfSome (mode_of words) (λ mode. LeavesWorld (names_file words) mode w w')
+    -- each opens the file that the words name for it
+    pub files : IfSome (mode_of words) (λ mode. OpensFiles mode (path_of words) (store_of words) (keeper.asked w.keeper)
+        (keeper.asked w'.keeper) (store.asked w.store) (store.asked w'.store) status)
+    -- a crash after a run that opened the keeper leaves what it kept, unless the keeper failed
+    pub settled : IfSome (mode_of words) (λ mode. SettlesKeeperAs (names_file words) mode (keeper.settled w.keeper) (keeper.faults w.keeper)
+        (keeper.faults w'.keeper) status (keeper.settled w'.keeper))
+    -- so does one after a run that opened the store
+    pub stored : IfSome (mode_of words) (λ mode. SettlesStoreAs mode (store.settled w.store) (store.faults w.store) (store.faults w'.store)
+        status (IsOnly (store.held w'.store) (store.crashes w'.store).leaves) (store.settled w'.store))
+    -- counts of faults never fall
+    pub input : read w.input ≤ read w'.input
+    pub output : written w.output ≤ written w'.output
+    -- what was read, answered, written and kept, and why the run ended
+    pub run : IfSome (mode_of words) (λ mode. HasRunAs (tells w.clock) (names_file words) (groups_listed words) mode (sides w w')
+        (keeper.crashes w'.keeper) (side store.held store.faults w.store w'.store) (store.crashes w'.store) (ports w w') status)
+    -- nothing else ends a run without faults
+    pub complete : IfSome (mode_of words) (λ mode. HasAllDoneAs (names_file words) mode (sides w w')
+        (side store.held store.faults w.store w'.store) (ports w w') status)

@@ -1,17 +1,23 @@
 -- `pipe`: one connection from the input to the output, over a book that only its caller calls.
-use Rattle.std.specs.Prelude.{ℕ, ◌≡◌, ◌≢◌, ◌<◌, ◌^◌, ◌⊎◌, Bool, List, [], length, Option, IfSome}
+use Rattle.std.specs.Prelude.{ℕ, ◌≡◌, ◌≢◌, ◌<◌, ◌^◌, ◌⊎◌, Bool, List, [], length, Option, Some, IfSome, option_map}
 use Rattle.outside.specs.Causes.{Rose}
 use Rattle.outside.specs.Written.{Begins}
+use Rattle.scm_model.specs.declared.flat.Config.{Config}
+use Rattle.scm_model.specs.declared.flat.Flat.{Flat}
+use Rattle.scm_model.specs.declared.flat.Limits.{Limits}
 use Rattle.scm_model.specs.declared.flat.Principal.{Principal}
 use Rattle.scm_model.specs.declared.steps.Change.{Change}
 use Rattle.scm_model.specs.Entries.{Entry}
 use Rattle.scm_history.specs.Kept.{kept_changes}
-use Rattle.record_journal.specs.Bearing.{Bears, and_changes}
+use Rattle.scm_history.specs.Outcomes.{Outcome, outcomes}
+use Rattle.record_journal.specs.Bearing.{KeptIn, Stands, Stood, and_changes}
+use Rattle.record_journal.specs.Crashes.{Crashes}
 use Rattle.record_journal.specs.Replay.{replayed}
-use Rattle.record_journal.specs.declared.journal.Journal.{Journal}
 use Rattle.record_journal.specs.declared.replaying.Replay.{Replay}
-use Rattle.scm_kept.specs.Fitting.{AllFit, AreBytes}
+use Rattle.journal_lasting.specs.Lasting.{stood_after}
+use Rattle.scm_kept.specs.Fitting.{AreBytes}
 use Rattle.scm_kept.specs.Read.{IsJournalOf, IsLeftReadable}
+use Rattle.scm_book.specs.Calls.{IsOnly}
 use Rattle.scm_book.specs.Holds.{RoseBy, failures_in}
 use Rattle.rpc_session.specs.Items.{StreamEnd, AtRest, Unfinished, BadPdu, TooLong, items}
 use Rattle.conn_desk.specs.declared.served.Served.{Served}
@@ -35,26 +41,40 @@ status_of served.Worn = 12
 
 -- ## The journal
 
--- after what is kept of what stood the keeper bears these changes, and so many failed appends raised its count
-pub record KeepsJournal (replay : Replay) (changes : List Change) (failed : ℕ) (keeper : Side) : Type 0 where
-  pub journal : Journal
-  pub bears : Bears (and_changes (kept_front replay keeper.told) changes) journal keeper.told_now
+-- what is kept after what stood and what these steps did with their changes
+abbrev pub kept_behind : Replay → List Outcome → (told : Option (List ℕ)) → Option Stood
+kept_behind replay outs told = option_map (λ s. stood_after s outs) (kept_front replay told)
+
+-- After what is kept of what stood the keeper has the changes that these steps kept, and perhaps a part of one whose append failed since the
+-- last of them; and so it is with what a crash now leaves. So many failed appends raised its count.
+pub record KeepsJournal (replay : Replay) (outs : List Outcome) (failed : ℕ) (keeper : Side) (now : Crashes) : Type 0 where
+  pub kept : KeptIn (kept_behind replay outs keeper.told) keeper.told_now
+  pub stands : IfSome (kept_front replay keeper.told) (λ s. Stands (stood_after s outs) now)
+  -- if no append failed since the last change that was kept, a crash now leaves just what is held
+  pub only : (s : Stood) → kept_behind replay outs keeper.told ≡ Some s → s.lost ≡ [] → IsOnly keeper.told_now now.leaves
   pub faults : RoseBy failed keeper.faults keeper.faults_now
 
--- Where bytes are bytes, the next opening reads what was kept of what stood and then these changes, as what they come to. It reads so what
--- the keeper holds, unless all of an entry stands at its end whose append failed.
-abbrev pub OpensAgain : Replay → List Change → (keeper : Side) → Type 0
-OpensAgain replay changes keeper =
-    let configs = replayed replay.configs changes in
-    IfSome keeper.told AreBytes
-    → IfSome (and_changes (kept_front replay keeper.told) changes)
-    (λ kept. IsJournalOf kept configs × IfSome keeper.told_now (IsLeftReadable kept configs))
+-- what the keeper holds, and what a crash now leaves, is read as these configurations, or with one change more whose append failed since the
+-- last that was kept
+pub record IsReadAs (configs : List Config) (s : Stood) (told : Option (List ℕ)) (now : Crashes) : Type 0 where
+  pub held : IfSome told (IsLeftReadable s configs)
+  pub left : (x : List ℕ) → now.leaves x → IsLeftReadable s configs x
+
+-- Where bytes are bytes, the next opening reads what was kept of what stood and then these changes, as what they come to; and so it reads
+-- what the keeper holds, or what a crash leaves of it.
+pub record OpensAgain (replay : Replay) (changes : List Change) (outs : List Outcome) (keeper : Side) (now : Crashes) : Type 0 where
+  pub kept : IfSome (and_changes (kept_front replay keeper.told) changes) (λ s. IsJournalOf s (replayed replay.configs changes))
+  pub read : IfSome (kept_behind replay outs keeper.told) (λ s. IsReadAs (replayed replay.configs changes) s keeper.told_now now)
+
+abbrev pub IsOpenedAgain : Replay → Limits → Flat → List Entry → (keeper : Side) → Crashes → Type 0
+IsOpenedAgain replay l f history keeper now =
+    IfSome keeper.told AreBytes → OpensAgain replay (kept_changes l f history) (outcomes l f history) keeper now
 
 -- ## The connection
 
 -- One history from a moment of the clock on, over what stood under the path: what was added to the output is its answer to what was read of
 -- the input, and its kept changes stand in the journal after what stood.
-pub record HasServed (tells : ℕ → Type 0) (path : Bool) (principal : Principal) (how : Served) (s : Sides) : Type 0 where
+pub record HasServed (tells : ℕ → Type 0) (path : Bool) (principal : Principal) (how : Served) (s : Sides) (now : Crashes) : Type 0 where
   pub replay : Replay
   pub stood : IsOpenable path s.keeper.told replay
   pub opened : ℕ
@@ -62,30 +82,30 @@ pub record HasServed (tells : ℕ → Type 0) (path : Bool) (principal : Princip
   pub history : List Entry
   pub piped : IsPiped tells principal program_limits (program_opening [] replay.configs opened) s.input.told s.input.told_now s.output.told
       s.output.told_now how history
-  pub kept : KeepsJournal replay (kept_changes program_limits (program_opening [] replay.configs opened) history)
-      (failures_in history) s.keeper
-  pub again : AllFit history → OpensAgain replay (kept_changes program_limits (program_opening [] replay.configs opened) history) s.keeper
+  pub kept : KeepsJournal replay (outcomes program_limits (program_opening [] replay.configs opened) history) (failures_in history)
+      s.keeper now
+  pub again : IsOpenedAgain replay program_limits (program_opening [] replay.configs opened) history s.keeper now
 
 -- there was no memory for a book and its caller: nothing is read or written, and no change is kept
-pub record HasNotJoined (path : Bool) (how : Served) (s : Sides) : Type 0 where
+pub record HasNotJoined (path : Bool) (how : Served) (s : Sides) (now : Crashes) : Type 0 where
   pub replay : Replay
   pub stood : IsOpenable path s.keeper.told replay
   pub how_is : how ≡ served.OutOfMemory
   pub unread : s.input.told_now ≡ s.input.told
   pub unwritten : s.output.told_now ≡ s.output.told
-  pub kept : KeepsJournal replay [] 0 s.keeper
+  pub kept : KeepsJournal replay [] 0 s.keeper now
 
-abbrev pub HasCome : (tells : ℕ → Type 0) → (path : Bool) → Principal → Served → Sides → Type 0
-HasCome tells path principal how s = HasServed tells path principal how s ⊎ HasNotJoined path how s
+abbrev pub HasCome : (tells : ℕ → Type 0) → (path : Bool) → Principal → Served → Sides → Crashes → Type 0
+HasCome tells path principal how s now = HasServed tells path principal how s now ⊎ HasNotJoined path how s now
 
-pub record HasConnected (tells : ℕ → Type 0) (path : Bool) (principal : Principal) (s : Sides) (status : ℕ) : Type 0 where
+pub record HasConnected (tells : ℕ → Type 0) (path : Bool) (principal : Principal) (s : Sides) (now : Crashes) (status : ℕ) : Type 0 where
   pub how : Served
   pub status_is : status ≡ status_of how
-  pub come : HasCome tells path principal how s
+  pub come : HasCome tells path principal how s now
   pub cause : IsServedFor how s.input.faults s.input.faults_now s.output.faults s.output.faults_now
 
-abbrev pub HasPiped : (tells : ℕ → Type 0) → (path : Bool) → Principal → Sides → (status : ℕ) → Type 0
-HasPiped tells path principal s status = HasConnected tells path principal s status ⊎ HasNotOpened path s status
+abbrev pub HasPiped : (tells : ℕ → Type 0) → (path : Bool) → Principal → Sides → Crashes → (status : ℕ) → Type 0
+HasPiped tells path principal s now status = HasConnected tells path principal s now status ⊎ HasNotOpened path s status
 
 -- ## Completeness
 

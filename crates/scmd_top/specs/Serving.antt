@@ -4,18 +4,18 @@ use Rattle.std.specs.Io.KnownBytes.{Appends}
 use Rattle.outside.specs.Causes.{Rose}
 use Rattle.outside.specs.Written.{AppendsFront}
 use Rattle.scm_model.specs.Entries.{Entry}
-use Rattle.scm_core.specs.Managed.{AreSmall}
 use Rattle.scm_rules.specs.Histories.{Legal}
 use Rattle.scm_rules.specs.Opening.{CanOpen}
-use Rattle.scm_history.specs.Kept.{kept_changes}
+use Rattle.scm_history.specs.Outcomes.{outcomes}
+use Rattle.record_journal.specs.Crashes.{Crashes}
 use Rattle.record_journal.specs.declared.replaying.Replay.{Replay}
 use Rattle.scm_model.specs.declared.flat.Config.{Config}
 use Rattle.book_rule.specs.declared.view.Opening.{Opening}
 use Rattle.opening_lines.specs.declared.opening.Opening.{Opening as Beginning}
-use Rattle.trail_text.specs.Histories.{TellsLegal, first_of, told}
+use Rattle.trail_text.specs.Histories.{AreAuditable, TellsLegal, first_of, told}
 use Rattle.scm_book.specs.Holds.{failures_in}
-use Rattle.scm_kept.specs.Fitting.{AllFit}
 use Rattle.scm_listener.specs.declared.listener.Listening.{Listening}
+use Rattle.scm_trail.specs.Trailed.{Trailed}
 use Rattle.scm_server.specs.All.{ServedIn}
 use Rattle.scm_server.specs.Ports.{Told}
 use Rattle.scm_serving.specs.Listening.{HandsNothing, listening_at}
@@ -23,7 +23,7 @@ use Rattle.scm_serving.specs.Serving.{EndsAs, lacked_memory}
 use Rattle.scm_serving.specs.declared.serving.BookEnd.{BookEnd}
 use Rattle.scm_serving.specs.declared.serving.BookEnd.TheVariants.{Ended, ListenFault, OutOfMemory}
 use Rattle.scmd_top.specs.Opening.{HasNotOpened, IsOpenable, beginning_if, program_opening}
-use Rattle.scmd_top.specs.Pipe.{IsOrFails, KeepsJournal, OpensAgain}
+use Rattle.scmd_top.specs.Pipe.{IsOpenedAgain, IsOrFails, KeepsJournal}
 use Rattle.scmd_top.specs.Sides.{IsUntouched, Ports, Side, Sides}
 use Rattle.scmd_top.specs.Statuses.{program_limits}
 
@@ -34,13 +34,14 @@ abbrev pub exported : Option Beginning → List Entry → List ℕ
 exported None history = []
 exported (Some begun) history = told begun history
 
--- it is legal from there, where a manager can begin
-pub record CanTell (begun : Beginning) (history : List Entry) : Type 0 where
-  pub small : AreSmall begun.limits
+-- a trail has all of it, and it is legal from there, where a manager can begin
+pub record CanTell (begun : Beginning) (history : Trailed) : Type 0 where
+  pub small : AreAuditable begun.limits
   pub can : CanOpen begun.limits begun.configs
-  pub legal : Legal begun.limits (first_of begun) history
+  pub whole : history.past ≡ 0
+  pub legal : Legal begun.limits (first_of begun) history.entries
 
-abbrev pub CanExport : Option Beginning → List Entry → Type 0
+abbrev pub CanExport : Option Beginning → Trailed → Type 0
 CanExport None history = Unit {0}
 CanExport (Some begun) history = CanTell begun history
 
@@ -50,7 +51,7 @@ TellsExport None history = Unit {0}
 TellsExport (Some begun) history = TellsLegal begun history (told begun history)
 
 abbrev pub CanEnd : Option Beginning → BookEnd → Type 0
-CanEnd begun (Ended text trail) = CanExport begun trail.entries
+CanEnd begun (Ended text trail) = CanExport begun trail
 CanEnd begun end = Unit {0}
 
 -- the whole text, or a front of it where the output failed, or where there was no memory for a history that is exported
@@ -76,8 +77,8 @@ pub record IsProgramOpening (groups : List (List ℕ)) (configs : List Config) (
 
 -- One history from a moment of the clock on, over what stood under the path: the connections of both listeners stand in it, its kept
 -- changes stand in the journal after what stood, and it is what is exported and summed up.
-pub record HasHistory (tells : ℕ → Type 0) (path : Bool) (groups : List (List ℕ)) (export : Bool) (keeper : Side) (a a' u u' : Told)
-    (begun : Option Beginning) (end : BookEnd) : Type 0 where
+pub record HasHistory (tells : ℕ → Type 0) (path : Bool) (groups : List (List ℕ)) (export : Bool) (keeper : Side) (now : Crashes)
+    (a a' u u' : Told) (begun : Option Beginning) (end : BookEnd) : Type 0 where
   pub replay : Replay
   pub stood : IsOpenable path keeper.told replay
   pub opened : ℕ
@@ -87,53 +88,53 @@ pub record HasHistory (tells : ℕ → Type 0) (path : Bool) (groups : List (Lis
   pub begins : begun ≡ beginning_if export groups replay.configs opened
   pub history : List Entry
   pub legal : Legal program_limits (program_opening groups replay.configs opened) history
-  pub kept : KeepsJournal replay (kept_changes program_limits (program_opening groups replay.configs opened) history)
-      (failures_in history) keeper
-  pub again : AllFit history → OpensAgain replay (kept_changes program_limits (program_opening groups replay.configs opened) history) keeper
+  pub kept : KeepsJournal replay (outcomes program_limits (program_opening groups replay.configs opened) history) (failures_in history)
+      keeper now
+  pub again : IsOpenedAgain replay program_limits (program_opening groups replay.configs opened) history keeper now
   pub served : ServedIn tells opening history a a' u u' (lacked_memory end)
   pub ends : EndsAs opening history a a' u u' end
 
 -- there was no memory for a book: nothing was handed out, and no change is kept
-pub record HasNoBook (path : Bool) (keeper : Side) (a a' u u' : Told) (end : BookEnd) : Type 0 where
+pub record HasNoBook (path : Bool) (keeper : Side) (now : Crashes) (a a' u u' : Told) (end : BookEnd) : Type 0 where
   pub replay : Replay
   pub stood : IsOpenable path keeper.told replay
   pub lacks : end ≡ OutOfMemory
   pub admin : a' ≡ a
   pub user : u' ≡ u
-  pub kept : KeepsJournal replay [] 0 keeper
+  pub kept : KeepsJournal replay [] 0 keeper now
 
 abbrev pub HasServedOver : (tells : ℕ → Type 0) → (path : Bool) → (groups : List (List ℕ)) → (export : Bool) → (keeper : Side)
-    → (a a' u u' : Told) → Option Beginning → BookEnd → Type 0
-HasServedOver tells path groups export keeper a a' u u' begun end = HasHistory tells path groups export keeper a a' u u' begun end
-    ⊎ HasNoBook path keeper a a' u u' end
+    → Crashes → (a a' u u' : Told) → Option Beginning → BookEnd → Type 0
+HasServedOver tells path groups export keeper now a a' u u' begun end = HasHistory tells path groups export keeper now a a' u u' begun end
+    ⊎ HasNoBook path keeper now a a' u u' end
 
 -- ## The program
 
 -- both listened, each once and where it was to, and were served
 pub record HasListened (tells : ℕ → Type 0) (path : Bool) (groups : List (List ℕ)) (export : Bool) (admin user : Listening) (s : Sides)
-    (p : Ports) (status : ℕ) : Type 0 where
+    (now : Crashes) (p : Ports) (status : ℕ) : Type 0 where
   pub begun : Option Beginning
   pub end : BookEnd
-  pub served : HasServedOver tells path groups export s.keeper (listening_at p.admin admin) p.admin_now (listening_at p.user user)
-      p.user_now begun end
+  pub served : HasServedOver tells path groups export s.keeper now (listening_at p.admin admin) p.admin_now
+      (listening_at p.user user) p.user_now begun end
   pub written : HasSummary begun end s.output status
 
 -- one failed to listen: nothing was handed out, no change is kept, and nothing is written
-pub record HasNotListened (path : Bool) (s : Sides) (p : Ports) (status : ℕ) : Type 0 where
+pub record HasNotListened (path : Bool) (s : Sides) (now : Crashes) (p : Ports) (status : ℕ) : Type 0 where
   pub status_is : status ≡ 10
   pub admin : HandsNothing p.admin p.admin_now
   pub user : HandsNothing p.user p.user_now
   pub replay : Replay
   pub stood : IsOpenable path s.keeper.told replay
   pub cause : Rose p.admin.faults p.admin_now.faults ⊎ Rose p.user.faults p.user_now.faults
-  pub kept : KeepsJournal replay [] 0 s.keeper
+  pub kept : KeepsJournal replay [] 0 s.keeper now
   pub output : IsUntouched s.output
 
 abbrev pub HasServed : (tells : ℕ → Type 0) → (path : Bool) → (groups : List (List ℕ)) → (export : Bool) → (admin user : Listening)
-    → Sides → Ports → (status : ℕ) → Type 0
-HasServed tells path groups export admin user s p status =
-    HasListened tells path groups export admin user s p status
-    ⊎ HasNotListened path s p status
+    → Sides → Crashes → Ports → (status : ℕ) → Type 0
+HasServed tells path groups export admin user s now p status =
+    HasListened tells path groups export admin user s now p status
+    ⊎ HasNotListened path s now p status
     ⊎ (HasNotOpened path s status × (p.admin_now ≡ p.admin) × (p.user_now ≡ p.user))
 
 -- where neither the output's count nor a listener's rose the status is 0, unless memory ran out, or the journal was not opened

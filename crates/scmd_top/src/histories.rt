@@ -20,7 +20,7 @@ fn export_from<O: Sink>(
     history: &Trail,
     output: &mut O,
 ) -> Result<(), ExportFault>
-    requires legal { CanExport opening.now history.now.entries }
+    requires legal { CanExport opening.now history.now }
     ensures written { Writes (O.held output.old) (O.held output.new) result
         (exported opening.now history.now.entries) }
     ensures tells { OnOk result (TellsExport opening.now history.now.entries) }
@@ -43,7 +43,7 @@ fn put_history<O: Sink>(
     summary: &[u8],
     output: &mut O,
 ) -> u8
-    requires legal { CanExport opening.now history.now.entries }
+    requires legal { CanExport opening.now history.now }
     ensures put { IsPut (exported opening.now history.now.entries ++ summary.now) opening.now
         (side O.held O.faults output.old output.new) result }
     ensures tells { result ≡ 0 → TellsExport opening.now history.now.entries }

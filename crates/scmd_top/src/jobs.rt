@@ -1,10 +1,13 @@
 //! The jobs of the program, and `scmd serve`.
 ghost use Rattle.std.specs.Prelude.{◌≡◌, ◌≤◌, is_some};
-ghost use Rattle.record_journal.specs.Bearing.{Bears, stood_in};
+ghost use Rattle.outside.specs.Asked.{text_of};
+ghost use Rattle.record_journal.specs.Bearing.{Bears, StandsIn, stood_in};
+ghost use Rattle.scm_book.specs.Ghosts.{ghosts_of};
 ghost use Rattle.scm_core.specs.Managed.{AreSmall};
 ghost use Rattle.scm_rules.specs.Opening.{IsOpening};
 ghost use Rattle.scm_serving.specs.Listening.{told_by};
 ghost use Rattle.scm_serving.specs.Serving.{ServesBook};
+ghost use Rattle.scmd_top.specs.Files.{OpensFile, OpensFor};
 ghost use Rattle.scmd_top.specs.Groups.{groups_in};
 ghost use Rattle.scmd_top.specs.Jobs.{HasAllDone, HasRun, LeavesKeeper, LeavesOthers};
 ghost use Rattle.scmd_top.specs.Jobs.{SettlesKeeper};
@@ -63,12 +66,15 @@ where
         requires text { manager.text ≡ 0 }
         requires journal { Bears (stood_in journal.form (K.held self.keeper)) journal
             (K.held self.keeper) }
+        requires stands { StandsIn (stood_in journal.form (K.held self.keeper))
+            (K.crashes self.keeper) }
         requires settled { K.settled self.keeper }
         ensures input { result.1.input ≡ self.input }
         ensures output { result.1.output ≡ self.output }
         ensures clock { result.1.clock ≡ self.clock }
-        ensures serves { ServesBook K.held K.faults K.settled (C.tells self.clock)
-            manager.limits manager.flat journal
+        ensures serves { ServesBook
+            (ghosts_of K.held K.faults K.settled K.crashes K.are_crashes K.asked)
+            (C.tells self.clock) manager.limits manager.flat journal
             (told_by N.left N.accepted N.noted N.listened N.faults self.admin)
             (told_by N.left N.accepted N.noted N.listened N.faults result.1.admin)
             (told_by N.left N.accepted N.noted N.listened N.faults self.user)
@@ -120,7 +126,11 @@ where
         ensures run { HasServed (C.tells self.clock)
             (is_some path.entry) (groups_in (lent names.entry)) export admin_at user_at
             (sides_of I.left I.faults O.held O.faults K.held K.faults self result.1)
+            (K.crashes result.1.keeper)
             (ports_of N.left N.accepted N.noted N.listened N.faults self result.1) result.0 }
+        // Which file the keeper opened.
+        ensures file { OpensFile (text_of path.entry)
+            (K.asked self.keeper) (K.asked result.1.keeper) result.0 }
         // A crash after it leaves what was kept, unless the keeper failed.
         ensures settled { LeavesSettled (K.settled self.keeper)
             (K.faults self.keeper) (K.faults result.1.keeper) result.0 (K.settled result.1.keeper) }
@@ -167,7 +177,10 @@ where
         ensures run { HasRun (C.tells self.clock)
             (is_some path.entry) (groups_in (lent names.entry)) job
             (sides_of I.left I.faults O.held O.faults K.held K.faults self result.1)
+            (K.crashes result.1.keeper)
             (ports_of N.left N.accepted N.noted N.listened N.faults self result.1) result.0 }
+        ensures file { OpensFor (text_of path.entry) job
+            (K.asked self.keeper) (K.asked result.1.keeper) result.0 }
         ensures clock { result.1.clock ≡ self.clock }
         ensures input { I.faults self.input ≤ I.faults result.1.input }
         ensures output { O.faults self.output ≤ O.faults result.1.output }

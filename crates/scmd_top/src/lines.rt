@@ -1,6 +1,8 @@
 //! `scmd replay`, which may not wait: it returns.
-ghost use Rattle.std.specs.Prelude.{◌≡◌, ◌≤◌, [], true, is_some};
+ghost use Rattle.std.specs.Prelude.{◌≡◌, ◌≤◌, [], Some, true, is_some};
+ghost use Rattle.outside.specs.Asked.{text_of};
 ghost use Rattle.scm_replay.specs.Replay.{IsReplayCaused};
+ghost use Rattle.scmd_top.specs.Files.{OpensFile, OpensFor};
 ghost use Rattle.scmd_top.specs.Jobs.{HasAllReplayed, HasReplayed, LeavesKeeper, LeavesReplayed};
 ghost use Rattle.scmd_top.specs.Jobs.{SettlesKeeper, status_of_replay};
 ghost use Rattle.scmd_top.specs.Opening.{LeavesSettled};
@@ -67,6 +69,7 @@ fn answer_over<I: Source, O: Sink, K: Keeper>(
     }) result }
     ensures settled { LeavesSettled (K.settled keeper.old)
         (K.faults keeper.old) (K.faults keeper.new) result (K.settled keeper.new) }
+    ensures file { OpensFile (Some path.now) (K.asked keeper.old) (K.asked keeper.new) result }
     ensures complete { HasAllReplayed true (record {
       input = side I.left I.faults input.old input.new;
       output = side O.held O.faults output.old output.new;
@@ -101,6 +104,8 @@ fn answer<I: Source, O: Sink, K: Keeper>(
     ensures keeper { LeavesKeeper (is_some path.entry) jobs.Replay keeper.old keeper.new }
     ensures settled { SettlesKeeper (is_some path.entry) jobs.Replay (K.settled keeper.old)
         (K.faults keeper.old) (K.faults keeper.new) result (K.settled keeper.new) }
+    ensures file { OpensFor (text_of path.entry) jobs.Replay
+        (K.asked keeper.old) (K.asked keeper.new) result }
     ensures input { I.faults input.old ≤ I.faults input.new }
     ensures output { O.faults output.old ≤ O.faults output.new }
     ensures run { HasReplayed (is_some path.entry) (record {
@@ -130,6 +135,8 @@ pub fn replay_main<I: Source, O: Sink, K: Keeper, N: Listener, P: Spawner, C: Cl
     ensures keeper { LeavesKeeper (is_some path.entry) jobs.Replay world.keeper result.1.keeper }
     ensures settled { SettlesKeeper (is_some path.entry) jobs.Replay (K.settled world.keeper)
         (K.faults world.keeper) (K.faults result.1.keeper) result.0 (K.settled result.1.keeper) }
+    ensures file { OpensFor (text_of path.entry) jobs.Replay
+        (K.asked world.keeper) (K.asked result.1.keeper) result.0 }
     ensures clock { result.1.clock ≡ world.clock }
     ensures ports { LeavesPorts world result.1 }
     ensures input { I.faults world.input ≤ I.faults result.1.input }

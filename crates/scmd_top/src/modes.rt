@@ -1,6 +1,8 @@
 //! The modes of the program: a job over the keeper or over the store, a compaction, or a move.
-ghost use Rattle.std.specs.Prelude.{◌≡◌, ◌≢◌, ◌≤◌, ◌↔◌, IfSome, IsNone, is_some, true};
+ghost use Rattle.std.specs.Prelude.{◌≡◌, ◌≢◌, ◌≤◌, ◌↔◌, IfSome, IsNone, Some, is_some, true};
 ghost use Rattle.journal_store.specs.Compacting.{IsOnly};
+ghost use Rattle.outside.specs.Asked.{text_of};
+ghost use Rattle.scmd_top.specs.Files.{OpensFiles, OpensFor};
 ghost use Rattle.scmd_top.specs.Groups.{groups_in};
 ghost use Rattle.scmd_top.specs.Jobs.{HasAllDone, HasRun, LeavesKeeper, LeavesOthers};
 ghost use Rattle.scmd_top.specs.Jobs.{SettlesKeeper};
@@ -53,9 +55,11 @@ where
         ensures run { HasRun (C.tells self.clock)
             (is_some path.entry) (groups_in (lent names.entry)) job
             (sides_of I.left I.faults O.held O.faults K.held K.faults
-            (keeper_world self) (keeper_world result.1))
+            (keeper_world self) (keeper_world result.1)) (K.crashes result.1.keeper)
             (ports_of N.left N.accepted N.noted N.listened N.faults
             (keeper_world self) (keeper_world result.1)) result.0 }
+        ensures file { OpensFor (text_of path.entry) job
+            (K.asked self.keeper) (K.asked result.1.keeper) result.0 }
         ensures clock { result.1.clock ≡ self.clock }
         ensures input { I.faults self.input ≤ I.faults result.1.input }
         ensures output { O.faults self.output ≤ O.faults result.1.output }
@@ -106,9 +110,11 @@ where
         ensures ran { result.0 ≢ 5 }
         ensures run { HasRun (C.tells self.clock) true (groups_in (lent names.entry)) job
             (sides_of I.left I.faults O.held O.faults Q.held Q.faults
-            (store_world self) (store_world result.1))
+            (store_world self) (store_world result.1)) (Q.crashes result.1.store)
             (ports_of N.left N.accepted N.noted N.listened N.faults
             (store_world self) (store_world result.1)) result.0 }
+        ensures file { OpensFor (Some path.now) job
+            (Q.asked self.store) (Q.asked result.1.store) result.0 }
         ensures clock { result.1.clock ≡ self.clock }
         ensures input { I.faults self.input ≤ I.faults result.1.input }
         ensures output { O.faults self.output ≤ O.faults result.1.output }
@@ -167,8 +173,8 @@ where
         ensures run { IfSome (mode_by task (is_some path.entry) (is_some store.entry)) (λ mode.
             HasRunAs (C.tells self.clock) (is_some path.entry) (groups_in (lent names.entry)) mode
             (sides_of I.left I.faults O.held O.faults K.held K.faults
-            (keeper_world self) (keeper_world result.1))
-            (side Q.held Q.faults self.store result.1.store)
+            (keeper_world self) (keeper_world result.1)) (K.crashes result.1.keeper)
+            (side Q.held Q.faults self.store result.1.store) (Q.crashes result.1.store)
             (ports_of N.left N.accepted N.noted N.listened N.faults
             (keeper_world self) (keeper_world result.1)) result.0) }
         ensures leaves { IfSome (mode_by task (is_some path.entry) (is_some store.entry)) (λ mode.
@@ -180,8 +186,12 @@ where
         ensures store { IfSome (mode_by task (is_some path.entry) (is_some store.entry)) (λ mode.
             SettlesStoreAs mode (Q.settled self.store)
             (Q.faults self.store) (Q.faults result.1.store) result.0
-            (IsOnly (Q.held result.1.store) (Q.leaves result.1.store))
+            (IsOnly (Q.held result.1.store) (Q.crashes result.1.store).leaves)
             (Q.settled result.1.store)) }
+        ensures files { IfSome (mode_by task (is_some path.entry) (is_some store.entry)) (λ mode.
+            OpensFiles mode (text_of path.entry) (text_of store.entry)
+            (K.asked self.keeper) (K.asked result.1.keeper)
+            (Q.asked self.store) (Q.asked result.1.store) result.0) }
         ensures complete { IfSome (mode_by task (is_some path.entry) (is_some store.entry))
             (λ mode. HasAllDoneAs (is_some path.entry) mode
             (sides_of I.left I.faults O.held O.faults K.held K.faults

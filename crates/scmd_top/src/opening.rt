@@ -1,4 +1,7 @@
-ghost use Rattle.std.specs.Prelude.{◌≡◌, [], false, true, IfOk, IfSome, is_some};
+ghost use Rattle.std.specs.Prelude.{◌≡◌, [], false, true, IfOk, IfSome, None, Some, is_some};
+ghost use Rattle.outside.specs.Asked.{text_of};
+ghost use Rattle.record_journal.specs.Bearing.{StandsIn, stood_in};
+ghost use Rattle.scmd_top.specs.Files.{AsksFor};
 ghost use Rattle.scmd_top.specs.Groups.{groups_in};
 ghost use Rattle.scmd_top.specs.Opening.{BeginsAt, IsNew, OpensJournal, OpensSettled};
 ghost use Rattle.scmd_top.specs.Opening.{beginning_of, status_of_fault};
@@ -55,6 +58,10 @@ fn open_empty<K: Keeper>(
     ensures copied { IfOk result (λ opened. is_some opened.configs ≡ copies) }
     ensures settled { OpensSettled (K.settled keeper.old)
         (K.faults keeper.old) (K.faults keeper.new) result (K.settled keeper.new) }
+    // A crash after it leaves what is held.
+    ensures stands { IfOk result (λ opened. StandsIn
+        (stood_in opened.journal.form (K.held keeper.new)) (K.crashes keeper.new)) }
+    ensures asked { AsksFor None (K.asked keeper.old) (K.asked keeper.new) result }
 {
     let Ok(()) = keeper.open_at(None) else {
         return Err(JournalFault::Failed);
@@ -83,6 +90,10 @@ pub fn open_stored<K: Keeper>(
     ensures copied { IfOk result (λ opened. is_some opened.configs ≡ copies) }
     ensures settled { OpensSettled (K.settled keeper.old)
         (K.faults keeper.old) (K.faults keeper.new) result (K.settled keeper.new) }
+    // A crash after it leaves what is held.
+    ensures stands { IfOk result (λ opened. StandsIn
+        (stood_in opened.journal.form (K.held keeper.new)) (K.crashes keeper.new)) }
+    ensures asked { AsksFor (Some path.now) (K.asked keeper.old) (K.asked keeper.new) result }
 {
     let Ok(groups) = groups_in(alloc, names) else {
         return Err(JournalFault::OutOfMemory);
@@ -105,6 +116,10 @@ pub fn open_at<K: Keeper>(
     ensures copied { IfOk result (λ opened. is_some opened.configs ≡ copies) }
     ensures settled { OpensSettled (K.settled keeper.old)
         (K.faults keeper.old) (K.faults keeper.new) result (K.settled keeper.new) }
+    // A crash after it leaves what is held.
+    ensures stands { IfOk result (λ opened. StandsIn
+        (stood_in opened.journal.form (K.held keeper.new)) (K.crashes keeper.new)) }
+    ensures asked { AsksFor (text_of path.entry) (K.asked keeper.old) (K.asked keeper.new) result }
 {
     match path {
         Some(path) => open_stored(alloc, keeper, path, names, moment, copies),
@@ -161,6 +176,10 @@ pub fn begin_at<K: Keeper>(
         (side K.held K.faults keeper.old keeper.new) moment result }
     ensures settled { OpensSettled (K.settled keeper.old)
         (K.faults keeper.old) (K.faults keeper.new) result (K.settled keeper.new) }
+    // A crash after it leaves what is held.
+    ensures stands { IfOk result (λ begun. StandsIn
+        (stood_in begun.journal.form (K.held keeper.new)) (K.crashes keeper.new)) }
+    ensures asked { AsksFor (text_of path.entry) (K.asked keeper.old) (K.asked keeper.new) result }
 {
     match open_at(alloc, keeper, path, names, moment, export) {
         Ok(

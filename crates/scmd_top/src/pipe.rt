@@ -1,5 +1,7 @@
 //! `scmd pipe`.
 ghost use Rattle.std.specs.Prelude.{◌≡◌, ◌≤◌, is_some};
+ghost use Rattle.outside.specs.Asked.{text_of};
+ghost use Rattle.scmd_top.specs.Files.{OpensFile};
 ghost use Rattle.scmd_top.specs.Opening.{LeavesSettled};
 ghost use Rattle.scmd_top.specs.Pipe.{HasPiped, IsComplete, status_of};
 ghost use Rattle.scmd_top.specs.Sides.{LeavesPorts, sides_of};
@@ -47,7 +49,11 @@ pub fn pipe_main<R: Wait, I: Source, O: Sink, K: Keeper, N: Listener, P: Spawner
     ensures output { O.faults world.output ≤ O.faults result.1.output }
     // What was read, answered, written and kept, and why the run ended.
     ensures run { HasPiped (C.tells world.clock) (is_some path.entry) principal
-        (sides_of I.left I.faults O.held O.faults K.held K.faults world result.1) result.0 }
+        (sides_of I.left I.faults O.held O.faults K.held K.faults world result.1)
+        (K.crashes result.1.keeper) result.0 }
+    // Which file the keeper opened.
+    ensures file { OpensFile (text_of path.entry)
+        (K.asked world.keeper) (K.asked result.1.keeper) result.0 }
     // A crash after it leaves what was kept, unless the keeper failed.
     ensures settled { LeavesSettled (K.settled world.keeper)
         (K.faults world.keeper) (K.faults result.1.keeper) result.0 (K.settled result.1.keeper) }

@@ -1,7 +1,11 @@
 //! `scmd compact` and `scmd move`.
-ghost use Rattle.std.specs.Prelude.{◌≡◌, ◌≢◌};
+ghost use Rattle.std.specs.Prelude.{◌≡◌, ◌≢◌, ◌⊎◌, Some};
 ghost use Rattle.journal_store.specs.Compacting.{IsOnly};
+ghost use Rattle.record_journal.specs.Crashes.{Crashing, Same};
 ghost use Rattle.record_journal.specs.Keepers.{SettledSince};
+ghost use Rattle.record_journal.specs.Opening.{IsOpened};
+ghost use Rattle.scm_compacted.specs.Compacted.{IsCompactOf};
+ghost use Rattle.scmd_top.specs.Files.{OpensFile, OpensLast};
 ghost use Rattle.scmd_top.specs.Sides.{side};
 ghost use Rattle.scmd_top.specs.Stores.{HasBeenCompacted, HasBeenMoved, status_of_compact};
 ghost use Rattle.scmd_top.specs.Stores.{status_of_move};
@@ -39,9 +43,13 @@ fn status_of_move(how: Result<(), MoveFault>) -> u8
 pub fn compact_store<Q: Compactor>(alloc: Global, store: &mut Q, path: &str) -> u8
     ensures ran { result ≢ 5 }
     ensures compacted { HasBeenCompacted (side Q.held Q.faults store.old store.new) result }
-    ensures only { result ≡ 0 → IsOnly (Q.held store.new) (Q.leaves store.new) }
+    ensures only { result ≡ 0 → IsOnly (Q.held store.new) (Q.crashes store.new).leaves }
     ensures settled { result ≢ 0 →
         SettledSince (Q.faults store.old) (Q.faults store.new) (Q.settled store.new) }
+    // A crash on the way leaves what was there, what is read as it, or its compact text.
+    ensures moments { Crashing (λ x y. IsOpened x y ⊎ IsCompactOf (Some x) y)
+        (Q.held store.old) (Q.crashes store.old) (Q.crashes store.new) }
+    ensures file { OpensFile (Some path.now) (Q.asked store.old) (Q.asked store.new) result }
 {
     status_of_compact(compact(alloc, store, path))
 }
@@ -59,9 +67,17 @@ pub fn move_to_store<K: Keeper, Q: Compactor>(
         (side Q.held Q.faults store.old store.new) result }
     ensures keeper_settled { SettledSince (K.faults keeper.old) (K.faults keeper.new)
         (K.settled keeper.new) }
-    ensures only { result ≡ 0 → IsOnly (Q.held store.new) (Q.leaves store.new) }
+    ensures only { result ≡ 0 → IsOnly (Q.held store.new) (Q.crashes store.new).leaves }
     ensures settled { result ≢ 0 → Q.settled store.old →
         SettledSince (Q.faults store.old) (Q.faults store.new) (Q.settled store.new) }
+    // A crash on the way leaves the journal, or what is read as it; and of the store what was
+    // there, or the compact text of the journal.
+    ensures keeper_moments { Crashing IsOpened
+        (K.held keeper.old) (K.crashes keeper.old) (K.crashes keeper.new) }
+    ensures moments { Crashing (λ x y. Same x y ⊎ IsCompactOf (K.held keeper.old) y)
+        (Q.held store.old) (Q.crashes store.old) (Q.crashes store.new) }
+    ensures file { OpensFile (Some from.now) (K.asked keeper.old) (K.asked keeper.new) result }
+    ensures store_file { OpensLast (Some to.now) (Q.asked store.old) (Q.asked store.new) result }
 {
     status_of_move(move_journal(alloc, keeper, from, store, to))
 }

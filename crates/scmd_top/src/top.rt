@@ -1,9 +1,6 @@
-ghost use Rattle.std.specs.Prelude.{◌≡◌, ◌≤◌, ◌↔◌, IfOk, IfSome, IsErrOf, IsNone};
-ghost use Rattle.journal_store.specs.Compacting.{IsOnly};
-ghost use Rattle.scmd_top.specs.Modes.{HasAllDoneAs, HasEnded, HasRunAs, LeavesWorld};
-ghost use Rattle.scmd_top.specs.Modes.{SettlesAsWords, SettlesStore, groups_listed, keeper_world};
-ghost use Rattle.scmd_top.specs.Sides.{ports_of, side, sides_of};
-ghost use Rattle.scmd_top.specs.Words.{mode_of, names_file};
+ghost use Rattle.std.specs.Prelude.{◌≡◌, IfOk, IsErrOf};
+ghost use Rattle.scm_book.specs.Ghosts.{ghosts_of};
+ghost use Rattle.scmd_top.specs.Modes.{HasDone};
 
 use crate::words::{NoWords, list_of, path_of, store_of, task_of};
 use crate::world::World;
@@ -46,41 +43,11 @@ where
     F: Feed + Send + Drop,
     P: Spawner<Link = L, Feed = F> + Send + Drop,
     C: Clock + Sync,
-    // 5 exactly if the words aren't in the set; then nothing is read, written or kept.
-    ensures words { result.0 ≡ 5 ↔ IsNone (mode_of words.now) }
-    ensures untouched { result.0 ≡ 5 → result.1 ≡ world }
-    ensures clock { result.1.clock ≡ world.clock }
-    // Only a pipe, a server and a replay over a file touch the keeper or the store that keeps their
-    // journal, only a server the listeners and the spawner, and a compaction and a move nothing but
-    // the store and the keeper.
-    ensures leaves { IfSome (mode_of words.now) (λ mode.
-        LeavesWorld (names_file words.now) mode world result.1) }
-    // A crash after a run that opened the keeper leaves what it kept, unless the keeper failed.
-    ensures settled { SettlesAsWords words.now (K.settled world.keeper)
-        (K.faults world.keeper) (K.faults result.1.keeper) result.0 (K.settled result.1.keeper) }
-    // So does one after a run that opened the store.
-    ensures store { SettlesStore words.now (Q.settled world.store)
-        (Q.faults world.store) (Q.faults result.1.store) result.0
-        (IsOnly (Q.held result.1.store) (Q.leaves result.1.store)) (Q.settled result.1.store) }
-    // Counts of faults never fall.
-    ensures input { I.faults world.input ≤ I.faults result.1.input }
-    ensures output { O.faults world.output ≤ O.faults result.1.output }
-    // What was read, answered, written and kept, and why the run ended.
-    ensures run { IfSome (mode_of words.now) (λ mode. HasRunAs (C.tells world.clock)
-        (names_file words.now) (groups_listed words.now) mode
-        (sides_of I.left I.faults O.held O.faults K.held K.faults
-        (keeper_world world) (keeper_world result.1))
-        (side Q.held Q.faults world.store result.1.store)
-        (ports_of N.left N.accepted N.noted N.listened N.faults
-        (keeper_world world) (keeper_world result.1)) result.0) }
-    // Nothing else ends a run without faults.
-    ensures complete { IfSome (mode_of words.now) (λ mode.
-        HasAllDoneAs (names_file words.now) mode
-        (sides_of I.left I.faults O.held O.faults K.held K.faults
-        (keeper_world world) (keeper_world result.1))
-        (side Q.held Q.faults world.store result.1.store)
-        (ports_of N.left N.accepted N.noted N.listened N.faults
-        (keeper_world world) (keeper_world result.1)) result.0) }
+    ensures done { HasDone I.left I.faults O.held O.faults
+        (ghosts_of K.held K.faults K.settled K.crashes K.are_crashes K.asked)
+        (ghosts_of Q.held Q.faults Q.settled Q.crashes Q.are_crashes Q.asked)
+        N.left N.accepted N.noted N.listened N.faults C.tells
+        words.now world result.1 result.0 }
 {
     match task_of(words) {
         Some(task) => world.run_task(
@@ -119,17 +86,11 @@ where
     C: Clock + Sync,
     ensures lacks { IsErrOf words NoWords.OutOfMemory → result ≡ (8, world) }
     ensures not_text { IsErrOf words NoWords.NotText → result ≡ (5, world) }
-    ensures ended { IfOk words (λ w. HasEnded (C.tells world.clock) w
-        (sides_of I.left I.faults O.held O.faults K.held K.faults
-        (keeper_world world) (keeper_world result.1))
-        (side Q.held Q.faults world.store result.1.store)
-        (ports_of N.left N.accepted N.noted N.listened N.faults
-        (keeper_world world) (keeper_world result.1)) result.0) }
-    ensures settled { IfOk words (λ w. SettlesAsWords w (K.settled world.keeper)
-        (K.faults world.keeper) (K.faults result.1.keeper) result.0 (K.settled result.1.keeper)) }
-    ensures store { IfOk words (λ w. SettlesStore w (Q.settled world.store)
-        (Q.faults world.store) (Q.faults result.1.store) result.0
-        (IsOnly (Q.held result.1.store) (Q.leaves result.1.store)) (Q.settled result.1.store)) }
+    ensures done { IfOk words (λ w. HasDone I.left I.faults O.held O.faults
+        (ghosts_of K.held K.faults K.settled K.crashes K.are_crashes K.asked)
+        (ghosts_of Q.held Q.faults Q.settled Q.crashes Q.are_crashes Q.asked)
+        N.left N.accepted N.noted N.listened N.faults C.tells
+        w world result.1 result.0) }
 {
     match words {
         Ok(words) => scmd_main(rt, alloc, &words, world),

@@ -1,4 +1,5 @@
-use Rattle.std.proofs.Common.{inr}
+use Rattle.std.proofs.Common.{Some, inr, refl}
+use Rattle.scmd_top.proofs.Filed.{opens_file}
 use Rattle.scm_replay.specs.Outcomes.{standing}
 use Rattle.scmd_top.specs.Sides.{side}
 use Rattle.scmd_top.proofs.Replays.{answered_over, complete_over}
@@ -30,3 +31,8 @@ returns-in-Ok-clause-run g c =
 
 pub returns-in-Ok-clause-settled : goal.returns-in-Ok-clause-settled
 returns-in-Ok-clause-settled g c = λ was. inr c.in-Ok.ensures.settled
+
+pub returns-in-Ok-clause-file : goal.returns-in-Ok-clause-file
+returns-in-Ok-clause-file g c =
+    opens_file (Some c.args.path.now) (g.K.Keeper.asked c.args.keeper.now) (g.K.Keeper.asked c.open_stored.new.keeper)
+    (g.K.Keeper.asked c.open_stored.new.keeper) c.status_of_replay.result c.in-Ok.ensures.asked refl

@@ -1,8 +1,9 @@
-use Rattle.std.proofs.Common.{ℕ, List, true, inr, refl, subst}
+use Rattle.std.proofs.Common.{ℕ, List, true, Some, inr, refl, subst}
 use Rattle.scmd_top.specs.Groups.{groups_in}
 use Rattle.scmd_top.specs.Opening.{OpensJournal}
 use Rattle.scmd_top.specs.Parts.{lent}
 use Rattle.scmd_top.specs.Sides.{side}
+use Rattle.scmd_top.proofs.Filed.{asks_so}
 use Rattle.scmd_top.proofs.Openings.{opens_settled, opens_so, untouched_so}
 use Rattle.scmd_top.proofs.opening.open_stored.Goals as goal
 
@@ -26,3 +27,8 @@ returns-clause-settled g c =
 
 pub returns-in_default-clause-settled : goal.returns-in_default-clause-settled
 returns-in_default-clause-settled g c = λ was. inr was
+
+pub returns-clause-asked : goal.returns-clause-asked
+returns-clause-asked g c =
+    asks_so (Some c.args.path.now) (g.K.Keeper.asked c.args.keeper.now) (g.K.Keeper.asked c.open_manager.new.keeper)
+    c.open_manager.result c.open_manager.ensures.asked

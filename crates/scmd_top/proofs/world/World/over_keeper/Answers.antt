@@ -6,5 +6,5 @@ use Rattle.scmd_top.proofs.world.World.over_keeper.Goals as goal
 
 pub returns-clause-ran : goal.returns-clause-ran
 returns-clause-ran g c =
-    not_5 (g.C.Clock.tells c.args.self.clock) (is_some c.args.path) (groups_in (lent c.args.names)) c.args.job _ _ _
+    not_5 (g.C.Clock.tells c.args.self.clock) (is_some c.args.path) (groups_in (lent c.args.names)) c.args.job _ _ _ _
     c.run-status.ensures.run

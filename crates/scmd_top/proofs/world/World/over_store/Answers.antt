@@ -6,4 +6,4 @@ use Rattle.scmd_top.proofs.world.World.over_store.Goals as goal
 
 pub returns-clause-ran : goal.returns-clause-ran
 returns-clause-ran g c =
-    not_5 (g.C.Clock.tells c.args.self.clock) true (groups_in (lent c.args.names)) c.args.job _ _ _ c.run-status.ensures.run
+    not_5 (g.C.Clock.tells c.args.self.clock) true (groups_in (lent c.args.names)) c.args.job _ _ _ _ c.run-status.ensures.run
