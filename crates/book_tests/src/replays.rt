@@ -172,7 +172,7 @@ fn is_told_again(
 
 /// Whether each entry is.
 fn are_told(alloc: Global, manager: &mut Manager, trail: &Trail, visits: &mut [Visit]) -> bool {
-    for place in 0..trail.len() {
+    for place in trail.past()..trail.len() {
         let Ok(entry) = trail.entry(place) else {
             return false;
         };

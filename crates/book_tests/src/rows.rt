@@ -107,9 +107,9 @@ fn four<R: Wait>(rt: &R, alloc: Global, rows: &[Row]) -> Option<Trail> {
     history_of(rt, book, pass, is_right)
 }
 
-/// A copy of the entry at a place of a history.
+/// A copy of the entry at a place of a history, if it is held.
 pub fn entry_at(trail: &Trail, place: u64) -> Option<(u64, Step)> {
-    if place < trail.len() {
+    if trail.past() <= place && place < trail.len() {
         trail.entry(place).ok()
     } else {
         None

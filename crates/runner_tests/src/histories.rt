@@ -33,7 +33,7 @@ fn letter_of(entry: (u64, Step)) -> u8 {
 
 /// Puts the letter of each entry. Whether there is memory for all.
 pub fn put_letters(trail: &Trail, letters: &mut Vec<u8>) -> bool {
-    for place in 0..trail.len() {
+    for place in trail.past()..trail.len() {
         let Ok(entry) = trail.entry(place) else {
             return false;
         };

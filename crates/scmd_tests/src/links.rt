@@ -149,7 +149,7 @@ fn digit_of(entry: (u64, Step)) -> Option<u64> {
 /// The states that the reports of a history tell, each a digit, and 9 for each end of a process.
 fn told(trail: &Trail) -> u64 {
     let mut told = 0u64;
-    for place in 0..trail.len() {
+    for place in trail.past()..trail.len() {
         let Ok(entry) = trail.entry(place) else {
             return 0;
         };

@@ -42,6 +42,8 @@ mod sc_session;
 #[cfg(test)]
 mod serving;
 #[cfg(test)]
+mod stores;
+#[cfg(test)]
 mod talks;
 
 use std::io;

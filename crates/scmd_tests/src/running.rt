@@ -88,11 +88,8 @@ pub type Memory = World<
     FixedClock,
 >;
 
-/// The status of `scmd` where it meets this, and what it leaves.
-pub fn run<R>(rt: &R, alloc: Global, outside: Outside) -> (u8, Memory)
-where
-    R: Threads + Wait + time::Clock + Sync,
-{
+/// The words of a run, and the world that it meets.
+pub fn world_of(alloc: Global, outside: Outside) -> (Vec<Text>, Memory) {
     let Outside {
         words,
         input,
@@ -115,6 +112,15 @@ where
         spawner: MemorySpawner::new(alloc, Vec::new(alloc)),
         clock: FixedClock { moment: 7 },
     };
+    (words, world)
+}
+
+/// The status of `scmd` where it meets this, and what it leaves.
+pub fn run<R>(rt: &R, alloc: Global, outside: Outside) -> (u8, Memory)
+where
+    R: Threads + Wait + time::Clock + Sync,
+{
+    let (words, world) = world_of(alloc, outside);
     let words = Items::from_vec(words);
     let ended = scmd_main(rt, alloc, &words, world);
     drop(words);
