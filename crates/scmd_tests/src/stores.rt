@@ -46,14 +46,14 @@ const NEXT: &[Next] = &[
     },
 ];
 
-/// A journal of form 1 in which A was created, which starts by itself.
+/// A journal of form 1 in which A was created, which starts on demand.
 const OLD_A: &str = "53434d4a01000000\
-    013d000000010000004100010000004100100000000200000001000000020000002f00610000000000\
+    013d000000010000004100010000004100100000000300000001000000020000002f00610000000000\
     00000000000000000000000000000000000000000000000000";
 
 /// The same in form 2.
 const NEW_A: &str = "53434d4a02000000\
-    0142000000010000004100010000004100100000000200000001000000020000002f00610000000000\
+    0142000000010000004100010000004100100000000300000001000000020000002f00610000000000\
     000000000000000000000000000000000000000000000000000000000000";
 
 /// A journal in which B alone was created, which starts on demand.
@@ -90,10 +90,11 @@ const MOVES: &[Next] = &[
         stored: Some(NEW_A),
         ..QUIET
     },
+    // A replay is over a file alone.
     Next {
         words: "replay --store new",
         asked: FINDS_A,
-        told: FINDS_A,
+        status: 5,
         stored: Some(NEW_A),
         ..QUIET
     },
