@@ -93,9 +93,11 @@ pub fn close<R: Wait>(rt: &R, book: Book<MemoryKeeper>, last: Spent) -> Trail
 {
     let Closed {
         trail,
+        recorder,
         keeper,
         services: _,
     } = book.close(rt, last);
+    drop(recorder);
     drop(keeper);
     trail
 }

@@ -143,6 +143,8 @@ roll_opening = record {
   faults = 0;
   moment = 0;
   asked = None;
+  records = false;
+  logged = None;
 }
 
 abbrev pub way_of_rolls : Protocol Rolled

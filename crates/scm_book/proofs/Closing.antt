@@ -1,11 +1,12 @@
 -- What a book's close hands out, and what its calls are told.
-use Rattle.std.proofs.Common.{◌≡◌, ◌≢◌, ℕ, All, List, [], length, Option, Some, sym, ap, ◌∙◌, subst}
+use Rattle.std.proofs.Common.{◌≡◌, ◌≢◌, ℕ, All, List, false, length, Option, sym, ap, ◌∙◌, subst}
 use mathlib.Core.List.{IsPrefix}
 use Rattle.scm_model.specs.declared.flat.Flat.{Flat}
 use Rattle.scm_model.specs.declared.steps.Answer.{Answer}
 use Rattle.scm_model.specs.declared.steps.Answer.TheVariants as answers
 use Rattle.scm_model.specs.declared.steps.Step.TheVariants.{Gone}
 use Rattle.scm_model.specs.Entries.{Entry, text_in}
+use Rattle.trail_log.specs.Recorders.{is_recording}
 use Rattle.scm_trail.specs.Trailed.{Trailed}
 use Rattle.scm_trail.proofs.Histories.{ends_whole}
 use Rattle.scm_trail.specs.Segments.{IsCoded}
@@ -23,7 +24,9 @@ use Rattle.scm_book.specs.Ghosts.{Ghosts}
 use Rattle.scm_book.specs.declared.book.Closed.{Closed}
 use Rattle.scm_book.specs.declared.held.Held.{Held}
 use Rattle.scm_book.specs.Holds.{Holds, Opens, kept_after, way_of, stood_at}
-use Rattle.scm_book.specs.Calls.{Closes, Goes, HasKept}
+use Rattle.scm_book.specs.Calls.{Closes, ClosesWhole, Goes, HasKept}
+use Rattle.scm_book.specs.Recording.{IsRecorded}
+use Rattle.scm_book.proofs.Recording.{coded_all, recorded_ends, recorded_whole}
 use Rattle.scm_book.specs.Passes.{Known, Made}
 use Rattle.scm_book.specs.Turns.{known}
 use Rattle.scm_book.proofs.Coming.{shaped}
@@ -46,23 +49,38 @@ has_kept ghosts o log h keeper is holds =
 module _ {K : Type 0} (ghosts : Ghosts K) (b : Identity)
     (s : Seat (Option (Box (Held K) Global)) View)
     (h : Held K) (ends : Ends (way_of ghosts) b s h) where
-  pub closes : (c : Closed K) → c.trail ≡ h.trail → c.keeper ≡ h.keeper → c.services ≡ length h.manager.flat.services
-      → All IsCoded c.trail.entries → Closes ghosts b.opening (known s) c
-  closes c trail keeper services coded =
-      let log = ends.log in
-      let whole : h.trail.entries ≡ log = ends_whole h.trail log ends.fits.ends ends.fits.whole in
-      let is : c.trail.entries ≡ log = ap (λ (t : Trailed). t.entries) trail ∙ whole in record {
-        longer = subst (IsPrefix s.me.0.seen) (sym is) ends.longer;
-        past = ap (λ (t : Trailed). t.past) trail ∙ ends.fits.whole;
-        text = ap (λ (t : Trailed). t.text) trail ∙ (ends.fits.ends.text ∙ ap text_in (sym is));
-        legal = subst (Legal b.opening.limits b.opening.first) (sym is) ends.run.legal;
-        alone = λ only. is ∙ (ends.alone only).seen;
-        services = services ∙ (ap (λ (f : Flat). length f.services) ends.fits.manager
-            ∙ ap (λ (l : List Entry). length (state b.opening.limits b.opening.first l).services) (sym is));
-        coded = coded;
-        keeps = subst (λ (l : List Entry). HasKept ghosts b.opening l c.keeper) (sym is)
-            (has_kept ghosts b.opening log h c.keeper keeper ends.fits);
+  pub closes : (c : Closed K) → c.trail ≡ h.trail → c.recorder ≡ h.recorder → c.keeper ≡ h.keeper
+      → c.services ≡ length h.manager.flat.services → All IsCoded c.trail.entries → Closes ghosts b.opening (known s) c
+  closes c trail recorder keeper services coded =
+      let log = ends.log in record {
+        history = log;
+        recorded = subst (λ (t : Trailed). IsRecorded b.opening.logged log t c.recorder) (sym trail)
+            (subst (λ (r : _). IsRecorded b.opening.logged log h.trail r) (sym recorder) ends.fits.recorded);
+        records = ap (λ (r : _). is_recording r.mode) recorder ∙ ends.fits.records;
+        longer = ends.longer;
+        legal = ends.run.legal;
+        alone = λ only. (ends.alone only).seen;
+        services = services ∙ ap (λ (f : Flat). length f.services) ends.fits.manager;
+        coded = coded_all log h.trail ends.fits.coded (subst (λ (t : Trailed). All IsCoded t.entries) trail coded);
+        keeps = has_kept ghosts b.opening log h c.keeper keeper ends.fits;
       }
+
+-- where nothing is recorded, the trail has the whole history
+pub closed_whole : {K : Type 0} (ghosts : Ghosts K) (o : Opening) (k : Known) (c : Closed K) → o.records ≡ false → Closes ghosts o k c
+    → ClosesWhole ghosts o k c
+closed_whole ghosts o k c off closes =
+    let past : c.trail.past ≡ 0 = recorded_whole o.logged closes.history c.trail c.recorder closes.recorded (closes.records ∙ off) in
+    let ends = recorded_ends o.logged closes.history c.trail c.recorder closes.recorded in
+    let is : c.trail.entries ≡ closes.history = ends_whole c.trail closes.history ends past in record {
+      longer = subst (IsPrefix k.seen) (sym is) closes.longer;
+      past = past;
+      text = ends.text ∙ ap text_in (sym is);
+      legal = subst (Legal o.limits o.first) (sym is) closes.legal;
+      alone = λ only. is ∙ closes.alone only;
+      services = closes.services ∙ ap (λ (l : List Entry). length (state o.limits o.first l).services) (sym is);
+      coded = subst (All IsCoded) (sym is) closes.coded;
+      keeps = subst (λ (l : List Entry). HasKept ghosts o l c.keeper) (sym is) closes.keeps;
+    }
 
 -- a going is told that it was done
 pub gone_told : (o : Opening) → Opens o → (k k' : Known) (moment caller : ℕ) (told : Answer) → Made o k moment (Gone caller) told k'

@@ -54,12 +54,12 @@ module _ {K : Type 0} (h h' : Held K) (moment process : ℕ) (first : first_want
     steps = h.manager.steps + 1;
     room = None;
   }
-      → Extends h.trail h'.trail (moment, LaunchTaken) → h.trail.room ≤ h'.trail.room + 1 → h'.journal ≡ h.journal
+      → Extends h.trail h'.trail (moment, LaunchTaken) → h'.recorder ≡ h.recorder → h.trail.room ≤ h'.trail.room + 1 → h'.journal ≡ h.journal
       → h'.keeper ≡ h.keeper
       → Adds h h' moment LaunchTaken (answers.Launch process)
-  adds_launch manager entries room journal keeper = record {
+  adds_launch manager entries recorder room journal keeper = record {
     grows = grown h h' moment LaunchTaken LaunchTaken LaunchTaken (answers.Launch process) refl refl
-        (and_both (wants_launch h.manager.flat.wanted) true (some_first h.manager.flat.wanted process first) refl) entries
+        (and_both (wants_launch h.manager.flat.wanted) true (some_first h.manager.flat.wanted process first) refl) entries recorder
         (sym (first_answer h.manager.limits h.manager.flat moment process first)) (ap (λ (m : Managed). m.flat) manager)
         (ap (λ (m : Managed). m.limits) manager)
         (ap (λ (m : Managed). m.steps) manager) (let t = ap (λ (m : Managed). m.text) manager in omega arith);

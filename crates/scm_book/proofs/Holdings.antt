@@ -1,5 +1,5 @@
 -- What the holder has stands at the end of the longer history.
-use Rattle.std.proofs.Common.{◌≡◌, ℕ, ◌+◌, ◌≤◌, true, List, [], ◌∷◌, ◌++◌, length, length-append, Option, None, refl, sym, ap, ◌∙◌, subst}
+use Rattle.std.proofs.Common.{◌≡◌, ℕ, ◌+◌, ◌≤◌, true, List, [], ◌∷◌, ◌++◌, length, length-append, refl, sym, ap, ◌∙◌, subst}
 use Rattle.std.proofs.Common.{Some, arith, false, inl, inr}
 use Rattle.std.specs.Prelude.{IfSome, option_map}
 use Rattle.scm_model.specs.declared.flat.Flat.{Flat}
@@ -23,8 +23,11 @@ use Rattle.book_rule.specs.declared.view.Opening.{Opening}
 use Rattle.record_journal.specs.Bearing.{Bears, Stands, Stood}
 use Rattle.record_journal.specs.declared.journal.Journal.{Journal}
 use Rattle.record_journal.specs.Keepers.{SettledSince}
-use Rattle.scm_trail.proofs.Histories.{ends_more, ends_same}
+use Rattle.trail_log.specs.Recorders.{is_recording}
+use Rattle.scm_core.specs.Managed.{Managed}
 use Rattle.scm_book.specs.Ghosts.{Ghosts}
+use Rattle.scm_book.specs.Recording.{CanRecord, Records}
+use Rattle.scm_book.proofs.Recording.{coded_gone, coded_more, coded_same, recorded_more, recorded_same, recorded_within}
 use Rattle.scm_book.specs.declared.held.Held.{Held}
 use Rattle.scm_book.specs.Holds.{Holds, Lasts, RoseBy, Runs, failures_in, kept_after, one_failed, stood_at}
 use Rattle.scm_book.specs.Steps.{Adds, Grows, IsAsItWas, Makes, outcome_at}
@@ -105,8 +108,9 @@ module _ {K : Type 0} (ghosts : Ghosts K) (o : Opening) (log : List Entry)
   holds_made moment step told made runs =
       let now : Step = with_kept step made.append in
       let grows = made.grows in record {
-        ends = ends_more h.trail h'.trail log (moment, now) holds.ends grows.trail;
-        whole = grows.trail.past ∙ holds.whole;
+        recorded = recorded_more o.logged log h.trail h'.trail h.recorder h'.recorder (moment, now) holds.recorded grows.trail grows.recorder;
+        records = ap (λ (r : _). is_recording r.mode) grows.recorder ∙ holds.records;
+        coded = coded_more log h.trail h'.trail (moment, now) holds.coded grows.trail;
         limits = grows.limits ∙ holds.limits;
         steps = steps_then moment now told grows;
         text = text_then moment now told grows;
@@ -139,8 +143,9 @@ module _ {K : Type 0} (ghosts : Ghosts K) (o : Opening) (log : List Entry)
       let grows = adds.grows in
       let none : no_outcome ≡ outcome_in o.limits (state o.limits o.first log) step =
       sym changeless ∙ (λ i. outcome_in (holds.limits i) (holds.manager i) step) in record {
-        ends = ends_more h.trail h'.trail log (moment, step) holds.ends grows.trail;
-        whole = grows.trail.past ∙ holds.whole;
+        recorded = recorded_more o.logged log h.trail h'.trail h.recorder h'.recorder (moment, step) holds.recorded grows.trail grows.recorder;
+        records = ap (λ (r : _). is_recording r.mode) grows.recorder ∙ holds.records;
+        coded = coded_more log h.trail h'.trail (moment, step) holds.coded grows.trail;
         limits = grows.limits ∙ holds.limits;
         steps = steps_then moment step told grows;
         text = text_then moment step told grows;
@@ -164,8 +169,9 @@ module _ {K : Type 0} (ghosts : Ghosts K) (o : Opening) (log : List Entry)
 
   pub holds_same : IsAsItWas h h' → Holds ghosts o log h'
   holds_same same = record {
-    ends = ends_same h.trail h'.trail log holds.ends same.none.trail;
-    whole = same.none.trail.past ∙ holds.whole;
+    recorded = recorded_same o.logged log h.trail h'.trail h.recorder h'.recorder holds.recorded same.none.trail same.none.recorder;
+    records = ap (λ (r : _). is_recording r.mode) same.none.recorder ∙ holds.records;
+    coded = coded_same log h.trail h'.trail holds.coded same.none.trail;
     limits = same.none.limits ∙ holds.limits;
     steps = same.none.steps ∙ holds.steps;
     text = same.none.text ∙ holds.text;
@@ -179,3 +185,26 @@ module _ {K : Type 0} (ghosts : Ghosts K) (o : Opening) (log : List Entry)
     room = let f = ap owed same.none.flat in let b = holds.room in let r = same.room in omega arith;
     fits = holds.fits;
   }
+
+  -- what goes to the log leaves all else as it was
+  pub holds_recorded : Records h h' → Holds ghosts o log h'
+  holds_recorded same = record {
+    recorded = same.recorded o.logged log holds.recorded;
+    records = same.mode ∙ holds.records;
+    coded = coded_gone log h.trail h'.trail holds.coded same.goes same.coded;
+    limits = ap (λ (m : Managed). m.limits) same.manager ∙ holds.limits;
+    steps = ap (λ (m : Managed). m.steps) same.manager ∙ holds.steps;
+    text = ap (λ (m : Managed). m.text) same.manager ∙ holds.text;
+    manager = ap (λ (m : Managed). m.flat) same.manager ∙ holds.manager;
+    journal = subst (λ (j : Journal). Bears (kept_after o log) j (ghosts.held h'.keeper)) (sym same.journal)
+        (subst (λ (k : K). Bears (kept_after o log) h.journal (ghosts.held k)) (sym same.keeper) holds.journal);
+    lasts = subst (λ (k : K). Lasts o log (ghosts.crashes k)) (sym same.keeper) holds.lasts;
+    asked = ap ghosts.asked same.keeper ∙ holds.asked;
+    faults = let f = ap ghosts.faults same.keeper in let b = holds.faults in omega arith;
+    settled = subst (λ (k : K). SettledSince o.faults (ghosts.faults k) (ghosts.settled k)) (sym same.keeper) holds.settled;
+    room = let f = ap (λ (m : Managed). owed m.flat) same.manager in let b = holds.room in let r = same.goes.room in omega arith;
+    fits = holds.fits;
+  }
+
+  pub can_record : CanRecord h
+  can_record = recorded_within o.logged log h.trail h.recorder holds.recorded

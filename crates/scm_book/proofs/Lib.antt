@@ -4,13 +4,14 @@ mod Last
 pub mod Names
 mod Following
 pub mod Leaving
+mod Recording
 mod Holdings
 mod Standing
 mod Turns
 mod Passes
 mod Coming
 pub mod Opening
-mod Closing
+pub mod Closing
 mod Forks
 mod JoinsMade
 mod CallsMade

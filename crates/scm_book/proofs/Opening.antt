@@ -10,8 +10,8 @@ use Rattle.scm_history.specs.Outcomes.{Outcome}
 use Rattle.scm_history.proofs.Outcomes.{law_of_outcomes}
 use Rattle.journal_lasting.specs.Lasting.{HasLasted, stood_after}
 use Rattle.journal_lasting.proofs.Turning.{settled_stands}
-use Rattle.scm_trail.specs.Trailed.{Ends, Trailed, no_entries}
-use Rattle.scm_trail.proofs.Histories.{ends_none}
+use Rattle.scm_trail.specs.Trailed.{Trailed, no_entries}
+use Rattle.scm_book.proofs.Recording.{coded_none, recorded_none}
 use Rattle.record_journal.specs.Bearing.{Bears, StandsIn, Stood, stood_in}
 use Rattle.record_journal.specs.Crashes.{AreCrashes, Crashes}
 use Rattle.record_journal.specs.declared.journal.Journal.{Journal}
@@ -29,6 +29,7 @@ pub record IsNew {K : Type 0} (ghosts : Ghosts K) (h : Held K) : Type 0 where
   pub journal : Bears (stood_in h.journal.form (ghosts.held h.keeper)) h.journal (ghosts.held h.keeper)
   pub settled : ghosts.settled h.keeper
   pub trail : h.trail ≡ no_entries
+  pub at : h.recorder.at ≡ 0
 
 -- a crash leaves what a settled keeper bears
 pub stands_at : (good : Option Stood) (j : Journal) (held : Option (List ℕ)) (settled : Type 0) (c : Crashes) → AreCrashes held c settled
@@ -46,8 +47,9 @@ module _ {K : Type 0} (ghosts : Ghosts K) (h : Held K)
 
   pub new_holds : Holds ghosts ((way_of ghosts).opening h) [] h
   new_holds = record {
-    ends = subst (λ (t : Trailed). Ends t []) (sym new.trail) ends_none;
-    whole = ap (λ (t : Trailed). t.past) new.trail;
+    recorded = recorded_none h.trail h.recorder new.trail new.at;
+    records = refl;
+    coded = coded_none h.trail new.trail;
     limits = refl;
     steps = new.steps;
     text = new.text;
@@ -70,10 +72,10 @@ module _ {K : Type 0} (ghosts : Ghosts K) (h : Held K)
   }
 
 pub is_new : {K : Type 0} (ghosts : Ghosts K) (h : Held K) (m : Managed) (t : Trailed) (j : Journal)
-    (k : K) → h.manager ≡ m → h.trail ≡ t → h.journal ≡ j → h.keeper ≡ k
+    (k : K) → h.manager ≡ m → h.trail ≡ t → h.recorder.at ≡ 0 → h.journal ≡ j → h.keeper ≡ k
     → IsOpening m.limits m.flat → AreSmall m.limits → m.steps ≡ 0 → m.text ≡ 0
     → Bears (stood_in j.form (ghosts.held k)) j (ghosts.held k) → ghosts.settled k → t ≡ no_entries → IsNew ghosts h
-is_new ghosts h m t j k manager trail journal keeper begins small steps text bears settled none = record {
+is_new ghosts h m t j k manager trail at journal keeper begins small steps text bears settled none = record {
   begins = subst (λ (x : Managed). IsOpening x.limits x.flat) (sym manager) begins;
   small = subst (λ (x : Managed). AreSmall x.limits) (sym manager) small;
   steps = ap (λ (x : Managed). x.steps) manager ∙ steps;
@@ -82,4 +84,5 @@ is_new ghosts h m t j k manager trail journal keeper begins small steps text bea
       (subst (λ x. Bears (stood_in j.form (ghosts.held x)) j (ghosts.held x)) (sym keeper) bears);
   settled = subst ghosts.settled (sym keeper) settled;
   trail = trail ∙ none;
+  at = at;
 }

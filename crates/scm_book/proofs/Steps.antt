@@ -1,5 +1,5 @@
 -- What one step more makes of what the holder of the turn has.
-use Rattle.std.proofs.Common.{ℕ, ◌≡◌, ◌∙◌, ◌+◌, ◌≤◌, true, IsTrue, List, [], ◌∷◌, Option, None, Some, refl, ap, sym, subst, arith}
+use Rattle.std.proofs.Common.{ℕ, ◌≡◌, ◌∙◌, ◌+◌, ◌≤◌, true, IsTrue, List, [], ◌∷◌, Option, Some, refl, ap, sym, subst, arith}
 use Rattle.std.proofs.Common.{false, inl, inr}
 use Rattle.std.specs.Prelude.{option_map}
 use Rattle.outside.specs.Causes.{Rose}
@@ -48,14 +48,15 @@ answer_one l f moment step = refl
 
 pub grown : {K : Type 0} (h h' : Held K) (moment : ℕ) (step both copy : Step) (told : Answer) → both ≡ step → copy ≡ step
     → IsTrue (may h.manager.limits h.manager.flat moment step)
-    → Extends h.trail h'.trail (moment, copy)
+    → Extends h.trail h'.trail (moment, copy) → h'.recorder ≡ h.recorder
     → told ≡ (step_of h.manager.limits h.manager.flat moment both).answer
     → h'.manager.flat ≡ (step_of h.manager.limits h.manager.flat moment both).flat
     → h'.manager.limits ≡ h.manager.limits → h'.manager.steps ≡ h.manager.steps + 1 → h'.manager.text ≡ h.manager.text + text_of both
     → Grows h h' moment step told
-grown h h' moment step both copy told one other may trail says flat limits steps text = record {
+grown h h' moment step both copy told one other may trail recorder says flat limits steps text = record {
   may = may;
   trail = subst (λ (s : Step). Extends h.trail h'.trail (moment, s)) other trail;
+  recorder = recorder;
   flat = flat ∙ (ap (λ (s : Step). (step_of h.manager.limits h.manager.flat moment s).flat) one
       ∙ sym (state_one h.manager.limits h.manager.flat moment step));
   answer = answer_one h.manager.limits h.manager.flat moment step
@@ -145,19 +146,20 @@ module _ {K : Type 0} (ghosts : Ghosts K) (h h' : Held K) (step : Step) where
 -- ## One after another
 
 module _ {K : Type 0} (h mid h' : Held K) where
-  none_as : MakesNone h mid → h'.manager ≡ mid.manager → h'.trail ≡ mid.trail → MakesNone h h'
-  none_as was manager trail = record {
+  none_as : MakesNone h mid → h'.manager ≡ mid.manager → h'.trail ≡ mid.trail → h'.recorder ≡ mid.recorder → MakesNone h h'
+  none_as was manager trail recorder = record {
     trail = stays_on h.trail mid.trail h'.trail was.trail (stays_self mid.trail h'.trail trail);
+    recorder = recorder ∙ was.recorder;
     flat = ap (λ (m : Managed). m.flat) manager ∙ was.flat;
     limits = ap (λ (m : Managed). m.limits) manager ∙ was.limits;
     steps = ap (λ (m : Managed). m.steps) manager ∙ was.steps;
     text = ap (λ (m : Managed). m.text) manager ∙ was.text;
   }
 
-  pub still_as : IsAsItWas h mid → h'.manager ≡ mid.manager → h'.trail ≡ mid.trail → h'.journal ≡ mid.journal → h'.keeper ≡ mid.keeper
-      → IsAsItWas h h'
-  still_as was manager trail journal keeper = record {
-    none = none_as was.none manager trail;
+  pub still_as : IsAsItWas h mid → h'.manager ≡ mid.manager → h'.trail ≡ mid.trail → h'.recorder ≡ mid.recorder
+      → h'.journal ≡ mid.journal → h'.keeper ≡ mid.keeper → IsAsItWas h h'
+  still_as was manager trail recorder journal keeper = record {
+    none = none_as was.none manager trail recorder;
     journal = journal ∙ was.journal;
     keeper = keeper ∙ was.keeper;
     room = let same = ap (λ (t : Trailed). t.room) trail in let r = was.room in omega arith;
@@ -169,6 +171,7 @@ module _ {K : Type 0} (h mid h' : Held K) where
   grown_from moment step told none grows = record {
     may = (λ i. may (sym none.limits i) (sym none.flat i) moment step) ∙ grows.may;
     trail = stays_extended h.trail mid.trail h'.trail (moment, step) none.trail grows.trail;
+    recorder = grows.recorder ∙ none.recorder;
     flat = grows.flat ∙ (λ i. state (none.limits i) (none.flat i) ((moment, step) ∷ []));
     answer = (λ i. answer (sym none.limits i) (sym none.flat i) ((moment, step) ∷ []) 0) ∙ grows.answer;
     limits = grows.limits ∙ none.limits;
@@ -199,12 +202,12 @@ module _ {K : Type 0} (h mid h' : Held K) where
     pub prepared : has_room_in h step ≡ true → IsAsItWas h mid → WasMadeFor mid.manager.room step → owed h.manager.flat
         + debt h.manager.flat step ≤ mid.trail.room → 1 ≤ mid.trail.room
         → text_of step ≤ mid.trail.text_room → h'.manager ≡ mid.manager → h'.trail ≡ mid.trail
-        → Keeps ghosts mid h' (with_kept step append)
+        → h'.recorder ≡ mid.recorder → Keeps ghosts mid h' (with_kept step append)
         → IsTrue (keeps_right mid.manager.limits mid.manager.flat (with_kept step append))
         → IsPrepared ghosts h h' step append
-    prepared free was made room one text manager trail keeps right = record {
+    prepared free was made room one text manager trail recorder keeps right = record {
       free = free;
-      none = none_as was.none manager trail;
+      none = none_as was.none manager trail recorder;
       keeps = keeps_from was keeps;
       right = (λ i. keeps_right (sym was.none.limits i) (sym was.none.flat i) (with_kept step append)) ∙ right;
       made = subst (λ (m : Managed). WasMadeFor m.room step) (sym manager) made;

@@ -4,6 +4,9 @@ use mathlib.Core.List.{IsPrefix}
 use Rattle.scm_model.specs.declared.steps.Answer.TheVariants as answers
 use Rattle.scm_model.specs.declared.steps.Step.TheVariants.{Gone}
 use Rattle.scm_model.specs.Entries.{Entry, text_in}
+use Rattle.history_log.specs.Logged.{Logged}
+use Rattle.trail_log.specs.declared.recorder.Recorder.{Recorder}
+use Rattle.trail_log.specs.Recorders.{is_recording}
 use Rattle.scm_rules.specs.Histories.{Legal, state}
 use Rattle.book_rule.specs.declared.view.Opening.{Opening}
 use Rattle.book_rule.specs.Seats.{Identity}
@@ -15,8 +18,9 @@ use Rattle.scm_core.specs.Managed.{Managed}
 use Rattle.scm_book.specs.Ghosts.{Ghosts}
 use Rattle.scm_book.specs.declared.book.Closed.{Closed}
 use Rattle.scm_book.specs.declared.book.Opened.{Opened}
-use Rattle.scm_book.specs.Holds.{Lasts, RoseBy, begun_with, failures_in, kept_after}
+use Rattle.scm_book.specs.Holds.{Lasts, RoseBy, begun_as, begun_with, failures_in, kept_after}
 use Rattle.scm_book.specs.Passes.{Known, Made}
+use Rattle.scm_book.specs.Recording.{IsRecorded}
 
 -- a crash leaves nothing but what is held, if that is known
 abbrev pub IsOnly : Option (List ℕ) → (List ℕ → Type 0) → Type 0
@@ -42,6 +46,12 @@ module _ {K : Type 0} (ghosts : Ghosts K) where
   BeginsWith m j keeper made =
       IsFirstPass made.book made.pass (begun_with ghosts m.limits m.flat j keeper)
 
+  -- and with what the log told before
+  abbrev pub BeginsRecorded : Managed → Recorder Logged → Journal → K → Opened K → Type 0
+  BeginsRecorded m r j keeper made =
+      let opening = begun_as ghosts m.limits m.flat j keeper (is_recording r.mode) r.sink.held in
+      IsFirstPass made.book made.pass opening
+
   -- what a keeper has of a history that has ended
   pub record HasKept (o : Opening) (log : List Entry) (keeper : K) : Type 0 where
     -- what stood before and the kept changes in order, and perhaps a part of one whose append failed since
@@ -57,8 +67,22 @@ module _ {K : Type 0} (ghosts : Ghosts K) where
     -- it wasn't opened anew
     pub asked : ghosts.asked keeper ≡ o.asked
 
-  -- a legal history of which the pass had seen a prefix, and all of it where it was alone; and what the keeper holds of its changes
+  -- a legal history of which the pass had seen a prefix, and all of it where it was alone; what the trail and the log have of it; and what
+  -- the keeper holds of its changes
   pub record Closes (o : Opening) (k : Known) (c : Closed K) : Type 0 where
+    pub history : List Entry
+    pub recorded : IsRecorded o.logged history c.trail c.recorder
+    pub records : is_recording c.recorder.mode ≡ o.records
+    pub longer : IsPrefix k.seen history
+    pub legal : Legal o.limits o.first history
+    pub alone : k.alone ≡ true → history ≡ k.seen
+    pub services : c.services ≡ length (state o.limits o.first history).services
+    -- each entry has a code
+    pub coded : All IsCoded history
+    pub keeps : HasKept o history c.keeper
+
+  -- the trail has that history, whole
+  pub record ClosesWhole (o : Opening) (k : Known) (c : Closed K) : Type 0 where
     pub longer : IsPrefix k.seen c.trail.entries
     pub past : c.trail.past ≡ 0
     pub text : c.trail.text ≡ text_in c.trail.entries

@@ -1,5 +1,5 @@
 -- What the holder of the turn has at the end of a history.
-use Rattle.std.specs.Prelude.{ℕ, ◌≡◌, ◌≤◌, ◌+◌, ◌-◌, ◌^◌, min, IfSome, IsTrue, List, [], ◌∷◌, length, Option, None, option_map}
+use Rattle.std.specs.Prelude.{ℕ, ◌≡◌, ◌≤◌, ◌+◌, ◌-◌, ◌^◌, min, Bool, false, IfSome, IsTrue, List, [], ◌∷◌, length, Option, None, option_map}
 use Rattle.std.specs.List.{last_or}
 use Rattle.scm_model.specs.declared.flat.Flat.{Flat}
 use Rattle.scm_model.specs.declared.flat.Limits.{Limits}
@@ -14,7 +14,8 @@ use Rattle.record_journal.specs.Bearing.{Bears, Stood, stood_in}
 use Rattle.record_journal.specs.Crashes.{Crashes}
 use Rattle.record_journal.specs.Keepers.{SettledSince}
 use Rattle.record_journal.specs.declared.journal.Journal.{Journal}
-use Rattle.scm_trail.specs.Trailed.{Ends}
+use Rattle.trail_log.specs.Recorders.{is_recording}
+use Rattle.scm_book.specs.Recording.{HasCodedFront, IsRecorded}
 use Rattle.scm_rules.specs.Histories.{Legal, state}
 use Rattle.scm_rules.specs.Opening.{IsOpening}
 use Rattle.scm_rules.specs.Owed.{owed}
@@ -69,9 +70,9 @@ abbrev pub Lives : Opening → List Entry → ℕ → Type 0
 Lives o log caller = IsTrue (is_caller (state o.limits o.first log) caller)
 
 module _ {K : Type 0} (ghosts : Ghosts K) where
-  -- how a history begins, by its limits, its first state, its journal and its keeper
-  abbrev pub begun_with : Limits → Flat → Journal → K → Opening
-  begun_with l f j keeper = record {
+  -- how a history begins, by its limits, its first state, its journal and its keeper, and by whether it is recorded and what the log told
+  abbrev pub begun_as : Limits → Flat → Journal → K → (records : Bool) → (logged : Option (List ℕ)) → Opening
+  begun_as l f j keeper records logged = record {
     limits = l;
     first = f;
     bytes = ghosts.held keeper;
@@ -79,12 +80,19 @@ module _ {K : Type 0} (ghosts : Ghosts K) where
     faults = ghosts.faults keeper;
     moment = (ghosts.crashes keeper).moment;
     asked = ghosts.asked keeper;
+    records = records;
+    logged = logged;
   }
 
+  -- nothing of it is recorded: the trail is to have the whole history
+  abbrev pub begun_with : Limits → Flat → Journal → K → Opening
+  begun_with l f j keeper = begun_as l f j keeper false None
+
   pub record Holds (o : Opening) (log : List Entry) (h : Held K) : Type 0 where
-    -- the trail holds the history's end, and all of it
-    pub ends : Ends h.trail log
-    pub whole : h.trail.past ≡ 0
+    -- the trail holds the history, or its end, and the log the rest, after what it told before
+    pub recorded : IsRecorded o.logged log h.trail h.recorder
+    pub records : is_recording h.recorder.mode ≡ o.records
+    pub coded : HasCodedFront log h.trail
     pub limits : h.manager.limits ≡ o.limits
     pub steps : h.manager.steps ≡ length log
     pub text : h.manager.text ≡ text_in log
@@ -106,7 +114,8 @@ module _ {K : Type 0} (ghosts : Ghosts K) where
 
   abbrev pub way_of : Protocol (Held K)
   way_of = record {
-    opening = λ h. begun_with h.manager.limits h.manager.flat h.journal h.keeper;
+    opening = λ h. begun_as h.manager.limits h.manager.flat h.journal h.keeper (is_recording h.recorder.mode)
+        h.recorder.sink.held;
     last = λ h. last_or None h.trail.entries;
     fits = Holds;
     run = Runs;

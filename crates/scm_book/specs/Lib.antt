@@ -1,6 +1,7 @@
 pub mod Ghosts
 pub mod Naming
 pub mod Holds
+pub mod Recording
 pub mod Steps
 pub mod Laws
 pub mod Passes

@@ -1,5 +1,5 @@
 -- What one step more makes of what the holder of the turn has.
-use Rattle.std.specs.Prelude.{ℕ, ◌≡◌, ◌≤◌, ◌+◌, Bool, true, false, IsTrue, List, [], ◌∷◌, Option, Some, option_map}
+use Rattle.std.specs.Prelude.{ℕ, ◌≡◌, ◌≤◌, ◌+◌, Bool, true, false, IsTrue, [], ◌∷◌, Option, Some, option_map}
 use Rattle.scm_model.specs.declared.steps.Answer.{Answer}
 use Rattle.scm_model.specs.declared.steps.Kept.{Kept}
 use Rattle.scm_model.specs.declared.steps.Step.{Step}
@@ -61,6 +61,7 @@ module _ {K : Type 0} where
   pub record Grows (h h' : Held K) (moment : ℕ) (step : Step) (told : Answer) : Type 0 where
     pub may : IsTrue (may h.manager.limits h.manager.flat moment step)
     pub trail : Extends h.trail h'.trail (moment, step)
+    pub recorder : h'.recorder ≡ h.recorder
     pub flat : h'.manager.flat ≡ state h.manager.limits h.manager.flat ((moment, step) ∷ [])
     pub answer : answer h.manager.limits h.manager.flat ((moment, step) ∷ []) 0 ≡ Some told
     pub limits : h'.manager.limits ≡ h.manager.limits
@@ -77,6 +78,7 @@ module _ {K : Type 0} where
   -- no step was made
   pub record MakesNone (h h' : Held K) : Type 0 where
     pub trail : Stays h.trail h'.trail
+    pub recorder : h'.recorder ≡ h.recorder
     pub flat : h'.manager.flat ≡ h.manager.flat
     pub limits : h'.manager.limits ≡ h.manager.limits
     pub steps : h'.manager.steps ≡ h.manager.steps

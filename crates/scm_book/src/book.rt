@@ -7,7 +7,7 @@ ghost use Rattle.record_journal.specs.Bearing.{Bears, stood_in};
 ghost use Rattle.scm_book.specs.Ghosts.{ghosts_of};
 ghost use Rattle.scm_book.specs.declared.turning.Recorded.TheVariants.{NoMemory};
 ghost use Rattle.scm_book.specs.Called.{Calls, CallsInto, LeavesWhose, Raises, StartsAs, is_start};
-ghost use Rattle.scm_book.specs.Calls.{BeginsWith, Closes, Goes};
+ghost use Rattle.scm_book.specs.Calls.{BeginsRecorded, BeginsWith, Closes, Goes};
 ghost use Rattle.scm_book.specs.Holds.{Opens};
 ghost use Rattle.scm_book.specs.Joins.{BecomesCaller, JoinCause, Joins, TakesIn, Watches};
 ghost use Rattle.scm_book.specs.Joins.{accompanied, fresh};
@@ -23,6 +23,7 @@ use crate::joining::end_look;
 use crate::pass::{Pass, Spent};
 use crate::turning::{Recorded, Shared, call_end, call_end_into, reply_of, start_end};
 use book_rule::{Begun, Turn};
+use history_log::HistoryLog;
 use record_journal::{Journal, Keeper};
 use scm_core::Manager;
 use scm_model::{Answer, Kept, Principal, Request, Step};
@@ -30,6 +31,7 @@ use scm_trail::Trail;
 use std::alloc::Global;
 use std::marker::Model;
 use std::sync::Wait;
+use trail_log::{Mode, RecordEnd, Recorder};
 
 /// One legal history for all callers. Contracts see which book it is, and how its history opened.
 #[derive(Drop)]
@@ -44,10 +46,12 @@ pub struct Opened<K: Keeper> {
     pub pass: Pass,
 }
 
-/// What a book leaves: the whole history, the keeper, and how many services there are.
+/// What a book leaves: the history, of which the log may have the front, the keeper, and how many
+/// services there are.
 #[derive(Drop)]
 pub struct Closed<K: Keeper> {
     pub trail: Trail,
+    pub recorder: Recorder<HistoryLog>,
     pub keeper: K,
     pub services: u64,
 }
@@ -78,7 +82,31 @@ impl<K: Keeper> Book<K> {
             manager journal keeper) }
         ensures err { IfErr result (λ back. back ≡ keeper) }
     {
-        let held = Held::new(alloc, manager, journal, keeper);
+        let recorder = Recorder::new(HistoryLog::nowhere(), Mode::Kept);
+        Book::recorded(alloc, manager, recorder, journal, keeper)
+    }
+
+    /// The same of a book whose entries are recorded. What is recorded is let go.
+    pub fn recorded(
+        alloc: Global,
+        manager: Manager,
+        recorder: Recorder<HistoryLog>,
+        journal: Journal,
+        keeper: K,
+    ) -> Result<Opened<K>, K>
+        requires begins { IsOpening manager.limits manager.flat }
+        requires small { AreSmall manager.limits }
+        requires steps { manager.steps ≡ 0 }
+        requires text { manager.text ≡ 0 }
+        requires at { recorder.at ≡ 0 }
+        requires journal { Bears (stood_in journal.form (K.held keeper)) journal (K.held keeper) }
+        requires settled { K.settled keeper }
+        ensures ok { IfOk result (BeginsRecorded
+            (ghosts_of K.held K.faults K.settled K.crashes K.are_crashes K.asked)
+            manager recorder journal keeper) }
+        ensures err { IfErr result (λ back. back ≡ keeper) }
+    {
+        let held = Held::new(alloc, manager, recorder, journal, keeper);
         match Turn::new(alloc, held) {
             Ok(Begun { turn, seat }) => {
                 let pass = Pass {
@@ -114,7 +142,19 @@ impl<K: Keeper> Book<K> {
         self.shared.bells.shut(rt);
     }
 
-    /// Ends the book, and hands out the whole history.
+    /// Records a segment of the history, if it is to be recorded, and lets it go. It makes no step,
+    /// and the pass has then seen the whole history. A log that fails keeps no step from being
+    /// made.
+    pub fn record<R: Wait>(&self, rt: &R, pass: &mut Pass) -> RecordEnd
+        requires book { IsOf self.now pass.old }
+        ensures book { IsOf self.now pass.new }
+        ensures learnt { Learnt self.now.opening pass.old pass.new }
+        ensures keeps { KeepsAll self.now.opening pass.old pass.new }
+    {
+        self.shared.record_by(rt, &mut pass.badge)
+    }
+
+    /// Ends the book, and hands out the history.
     pub fn close<R: Wait>(self, rt: &R, last: Spent) -> Closed<K>
         requires { IsOf self last }
         ensures { Closes (ghosts_of K.held K.faults K.settled K.crashes K.are_crashes K.asked)
@@ -130,6 +170,7 @@ impl<K: Keeper> Book<K> {
         let Held {
             manager,
             trail,
+            recorder,
             journal: _,
             keeper,
             alloc: _,
@@ -139,6 +180,7 @@ impl<K: Keeper> Book<K> {
         manager.close();
         Closed {
             trail,
+            recorder,
             keeper,
             services,
         }

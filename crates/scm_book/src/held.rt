@@ -8,6 +8,7 @@ ghost use Rattle.scm_book.specs.Ghosts.{ghosts_of};
 ghost use Rattle.scm_book.specs.Steps.{owed_step, Adds, Grows, HasMemory, IsAsItWas, IsPrepared};
 ghost use Rattle.scm_book.specs.Steps.{KeepsAs, Makes, TellsRight, Why, has_room_in, may_come_in};
 ghost use Rattle.scm_book.specs.Steps.{may_in};
+ghost use Rattle.scm_book.specs.Recording.{CanRecord, Records};
 ghost use Rattle.scm_model.specs.Entries.{with_kept};
 ghost use Rattle.scm_model.specs.Texts.{text_of};
 ghost use Rattle.scm_rules.specs.Owed.{owed};
@@ -16,12 +17,14 @@ ghost use Rattle.scm_core.specs.Managed.{AreSmall, WasMadeFor};
 
 use crate::fault::MakeFault;
 use book_rule::Guarded;
+use history_log::HistoryLog;
 use record_journal::{Journal, KeepFault, Keeper};
 use scm_core::Manager;
 use scm_model::{Answer, Kept, Step};
 use scm_text::OutOfMemory;
 use scm_trail::{Note, Trail};
 use std::alloc::Global;
+use trail_log::{RecordEnd, Recorder};
 
 /// A step, and its note for the trail. The manager uses up the one, and the trail keeps the other.
 /// There is no note where there was no memory for it. It is made before the turn is taken, so that
@@ -126,12 +129,13 @@ fn brief_note(step: &Step) -> Note
     note
 }
 
-/// What the holder of the turn has: the manager, the trail of the steps that it made, and the
-/// journal of the changes that were kept, with its keeper.
+/// What the holder of the turn has: the manager, the trail of the last steps that it made, what
+/// records them, and the journal of the changes that were kept, with its keeper.
 #[derive(Drop)]
 pub struct Held<K: Keeper> {
     pub manager: Manager,
     pub trail: Trail,
+    pub recorder: Recorder<HistoryLog>,
     pub journal: Journal,
     pub keeper: K,
     pub(crate) alloc: Global,
@@ -154,15 +158,23 @@ impl<K: Keeper> Guarded for Held<K> {
 
 impl<K: Keeper> Held<K> {
     /// With no history yet.
-    pub fn new(alloc: Global, manager: Manager, journal: Journal, keeper: K) -> Held<K>
+    pub fn new(
+        alloc: Global,
+        manager: Manager,
+        recorder: Recorder<HistoryLog>,
+        journal: Journal,
+        keeper: K,
+    ) -> Held<K>
         ensures manager { result.manager ≡ manager }
         ensures trail { result.trail ≡ no_entries }
+        ensures recorder { result.recorder ≡ recorder }
         ensures journal { result.journal ≡ journal }
         ensures keeper { result.keeper ≡ keeper }
     {
         Held {
             manager,
             trail: Trail::new(alloc),
+            recorder,
             journal,
             keeper,
             alloc,
@@ -175,6 +187,7 @@ impl<K: Keeper> Held<K> {
         let Held {
             manager,
             trail: _,
+            recorder: _,
             journal: _,
             keeper,
             alloc: _,
@@ -224,6 +237,7 @@ impl<K: Keeper> Held<K> {
         requires { WasMadeFor self.old.manager.room step.now }
         ensures manager { self.new.manager ≡ self.old.manager }
         ensures trail { self.new.trail ≡ self.old.trail }
+        ensures recorder { self.new.recorder ≡ self.old.recorder }
         ensures keeps { IfOk result (KeepsAs
             (ghosts_of K.held K.faults K.settled K.crashes K.are_crashes K.asked)
             self.old self.new step.now) }
@@ -404,5 +418,14 @@ impl<K: Keeper> Held<K> {
         self.grow(moment, &mut step, owed.note(), &mut answer);
         drop(step);
         answer
+    }
+
+    /// Records a segment of the trail, and lets it go, if a later one has the last entry.
+    pub(crate) fn record(&mut self) -> RecordEnd
+        requires { CanRecord self.old }
+        ensures { Records self.old self.new }
+    {
+        let _entries = self.trail.entries();
+        self.recorder.record(&mut self.trail)
     }
 }

@@ -6,6 +6,7 @@ ghost use Rattle.scm_book.specs.Turns.{IsSeated, known, of_badge, AlwaysMay, Did
 ghost use Rattle.scm_book.specs.Turns.{DidStep, HasTurn, LeftIt, MadeBy, MakeCause, MayMakeBy};
 ghost use Rattle.scm_book.specs.Turns.{NamesNoOther, StepEndsAt, StepEndsBy, CallEndsBy, DidCall};
 ghost use Rattle.scm_book.specs.Turns.{DidNone, call_told};
+ghost use Rattle.scm_book.specs.Passes.{Learnt};
 ghost use Rattle.scm_book.specs.Steps.{owed_step};
 ghost use Rattle.scm_model.specs.declared.steps.Answer.TheVariants as answers;
 ghost use Rattle.scm_model.specs.declared.steps.Step.TheVariants as steps;
@@ -25,6 +26,7 @@ use scm_model::{Answer, Reply, Step, refused};
 use std::alloc::Global;
 use std::mem;
 use std::sync::Wait;
+use trail_log::RecordEnd;
 
 /// What all who make steps share: the turn, and the bells that tell of steps.
 #[derive(Drop)]
@@ -202,6 +204,22 @@ impl<K: Keeper> Shared<K> {
         let ended = self.make_at(rt, moment, step, &mut seat);
         *badge = self.stand(seat);
         ended
+    }
+}
+
+impl<K: Keeper> Shared<K> {
+    /// Records a segment of the history, at its end.
+    pub fn record_by<R: Wait>(&self, rt: &R, badge: &mut Badge<View>) -> RecordEnd
+        requires badge { IsSeated self.now.turn badge.old }
+        ensures badge { IsSeated self.now.turn badge.new }
+        ensures learnt { Learnt self.now.turn.opening (of_badge badge.old) (of_badge badge.new) }
+    {
+        let mut seat = self.sit(badge);
+        let mut held = self.turn.enter(rt, &mut seat);
+        let end = held.record();
+        self.turn.unlock(rt, &mut seat, held);
+        *badge = self.stand(seat);
+        end
     }
 }
 

@@ -1,5 +1,5 @@
 -- The joining of the one caller of a book.
-use Rattle.std.proofs.Common.{ℕ, ◌≡◌, ◌∙◌, ◌≤◌, ◌++◌, true, List, [], ◌∷◌, Option, length, refl, sym, ap, subst, arith}
+use Rattle.std.proofs.Common.{ℕ, ◌≡◌, ◌∙◌, ◌≤◌, ◌++◌, true, List, [], ◌∷◌, length, refl, sym, ap, subst, arith}
 use Rattle.std.specs.Prelude.{nat_lt}
 use Rattle.std.proofs.lemmas.Bool.{false≢true}
 use Rattle.scm_model.specs.declared.flat.Config.{Config}
@@ -7,7 +7,6 @@ use Rattle.scm_model.specs.declared.flat.Flat.{Flat}
 use Rattle.scm_model.specs.declared.flat.Limits.{Limits}
 use Rattle.scm_model.specs.declared.flat.Principal.{Principal}
 use Rattle.scm_model.specs.declared.steps.Answer.TheVariants as answers
-use Rattle.scm_model.specs.declared.steps.Form.{Form}
 use Rattle.scm_model.specs.declared.steps.Step.TheVariants.{Joined}
 use Rattle.scm_model.specs.Entries.{Entry, text_in}
 use Rattle.scm_rules.specs.Histories.{state}
@@ -44,13 +43,14 @@ has_room_at l f principal opens some =
     subst (λ (g : Flat). has_room l g 0 (text_in []) (Joined principal) ≡ true) (sym (state_none l f ∙ opens.is))
     (room_in l opens.groups opens.configs opens.moment principal some)
 
-pub can_join : (o : Opening) (l : Limits) (f : Flat) (bytes : Option (List ℕ)) (form : Form) (faults moment : ℕ)
-    (asked : Option (List (Option (List ℕ)))) (principal : Principal)
-    → o ≡ record { limits = l; first = f; bytes = bytes; form = form; faults = faults; moment = moment; asked = asked }
-    → IsOpening l f → 1 ≤ l.callers → 2 ≤ l.steps → CanJoin o principal
-can_join o l f bytes form faults moment asked principal is opens places steps =
-    subst (λ (x : Opening). CanJoin x principal) (sym is)
-    (record { opens = opens; place = has_place_at l f opens places; room = has_room_at l f principal opens steps })
+pub can_join : (o begun : Opening) (principal : Principal) → o ≡ begun → IsOpening begun.limits begun.first → 1 ≤ begun.limits.callers
+    → 2 ≤ begun.limits.steps → CanJoin o principal
+can_join o begun principal is opens places steps =
+    subst (λ (x : Opening). CanJoin x principal) (sym is) (record {
+      opens = opens;
+      place = has_place_at begun.limits begun.first opens places;
+      room = has_room_at begun.limits begun.first principal opens steps;
+    })
 
 -- so memory alone is wanting where it fails
 why : (o : Opening) (log : List Entry) (principal : Principal) (fault : JoinFault) → CanJoin o principal → log ≡ []

@@ -50,10 +50,12 @@ fn finished<R: Wait, K: Keeper>(rt: &R, book: Book<K>, last: Spent, how: Served)
 {
     let Closed {
         trail,
+        recorder,
         keeper,
         services: _,
     } = book.close(rt, last);
     drop(trail);
+    drop(recorder);
     Piped { how, keeper }
 }
 

@@ -8,6 +8,7 @@ use Rattle.scm_rules.specs.Opening.{IsOpening}
 use Rattle.book_rule.specs.declared.view.Opening.{Opening}
 use Rattle.scm_book.specs.Calls.{Closes, Goes}
 use Rattle.scm_book.specs.Ghosts.{Ghosts}
+use Rattle.scm_book.proofs.Closing.{closed_whole}
 use Rattle.scm_book.specs.Passes.{Known}
 use Rattle.scm_book.specs.declared.book.Closed.{Closed}
 use Rattle.scm_server.specs.All.{EndsAll, ServedIn}
@@ -53,16 +54,21 @@ said_where tells o log a a' u u' is_short now so s = record {
 -- ## The book
 
 module _ {K : Type 0} (ghosts : Ghosts K) where
-  pub closed_so : (o : Opening) (last : Known) (c : Closed K) (how : ServeEnd) (end : BookEnd) → Closes ghosts o last c
-      → IsTold c.trail.entries c.services how end
+  -- nothing of its history was let go
+  pub closed_past : (o : Opening) (last : Known) (c : Closed K) → o.records ≡ false → Closes ghosts o last c → c.trail.past ≡ 0
+  closed_past o last c off cl = (closed_whole ghosts o last c off cl).past
+
+  pub closed_so : (o : Opening) (last : Known) (c : Closed K) (how : ServeEnd) (end : BookEnd) → o.records ≡ false
+      → Closes ghosts o last c → IsTold c.trail.entries c.services how end
       → HasClosed ghosts o last.seen how end c.keeper
-  closed_so o last c how end cl t = record {
-    history = c.trail.entries;
-    longer = cl.longer;
-    legal = cl.legal;
-    kept = record { coded = cl.coded; keeps = cl.keeps };
-    told_is = subst (λ (n : ℕ). IsTold c.trail.entries n how end) cl.services t;
-  }
+  closed_so o last c how end off cl t =
+      let whole = closed_whole ghosts o last c off cl in record {
+        history = c.trail.entries;
+        longer = whole.longer;
+        legal = whole.legal;
+        kept = record { coded = whole.coded; keeps = whole.keeps };
+        told_is = subst (λ (n : ℕ). IsTold c.trail.entries n how end) whole.services t;
+      }
 
   served_so : (tells : ℕ → Type 0) (o : Opening) (by last : Known) (moment : ℕ) (a a' u u' : Told) (how : ServeEnd) (end : BookEnd)
       (keeper : K) → IsOpening o.limits o.first

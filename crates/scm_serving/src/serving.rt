@@ -1,5 +1,5 @@
 // A book, from its opening to its close.
-ghost use Rattle.std.specs.Prelude.{◌≡◌};
+ghost use Rattle.std.specs.Prelude.{◌≡◌, false};
 ghost use Rattle.scm_core.specs.Managed.{AreSmall};
 ghost use Rattle.scm_rules.specs.Opening.{IsOpening};
 ghost use Rattle.record_journal.specs.Bearing.{Bears, stood_in};
@@ -62,7 +62,7 @@ fn book_end(alloc: Global, end: ServeEnd, history: Trail, services: u64) -> Book
     fault
 }
 
-/// Closes the book after its last pass, and sums its history up.
+/// Closes the book after its last pass, and sums its history up, of which nothing was let go.
 fn closed<R: Wait, K: Keeper, N, P>(
     rt: &R,
     alloc: Global,
@@ -70,7 +70,8 @@ fn closed<R: Wait, K: Keeper, N, P>(
     last: Spent,
     served: ServedAll<N, P>,
 ) -> BookServed<K, N, P>
-    requires { IsOf book last }
+    requires book { IsOf book last }
+    requires whole { book.opening.records ≡ false }
     ensures closes { HasClosed (ghosts_of K.held K.faults K.settled K.crashes K.are_crashes K.asked)
         book.opening last.seen served.end result.end result.keeper }
     ensures admin { result.admin ≡ served.admin }
@@ -84,9 +85,11 @@ fn closed<R: Wait, K: Keeper, N, P>(
     } = served;
     let Closed {
         trail,
+        recorder,
         keeper,
         services,
     } = book.close(rt, last);
+    drop(recorder);
     let end = book_end(alloc, end, trail, services);
     BookServed {
         end,

@@ -1,13 +1,15 @@
 use Rattle.scm_book.specs.Ghosts.{ghosts_of}
+use Rattle.scm_book.specs.Holds.{begun_with}
 use Rattle.scm_pipe.proofs.Joining.{can_join}
 use Rattle.scm_pipe.proofs.Piping.{complete_at, finds_room_at}
 use Rattle.scm_pipe.proofs.alone.serve_alone.Goals as goal
 
 pub serve_root-requires-clause-can : goal.serve_root-requires-clause-can
 serve_root-requires-clause-can g c =
-    can_join c.in-Ok-new.opened.book.opening c.args.manager.limits c.args.manager.flat (g.K.Keeper.held c.args.keeper)
-    c.args.journal.form (g.K.Keeper.faults c.args.keeper)
-    (g.K.Keeper.crashes c.args.keeper).moment (g.K.Keeper.asked c.args.keeper) c.args.principal
+    let ghosts = ghosts_of g.K.Keeper.held g.K.Keeper.faults g.K.Keeper.settled g.K.Keeper.crashes
+    g.K.Keeper.are_crashes g.K.Keeper.asked in
+    can_join c.in-Ok-new.opened.book.opening
+    (begun_with ghosts c.args.manager.limits c.args.manager.flat c.args.journal c.args.keeper) c.args.principal
     c.in-Ok-new.ensures.ok.0 c.requires.begins c.requires.place c.requires.room
 
 pub returns-in-Ok-new-clause-complete : goal.returns-in-Ok-new-clause-complete

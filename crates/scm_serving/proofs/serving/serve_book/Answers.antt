@@ -1,8 +1,12 @@
 use Rattle.std.proofs.Common.{ap, inl, ◌∙◌}
+use Rattle.book_rule.specs.declared.view.Opening.{Opening}
 use Rattle.scm_book.specs.Passes.{Known}
 use Rattle.scm_book.specs.Ghosts.{ghosts_of}
 use Rattle.scm_serving.proofs.Closing.{served_from}
 use Rattle.scm_serving.proofs.serving.serve_book.Goals as goal
+
+pub closed-requires-clause-whole : goal.closed-requires-clause-whole
+closed-requires-clause-whole g c = ap (λ (o : Opening). o.records) c.in-Ok.ensures.ok.0
 
 pub returns-in-Ok : goal.returns-in-Ok
 returns-in-Ok g c =

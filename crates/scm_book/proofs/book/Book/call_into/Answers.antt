@@ -1,5 +1,4 @@
 use Rattle.std.proofs.Common.{ap, refl, subst, sym}
-use Rattle.scm_model.specs.declared.steps.Step.{Step}
 use Rattle.scm_book.specs.Called.{LeavesWhose, refusal_of}
 use Rattle.scm_book.specs.Turns.{call_told, of_badge}
 use Rattle.scm_book.proofs.CallsMade.{call_is, into_comes, none_told, untold_into}

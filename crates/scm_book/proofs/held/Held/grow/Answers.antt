@@ -10,6 +10,6 @@ returns-clause-grows g c =
       entries = c.push.ensures.entries;
       text = c.push.ensures.text;
       first = c.push.ensures.first;
-    })
+    }) refl
     c.step_at.ensures.answer c.step_at.ensures.flat c.step_at.ensures.limits c.step_at.ensures.steps
     c.step_at.ensures.text

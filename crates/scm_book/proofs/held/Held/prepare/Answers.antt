@@ -9,5 +9,6 @@ returns-in-Ok-keep-clause-ok g c =
     g.K.Keeper.are_crashes g.K.Keeper.asked in
     prepared c.args.self.now c.reserve_for.new.self c.keep.new.self ghosts c.args.doubled.now.step c.in-Ok-keep.kept
     (sym c.room_beside.ensures ∙ c.if-not-room_beside.false) c.reserve_for.ensures.same c.in-Ok.ensures.made c.in-Ok.ensures.room
-    c.in-Ok.ensures.one c.in-Ok.ensures.text c.keep.ensures.manager c.keep.ensures.trail c.in-Ok-keep.ensures.keeps
+    c.in-Ok.ensures.one c.in-Ok.ensures.text c.keep.ensures.manager c.keep.ensures.trail c.keep.ensures.recorder
+    c.in-Ok-keep.ensures.keeps
     c.in-Ok-keep.ensures.told

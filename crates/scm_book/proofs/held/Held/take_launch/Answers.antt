@@ -17,7 +17,7 @@ returns-in-Some g c = (
         text = c.push.ensures.text;
         first = c.push.ensures.first;
       }))
-      c.push.ensures.room refl refl,
+      refl c.push.ensures.room refl refl,
   record { lies = c.in-Some.ensures.1; rest = c.in-Some.ensures.2 },
 )
 

@@ -1,7 +1,7 @@
-use Rattle.std.proofs.Common.{Err, ap, sym, subst}
+use Rattle.std.proofs.Common.{subst}
 use Rattle.scm_model.specs.declared.steps.Step.{Step}
 use Rattle.scm_book.specs.Ghosts.{ghosts_of}
-use Rattle.scm_book.specs.Joins.{DidBeside, DidStepBeside, Joins}
+use Rattle.scm_book.specs.Joins.{DidBeside, Joins}
 use Rattle.scm_book.specs.Passes.{KeepsAll, Known, Learnt}
 use Rattle.scm_book.specs.Turns.{known, of_badge}
 use Rattle.scm_book.proofs.InHandStill.{learnt_keeps}
